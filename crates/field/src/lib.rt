@@ -1,0 +1,1 @@
+// Fields of a word: definitions and laws for every offset and width together. This crate has no code.

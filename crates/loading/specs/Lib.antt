@@ -1,0 +1,5 @@
+pub mod Load
+pub mod LoadLaws
+pub mod Run
+pub mod Loading
+pub mod Contract
