@@ -1,0 +1,4 @@
+pub mod AddressLabels
+pub mod AddressLabelsLaws
+pub mod Entries
+pub mod EntriesLaws

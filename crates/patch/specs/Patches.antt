@@ -1,0 +1,97 @@
+-- One patch: its destination, its field, its range, its place (document 01, 'Label 34, region 35, entry 38'). Assumes nothing.
+use Prim.Native.Nat.{ℕ, _+_, _-_, _*_, _/_, _%_, _^_}
+use mathlib.Core.List.{List}
+use mathlib.Core.Bool.{Bool, true, false, _&&_}
+use lib.ListN.{set}
+use lib.Dec.{leb, eqb}
+use Rattle.field.specs.Field.{setField}
+use Rattle.record.specs.Bytes.{le32, part}
+use Rattle.record.specs.declared.Location.{Location}
+use Rattle.labels.specs.Labels.{resolve}
+use Rattle.labels.specs.declared.Address.{Address}
+use Rattle.labels.specs.declared.Address.the-variants.{Known, Unknown}
+use Rattle.address_label.specs.declared.AddressLabel.{AddressLabel}
+use Rattle.address_label.specs.declared.AddressLabel.the-variants.{Constant, Label}
+use Rattle.pending.specs.declared.InstructionLabelKind.{InstructionLabelKind}
+use Rattle.pending.specs.declared.InstructionLabelKind.the-variants.{Branch, Jump, Lower, Upper, Full}
+use Rattle.pending.specs.declared.Pending.{Pending}
+use Rattle.pending.specs.Pendings.{pendingAt}
+use Rattle.regions.specs.declared.Region.{Region}
+use Rattle.regions.specs.Regions.{regionPlace, regionAt}
+
+abbrev pub wrap32 : ℕ → ℕ
+wrap32 n = n % 2 ^ 32
+
+-- "label address plus offset. The sum wraps at 2^32."
+abbrev pub plusOffset : Address → ℕ → Address
+plusOffset (Known address) offset = Known (wrap32 (address + offset))
+plusOffset Unknown offset = Unknown
+
+-- "A destination is a constant's low 32 bits, or label address plus offset." The name stands in the list s.
+unfoldable pub destination : (labels s : List ℕ) → AddressLabel → Address
+unfolding resolve
+destination labels s (Constant value) = Known (wrap32 value)
+destination labels s (Label name) = plusOffset (resolve labels (part s (name .«name_at») (name .«name_len»))) (name .offset)
+
+-- where the name ends in its list
+abbrev pub nameEnd : AddressLabel → ℕ
+nameEnd (Constant value) = 0
+nameEnd (Label name) = name .«name_at» + name .«name_len»
+
+-- "So do pc, which is region address plus offset, and pc plus 4."
+abbrev pub pcOf : Region → Pending → ℕ
+pcOf region p = wrap32 (region .address + p .offset)
+
+abbrev pub after : ℕ → ℕ
+after pc = wrap32 (pc + 4)
+
+-- the bits that a patch writes, from bit 0 on
+unfoldable pub fieldWidth : InstructionLabelKind → ℕ
+fieldWidth Branch = 16
+fieldWidth Jump = 26
+fieldWidth Lower = 16
+fieldWidth Upper = 16
+fieldWidth Full = 32
+
+-- "Branch distance is destination/4 minus (pc+4)/4, both rounded down; ... its low 16 bits stored."
+abbrev pub distanceBits : ℕ → ℕ → ℕ
+distanceBits pc dest = (dest / 4 + 2 ^ 32 - after pc / 4) % 65536
+
+-- "Jump: ... 26 bits of destination/4 are stored." "Lower and Upper store a half; Full the whole."
+unfoldable pub fieldValue : InstructionLabelKind → ℕ → ℕ → ℕ
+fieldValue Branch pc dest = distanceBits pc dest
+fieldValue Jump pc dest = dest / 4 % 2 ^ 26
+fieldValue Lower pc dest = dest % 65536
+fieldValue Upper pc dest = dest / 65536
+fieldValue Full pc dest = dest
+
+-- "-0x10000 to 0xFFFF is accepted": the distance of a branch that a build takes
+unfoldable pub branchInRange : ℕ → ℕ → Bool
+branchInRange pc dest = leb (after pc / 4) (dest / 4 + 0x10000) && leb (dest / 4) (after pc / 4 + 0xFFFF)
+
+-- "Jump: top four bits of destination and pc+4 agree"
+unfoldable pub jumpInRange : ℕ → ℕ → Bool
+jumpInRange pc dest = eqb (dest / 2 ^ 28) (after pc / 2 ^ 28)
+
+unfoldable pub inRange : InstructionLabelKind → ℕ → ℕ → Bool
+unfolding branchInRange jumpInRange
+inRange Branch pc dest = branchInRange pc dest
+inRange Jump pc dest = jumpInRange pc dest
+inRange Lower pc dest = true
+inRange Upper pc dest = true
+inRange Full pc dest = true
+
+-- the word that a patch leaves: "altered only in the patched fields"
+abbrev pub patchedWord : InstructionLabelKind → ℕ → ℕ → ℕ → ℕ
+patchedWord kind pc dest word = setField word 0 (fieldWidth kind) (fieldValue kind pc dest)
+
+-- d with the word w at i, four little-endian bytes
+unfoldable pub putWord : List ℕ → ℕ → ℕ → List ℕ
+putWord d i w = set (set (set (set d i (w % 256)) (i + 1) (w / 256 % 256)) (i + 2) (w / 65536 % 256)) (i + 3) (w / 16777216 % 256)
+
+-- the region that a pending names, in the list of regions, and where its four bytes stand there
+abbrev pub regionFor : List ℕ → Pending → Region
+regionFor regions p = regionAt regions (regionPlace regions (p .region))
+
+abbrev pub slotOf : List ℕ → Pending → ℕ
+slotOf regions p = regionFor regions p .start + p .offset

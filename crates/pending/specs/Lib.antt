@@ -1,0 +1,2 @@
+pub mod Pendings
+pub mod PendingsLaws

@@ -1,0 +1,10 @@
+pub mod Reading
+pub mod Premises
+pub mod Sample
+pub mod Arithmetic
+pub mod Held
+pub mod ImageLaws
+pub mod ReadBack
+pub mod Used
+pub mod Tables
+pub mod Demand

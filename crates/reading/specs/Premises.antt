@@ -1,0 +1,62 @@
+-- What the tender asks beforehand: the premises of reading back. Assumes nothing.
+use Prim.Native.Nat.{ℕ, _+_, _-_, _*_, _/_, _%_, _≤_}
+use mathlib.Core.Path.{_≡_}
+use mathlib.Core.List.{List, List·Memᴰ}
+use mathlib.Core.Logic.{_⊎_}
+use Rattle.record.specs.Bytes.{byteAt, le64, part}
+use Rattle.record.specs.Records.{bodyLen, places}
+use Rattle.refusal.specs.declared.Verdict.the-variants.{Pass}
+use Rattle.labels.specs.declared.Address.{Address}
+use Rattle.labels.specs.declared.Address.the-variants.{Known}
+use Rattle.pending.specs.declared.InstructionLabelKind.{InstructionLabelKind}
+use Rattle.pending.specs.declared.InstructionLabelKind.the-variants.{Branch, Jump, Lower, Upper}
+use Rattle.pending.specs.declared.Pending.{Pending}
+use Rattle.pending.specs.Pendings.{pendingAt}
+use Rattle.patch.specs.Patches.{destination, after, pcOf, regionFor}
+use Rattle.patch.specs.Build.{buildVerdict, addressOr}
+
+-- the patch of the record at p
+abbrev pub In : List ℕ → ℕ → Type 0
+In pending p = List·Memᴰ p (places pending)
+
+abbrev pub pcAt : (regions pending : List ℕ) → ℕ → ℕ
+pcAt regions pending p = pcOf (regionFor regions (pendingAt pending p)) (pendingAt pending p)
+
+abbrev pub destinationAt : (labels pending : List ℕ) → ℕ → ℕ
+destinationAt labels pending p = addressOr 0 (destination labels pending (pendingAt pending p .label))
+
+-- "equal form, value and name"
+pub record SameTarget (pending : List ℕ) (p q : ℕ) : Type 0 where
+  pub form : byteAt pending (p + 19) ≡ byteAt pending (q + 19)
+  pub value : le64 pending (p + 20) ≡ le64 pending (q + 20)
+  pub name : part pending (p + 36) (bodyLen pending p - 32) ≡ part pending (q + 36) (bodyLen pending q - 32)
+
+-- "A pair is an Upper and, four bytes later in the same region, a Lower with equal form, value and name", wherever the two stand in the list
+pub record Pair (pending : List ℕ) (upper lower : ℕ) : Type 0 where
+  pub upper-in : In pending upper
+  pub lower-in : In pending lower
+  pub upper-kind : pendingAt pending upper .kind ≡ Upper
+  pub lower-kind : pendingAt pending lower .kind ≡ Lower
+  pub region : pendingAt pending lower .region ≡ pendingAt pending upper .region
+  pub later : pendingAt pending lower .offset ≡ pendingAt pending upper .offset + 4
+  pub target : SameTarget pending upper lower
+
+-- The tender's premises, for a label table, a region list, an entry record and a pending list in whatever order.
+pub record Premises (labels entry regions pending : List ℕ) : Type 0 where
+  -- "An accepted build is one to which no refusal is due"
+  pub accepted : buildVerdict labels entry regions pending ≡ Pass
+  -- "patch addresses multiples of four": "A patch's address is its pc"
+  pub aligned : (p : ℕ) → In pending p → pcAt regions pending p % 4 ≡ 0
+  -- "patches not overlapping": "two patches overlap if their four bytes in one region share any"
+  pub apart : (p q : ℕ) → In pending p → In pending q → (p ≡ q → ⊥) → pendingAt pending p .region ≡ pendingAt pending q .region
+      → (pendingAt pending p .offset + 4 ≤ pendingAt pending q .offset) ⊎ (pendingAt pending q .offset + 4 ≤ pendingAt pending p .offset)
+  -- "branch and jump destinations multiples of four"
+  pub branch-target : (p : ℕ) → In pending p → pendingAt pending p .kind ≡ Branch → destinationAt labels pending p % 4 ≡ 0
+  pub jump-target : (p : ℕ) → In pending p → pendingAt pending p .kind ≡ Jump → destinationAt labels pending p % 4 ≡ 0
+  -- "branch distances within -32,768 to 32,767 words"
+  pub near : (p : ℕ) → In pending p → pendingAt pending p .kind ≡ Branch
+      → (after (pcAt regions pending p) / 4 ≤ destinationAt labels pending p / 4 + 32768)
+      × (destinationAt labels pending p / 4 ≤ after (pcAt regions pending p) / 4 + 32767)
+  -- "every half in a pair"
+  pub upper-paired : (p : ℕ) → In pending p → pendingAt pending p .kind ≡ Upper → (q : ℕ) × Pair pending p q
+  pub lower-paired : (q : ℕ) → In pending q → pendingAt pending q .kind ≡ Lower → (p : ℕ) × Pair pending p q

@@ -1,0 +1,17 @@
+-- `with` meets its contract: a number of 32 bits is itself as a signed one of 64. Assumes nothing.
+use mathlib.Core.Path.{ap}
+use lib.IntN.{ℤ}
+use native.Mathlib.Omega.{arith}
+use borrow.Author.Needs.{needs}
+use mir.Syntax.{w64}
+use mir.Facts.{toZ-pos}
+use Rattle.refusal.specs.declared.Numbered.{Numbered}
+use Rattle.refusal.proofs.with.Statement.{statement}
+use Rattle.refusal.proofs.with.Tie as tie
+
+returns : tie.Need-returns
+returns c =
+    ap (λ (z : ℤ). record { number = c .args .number; location = c .args .location; a = z; b = c .args .b }) (toZ-pos w64 (omega arith))
+
+pub with-spec : {M : Type 1} → statement M
+with-spec = tie.close (tie.spec (λ c. search needs) returns)

@@ -1,0 +1,33 @@
+-- What each refusal returns (document 01, 'Where the work stops'). Assumes nothing.
+use Prim.Native.Nat.{ℕ}
+use lib.IntN.{ℤ, pos, negsuc}
+use Rattle.record.specs.declared.Location.{Location}
+use Rattle.refusal.specs.declared.Numbered.{Numbered}
+use Rattle.refusal.specs.declared.Refusal.{Refusal}
+use Rattle.refusal.specs.declared.Refusal.the-variants.{BadLayout, DuplicateName, UnknownInstruction, EndOfFile, ExpectedRegister, ExpectedConstant, ExpectedLabel, ExpectedRightBrace, ConstantOutOfRange, MissingRegion, OverwriteEdge, NoSpace, UnknownEntry, PatchPastEnd, UnknownLabel, JumpOutOfRange}
+
+abbrev pub zeroLocation : Location
+zeroLocation = record { source = 0; index = 0 }
+
+abbrev pub refusal : ℕ → Location → ℕ → ℕ → Numbered
+refusal number location a b = record { number = number; location = location; a = pos a; b = b }
+
+-- "A refusal returns its number, a location and numbers a and b (0 unless named). The location is zero for 1 and 2"
+abbrev pub numbered : Refusal → Numbered
+numbered (BadLayout buffer place) = refusal 1 zeroLocation buffer place
+numbered (DuplicateName buffer place) = refusal 2 zeroLocation buffer place
+numbered (UnknownInstruction l) = refusal 3 l 0 0
+numbered (EndOfFile l) = refusal 4 l 0 0
+numbered (ExpectedRegister l kind) = refusal 5 l kind 0
+numbered (ExpectedConstant l kind) = refusal 6 l kind 0
+numbered (ExpectedLabel l kind) = refusal 7 l kind 0
+numbered (ExpectedRightBrace l kind) = refusal 8 l kind 0
+-- "a: -8000, b: 32767, as the Rust has it"
+numbered (ConstantOutOfRange l) = record { number = 9; location = l; a = negsuc 7999; b = 32767 }
+numbered (MissingRegion l) = refusal 10 l 0 0
+numbered (OverwriteEdge l address length) = refusal 11 l address length
+numbered (NoSpace l short) = refusal 12 l short 0
+numbered (UnknownEntry l) = refusal 13 l 0 0
+numbered (PatchPastEnd l) = refusal 14 l 0 0
+numbered (UnknownLabel l) = refusal 15 l 0 0
+numbered (JumpOutOfRange l destination pc) = refusal 16 l destination pc

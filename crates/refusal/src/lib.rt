@@ -1,0 +1,87 @@
+// The refusals and what document 01 returns for each: a number, a location and two numbers.
+ghost use mathlib.Core.Path.{_≡_};
+ghost use lib.IntN.{ℤ, pos};
+ghost use Rattle.refusal.specs.Numbers.{numbered};
+use record::Location;
+
+// Why a call stops, in the order of the checks. The names are the Rust's where it has one.
+pub enum Refusal {
+    // a buffer, by its argument's number, and the place in it
+    BadLayout(u32, u32),
+    DuplicateName(u32, u32),
+    UnknownInstruction(Location),
+    EndOfFile(Location),
+    // the met token's kind
+    ExpectedRegister(Location, u8),
+    ExpectedConstant(Location, u8),
+    ExpectedLabel(Location, u8),
+    ExpectedRightBrace(Location, u8),
+    ConstantOutOfRange(Location),
+    MissingRegion(Location),
+    // the region's address and the data's length
+    OverwriteEdge(Location, u32, u32),
+    // 0 words, 1 pending records, 2 breakpoint records
+    NoSpace(Location, u8),
+    UnknownEntry(Location),
+    PatchPastEnd(Location),
+    UnknownLabel(Location),
+    // the destination and the patch's pc
+    JumpOutOfRange(Location, u32, u32),
+}
+
+// Whether a check is passed.
+pub enum Verdict {
+    Pass,
+    Stop(Refusal),
+}
+
+// A refusal as it is returned.
+pub struct Numbered {
+    pub number: u32,
+    pub location: Location,
+    pub a: i64,
+    pub b: u32,
+}
+
+pub fn numbers(refusal: Refusal) -> Numbered
+    ensures { λ r. ⌜ r ≡ numbered refusal ⌝ }
+{
+    let zero = Location {
+        source: 0,
+        index: 0,
+    };
+    match refusal {
+        Refusal::BadLayout(a, b) => with(1, zero, a, b),
+        Refusal::DuplicateName(a, b) => with(2, zero, a, b),
+        Refusal::UnknownInstruction(l) => with(3, l, 0, 0),
+        Refusal::EndOfFile(l) => with(4, l, 0, 0),
+        Refusal::ExpectedRegister(l, a) => with(5, l, a as u32, 0),
+        Refusal::ExpectedConstant(l, a) => with(6, l, a as u32, 0),
+        Refusal::ExpectedLabel(l, a) => with(7, l, a as u32, 0),
+        Refusal::ExpectedRightBrace(l, a) => with(8, l, a as u32, 0),
+        Refusal::ConstantOutOfRange(l) => Numbered {
+            number: 9,
+            location: l,
+            a: -8000,
+            b: 32767,
+        },
+        Refusal::MissingRegion(l) => with(10, l, 0, 0),
+        Refusal::OverwriteEdge(l, a, b) => with(11, l, a, b),
+        Refusal::NoSpace(l, a) => with(12, l, a as u32, 0),
+        Refusal::UnknownEntry(l) => with(13, l, 0, 0),
+        Refusal::PatchPastEnd(l) => with(14, l, 0, 0),
+        Refusal::UnknownLabel(l) => with(15, l, 0, 0),
+        Refusal::JumpOutOfRange(l, a, b) => with(16, l, a, b),
+    }
+}
+
+fn with(number: u32, location: Location, a: u32, b: u32) -> Numbered
+    ensures { λ r. ⌜ r ≡ (record { number = number; location = location; a = pos a; b = b }) ⌝ }
+{
+    Numbered {
+        number,
+        location,
+        a: a as i64,
+        b,
+    }
+}
