@@ -1,11 +1,10 @@
--- Laws of one patch: its field fits, and it reads back by its kind. Assumes nothing.
-use Prim.Native.Nat.{ℕ, _+_, _-_, _*_, _/_, _%_, _^_, _<_, _≤_}
+-- Laws of one patch: its field fits and reads back by its kind, its destination by its label, and its word by its kind. Assumes nothing.
+use Prim.Native.Nat.{ℕ, _+_, _-_, _*_, _/_, _%_, _^_, _<_}
 use native.Mathlib.Omega.{arith}
 use mathlib.Core.List.{List}
-use mathlib.Core.Bool.{Bool, true, false, _&&_, and-eq-true-iff}
+use mathlib.Core.Bool.{true}
 use mathlib.Core.Path.{_≡_, refl, sym, ap, _∙_}
-use lib.Dec.{leb, eqb}
-use borrow.Author.Tests.{leb-true, eqb-true}
+use borrow.Author.Tests.{eqb-true}
 use Rattle.field.specs.Field.{getField, setField}
 use Rattle.field.specs.FieldLaws.{get-set-same}
 use Rattle.record.specs.Bytes.{part}
@@ -14,9 +13,10 @@ use Rattle.labels.specs.declared.Address.{Address}
 use Rattle.labels.specs.declared.Address.the-variants.{Known, Unknown}
 use Rattle.address_label.specs.declared.AddressLabel.{AddressLabel}
 use Rattle.address_label.specs.declared.AddressLabel.the-variants.{Constant, Label}
+use Rattle.address_label.specs.declared.NamedLabel.{NamedLabel}
 use Rattle.pending.specs.declared.InstructionLabelKind.{InstructionLabelKind}
 use Rattle.pending.specs.declared.InstructionLabelKind.the-variants.{Branch, Jump, Lower, Upper, Full}
-use Rattle.patch.specs.Patches.{after, distanceBits, fieldWidth, fieldValue, branchInRange, jumpInRange, inRange, patchedWord, plusOffset, destination}
+use Rattle.patch.specs.Patches.{wrap32, after, fieldWidth, fieldValue, jumpInRange, inRange, patchedWord, plusOffset, destination}
 
 -- a destination of 32 bits has a field of the kind's width
 pub value-fits : (kind : InstructionLabelKind) (pc dest : ℕ) → dest < 2 ^ 32 → fieldValue kind pc dest < 2 ^ fieldWidth kind
@@ -59,3 +59,42 @@ destination-lt labels s (Label n) d e = go (resolve labels (part s (n .«name_at
 pub jump-page : (pc dest : ℕ) → inRange Jump pc dest ≡ true → dest / 2 ^ 28 ≡ after pc / 2 ^ 28
 unfolding inRange jumpInRange
 jump-page pc dest e = eqb-true (dest / 2 ^ 28) (after pc / 2 ^ 28) e
+
+-- ---- a destination, by its label
+
+pub destination-constant : (labels s : List ℕ) (value : ℕ) → destination labels s (Constant value) ≡ Known (wrap32 value)
+unfolding destination
+destination-constant labels s value = refl
+
+-- an offset's low 32 bits are enough
+wrapped-offset : (a : Address) (offset : ℕ) → plusOffset a (wrap32 offset) ≡ plusOffset a offset
+wrapped-offset (Known a) offset = ap Known (omega arith)
+wrapped-offset Unknown offset = refl
+
+pub destination-label : (labels s : List ℕ) (name : NamedLabel)
+    → destination labels s (Label name) ≡ plusOffset (resolve labels (part s (name .«name_at») (name .«name_len»))) (wrap32 (name .offset))
+unfolding destination
+destination-label labels s name = sym (wrapped-offset (resolve labels (part s (name .«name_at») (name .«name_len»))) (name .offset))
+
+-- ---- the patched word, by the kind
+
+module _ (pc dest word : ℕ) where
+  pub patched-branch : patchedWord Branch pc dest word ≡ word / 65536 * 65536 + (dest / 4 + 2 ^ 31 - after pc / 4) % 65536
+  unfolding fieldWidth fieldValue setField
+  patched-branch = omega arith
+
+  pub patched-jump : patchedWord Jump pc dest word ≡ word / 2 ^ 26 * 2 ^ 26 + dest / 4 % 2 ^ 26
+  unfolding fieldWidth fieldValue setField
+  patched-jump = omega arith
+
+  pub patched-lower : patchedWord Lower pc dest word ≡ word / 65536 * 65536 + dest % 65536
+  unfolding fieldWidth fieldValue setField
+  patched-lower = omega arith
+
+  pub patched-upper : patchedWord Upper pc dest word ≡ word / 65536 * 65536 + dest / 65536
+  unfolding fieldWidth fieldValue setField
+  patched-upper = omega arith
+
+  pub patched-full : word < 2 ^ 32 → patchedWord Full pc dest word ≡ dest
+  unfolding fieldWidth fieldValue setField
+  patched-full h = omega arith

@@ -49,7 +49,7 @@ byte-in d i w h =
       b₀ = simp (getD-set-other, getD-set-same);
       b₁ = simp (getD-set-other, getD-set-same);
       b₂ = simp (getD-set-other, getD-set-same);
-      b₃ = simp (getD-set-other, getD-set-same);
+      b₃ = simp getD-set-same;
     }
 
 -- the low 32 bits, byte by byte

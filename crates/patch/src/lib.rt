@@ -1,9 +1,169 @@
-// What a build does with its patches.
+// One patch of a build: its destination, its range, and the word it leaves (get_address and add_label of binary_builder.rs).
 ghost use mathlib.Core.Path.{_≡_};
+ghost use Prim.Native.Nat.{_+_, _≤_, _<_, _^_};
+ghost use lib.ListN.{length};
+ghost use Rattle.labels.specs.Labels.{labelLayout};
+ghost use mathlib.Core.Bool.{_&&_};
+ghost use lib.Dec.{leb};
+ghost use Rattle.patch.specs.Patches.{destination, plusOffset, nameEnd, inRange, patchedWord, putWord};
+ghost use Rattle.patch.specs.Build.{nameLocation, addressOr, pendingVerdict, writePending};
+use address_label::AddressLabel;
+use labels::Address;
+use pending::InstructionLabelKind;
+use pending::Pending;
+use record::Layout;
+use record::Location;
 use refusal::Refusal;
+use refusal::Verdict;
+use regions::Region;
 
 // A build's answer: the entry address, or why it stops.
 pub enum Built {
     Entry(u32),
     Refused(Refusal),
+}
+
+// The destination of a constant, or of a name that stands in the list `s`.
+pub fn get_address(label: AddressLabel, s: &[u8], labels: &[u8]) -> Address
+    requires { ⌜ labelLayout (now labels) ≡ Layout.Good ⌝ }
+    requires { ⌜ nameEnd label ≤ length (now s) ⌝ }
+    ensures { λ r. ⌜ r ≡ destination (now (labels .entry)) (now (s .entry)) label ⌝ }
+{
+    match label {
+        AddressLabel::Constant(value) => Address::Known((value % 0x1_0000_0000) as u32),
+        AddressLabel::Label(name) => {
+            let at = name.name_at;
+            let end = at + name.name_len;
+            let offset = (name.offset % 0x1_0000_0000) as u32;
+            plus_offset(labels::get(labels, &s[at..end]), offset)
+        }
+    }
+}
+
+// "The sum wraps at 2^32."
+fn plus_offset(address: Address, offset: u32) -> Address
+    ensures { λ r. ⌜ r ≡ plusOffset address offset ⌝ }
+{
+    match address {
+        Address::Known(value) => Address::Known(std::num::wrapping_add_u32(value, offset)),
+        Address::Unknown => Address::Unknown,
+    }
+}
+
+pub fn name_location(label: AddressLabel) -> Location
+    ensures { λ r. ⌜ r ≡ nameLocation label ⌝ }
+{
+    match label {
+        AddressLabel::Constant(_) => Location {
+            source: 0,
+            index: 0,
+        },
+        AddressLabel::Label(name) => name.location,
+    }
+}
+
+// Whether a branch or a jump at pc reaches the destination.
+pub fn in_range(kind: InstructionLabelKind, pc: u32, destination: u32) -> bool
+    ensures { λ r. ⌜ r ≡ inRange kind pc destination ⌝ }
+{
+    let after = std::num::wrapping_add_u32(pc, 4);
+    match kind {
+        InstructionLabelKind::Branch => branch_in_range(after / 4, destination / 4),
+        InstructionLabelKind::Jump => destination / 0x1000_0000 == after / 0x1000_0000,
+        InstructionLabelKind::Lower => true,
+        InstructionLabelKind::Upper => true,
+        InstructionLabelKind::Full => true,
+    }
+}
+
+// A distance of -0x10000 to 0xFFFF words.
+fn branch_in_range(from: u32, to: u32) -> bool
+    requires { ⌜ (from < 2 ^ 30) × (to < 2 ^ 30) ⌝ }
+    ensures { λ r. ⌜ r ≡ (leb from (to + 0x10000) && leb to (from + 0xFFFF)) ⌝ }
+{
+    if from <= to + 0x10000 {
+        to <= from + 0xFFFF
+    } else {
+        false
+    }
+}
+
+// The word with the patch's field written.
+pub fn add_label(instruction: u32, pc: u32, kind: InstructionLabelKind, destination: u32) -> u32
+    ensures { λ r. ⌜ r ≡ patchedWord kind pc destination instruction ⌝ }
+{
+    let after = std::num::wrapping_add_u32(pc, 4);
+    match kind {
+        InstructionLabelKind::Branch => {
+            instruction / 0x1_0000 * 0x1_0000
+                + (destination / 4 + 0x8000_0000 - after / 4) % 0x1_0000
+        }
+        InstructionLabelKind::Jump => instruction / 0x400_0000 * 0x400_0000
+            + destination / 4 % 0x400_0000,
+        InstructionLabelKind::Lower => instruction / 0x1_0000 * 0x1_0000 + destination % 0x1_0000,
+        InstructionLabelKind::Upper => instruction / 0x1_0000 * 0x1_0000 + destination / 0x1_0000,
+        InstructionLabelKind::Full => destination,
+    }
+}
+
+// The four bytes of a word from `i` on, the lowest first.
+fn put_word(d: &mut [u8], i: usize, w: u32)
+    requires { ⌜ i + 4 ≤ length (now d) ⌝ }
+    ensures { λ _. ⌜ now (d .exit) ≡ putWord (now (d .entry)) i w ⌝ }
+{
+    d[i] = (w % 256) as u8;
+    d[i + 1] = (w / 256 % 256) as u8;
+    d[i + 2] = (w / 65536 % 256) as u8;
+    d[i + 3] = (w / 16777216 % 256) as u8;
+}
+
+// The checks of one patch: 14, 15, 16.
+pub fn check_pending(labels: &[u8], pending: &[u8], region: Region, p: Pending) -> Verdict
+    requires { ⌜ labelLayout (now labels) ≡ Layout.Good ⌝ }
+    requires { ⌜ nameEnd (p .label) ≤ length (now pending) ⌝ }
+    ensures { λ r. ⌜ r ≡ pendingVerdict (now (labels .entry)) (now (pending .entry)) region p ⌝ }
+{
+    let location = p.location;
+    let label = p.label;
+    let kind = p.kind;
+    let end = p.offset as usize + 4;
+    if end > region.size {
+        return Verdict::Stop(Refusal::PatchPastEnd(location));
+    }
+    let pc = std::num::wrapping_add_u32(region.address, p.offset);
+    match get_address(label, pending, labels) {
+        Address::Unknown => Verdict::Stop(Refusal::UnknownLabel(name_location(label))),
+        Address::Known(destination) => {
+            if in_range(kind, pc, destination) {
+                Verdict::Pass
+            } else {
+                Verdict::Stop(Refusal::JumpOutOfRange(location, destination, pc))
+            }
+        }
+    }
+}
+
+fn address_or_zero(address: Address) -> u32
+    ensures { λ r. ⌜ r ≡ addressOr 0 address ⌝ }
+{
+    match address {
+        Address::Known(value) => value,
+        Address::Unknown => 0,
+    }
+}
+
+// Writes one patch into the region list.
+pub fn write_pending(labels: &[u8], regions: &mut [u8], pending: &[u8], region: Region, p: Pending)
+    requires { ⌜ labelLayout (now labels) ≡ Layout.Good ⌝ }
+    requires { ⌜ nameEnd (p .label) ≤ length (now pending) ⌝ }
+    requires { ⌜ region .start + p .offset + 4 ≤ length (now regions) ⌝ }
+    ensures { λ _. ⌜ now (regions .exit) ≡ writePending (now (labels .entry)) (now (pending .entry)) region p (now (regions .entry)) ⌝ }
+{
+    let label = p.label;
+    let kind = p.kind;
+    let slot = region.start + p.offset as usize;
+    let pc = std::num::wrapping_add_u32(region.address, p.offset);
+    let destination = address_or_zero(get_address(label, pending, labels));
+    let word = add_label(record::word_at(regions, slot), pc, kind, destination);
+    put_word(regions, slot, word);
 }

@@ -1,6 +1,5 @@
 pub mod Reading
 pub mod Premises
-pub mod Sample
 pub mod Arithmetic
 pub mod Held
 pub mod ImageLaws
@@ -8,3 +7,6 @@ pub mod ReadBack
 pub mod Used
 pub mod Tables
 pub mod Demand
+pub mod InstanceTables
+pub mod InstanceValues
+pub mod Instance

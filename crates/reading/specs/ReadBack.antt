@@ -92,8 +92,8 @@ module _ (labels entry regions pending : List ℕ) (premises : Premises labels e
       let f : wordIn (imageOf (patchedRegions labels regions pending)) (pendingAt pending p .region) (pendingAt pending p .offset) % 2 ^ fieldWidth Branch
       ≡ fieldValue Branch (pcAt regions pending p) (destinationAt labels pending p) = rw e at (field-at p m) in
       ap₂ (λ (pc n : ℕ). wrap32 (after pc + signedBytes n)) (pc-at p m) f
-      ∙ branch-reads (pcAt regions pending p) (destinationAt labels pending p) (premises .aligned p m) (premises .branch-target p m e)
-      (dest-lt labels entry regions pending premises p m) (premises .near p m e .0) (premises .near p m e .1)
+      ∙ branch-reads (pcAt regions pending p) (destinationAt labels pending p) (omega (arith, premises .aligned p m)) (omega (arith, premises .branch-target p m e))
+      (dest-lt labels entry regions pending premises p m) (omega (arith, premises .near p m e .0)) (omega (arith, premises .near p m e .1))
 
   jump-back : (p : ℕ) → In pending p → pendingAt pending p .kind ≡ Jump
       → readBy Jump (imageOf (patchedRegions labels regions pending)) (pendingAt pending p) ≡ destinationAt labels pending p
@@ -103,7 +103,7 @@ module _ (labels entry regions pending : List ℕ) (premises : Premises labels e
       ≡ fieldValue Jump (pcAt regions pending p) (destinationAt labels pending p) = rw e at (field-at p m) in
       let r : inRange Jump (pcAt regions pending p) (destinationAt labels pending p) ≡ true = rw e at (in-range labels entry regions pending premises p m) in
       ap₂ (λ (pc n : ℕ). after pc / 2 ^ 28 * 2 ^ 28 + n * 4) (pc-at p m) f
-      ∙ jump-reads (pcAt regions pending p) (destinationAt labels pending p) (premises .jump-target p m e) (jump-page (pcAt regions pending p) (destinationAt labels pending p) r)
+      ∙ jump-reads (pcAt regions pending p) (destinationAt labels pending p) (omega (arith, premises .jump-target p m e)) (jump-page (pcAt regions pending p) (destinationAt labels pending p) r)
 
   full-back : (p : ℕ) → In pending p → pendingAt pending p .kind ≡ Full
       → readBy Full (imageOf (patchedRegions labels regions pending)) (pendingAt pending p) ≡ destinationAt labels pending p

@@ -1,2 +1,5 @@
 pub mod Numbers
 pub mod NumberLaws
+pub mod Slots
+pub mod Past
+pub mod SlotsLaws

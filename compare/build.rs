@@ -1,0 +1,26 @@
+//! Links the archive of the Rattle library, where ./run names one, and tells the sources which
+//! of the two entries it has. Without one only the --self modes are there.
+
+use std::env;
+
+fn main() {
+    println!("cargo:rustc-check-cfg=cfg(library_build, library_line)");
+    for name in ["NAZGWERN_FOLDER", "NAZGWERN_BUILD", "NAZGWERN_LINE"] {
+        println!("cargo:rerun-if-env-changed={name}");
+    }
+
+    let Ok(folder) = env::var("NAZGWERN_FOLDER") else {
+        return;
+    };
+
+    println!("cargo:rerun-if-changed={folder}/libnazgwern.a");
+    println!("cargo:rustc-link-search=native={folder}");
+    println!("cargo:rustc-link-lib=static=nazgwern");
+
+    if env::var("NAZGWERN_BUILD").is_ok() {
+        println!("cargo:rustc-cfg=library_build");
+    }
+    if env::var("NAZGWERN_LINE").is_ok() {
+        println!("cargo:rustc-cfg=library_line");
+    }
+}

@@ -1,0 +1,83 @@
+//! Compares the Rattle port with the Rust that it ports, on generated inputs.
+
+// The Rust's own files, copied here by ./run and otherwise unchanged.
+#[allow(warnings)]
+mod assembler {
+    pub mod assembler_util;
+    pub mod binary;
+    pub mod binary_builder;
+    pub mod cursor;
+    pub mod emit;
+    pub mod instructions;
+    pub mod lexer;
+    pub mod registers;
+}
+
+mod answer;
+mod bench;
+mod build_input;
+mod damage;
+mod damage_build;
+mod damage_line;
+mod descriptors;
+mod generate_build;
+mod generate_full_build;
+mod generate_full_line;
+mod generate_line;
+mod judge_build;
+mod judge_line;
+mod line_input;
+mod model;
+mod model_line;
+mod model_list;
+mod names;
+mod operands;
+mod options;
+mod other;
+mod random;
+mod records;
+mod run_build;
+mod run_line;
+mod second_build;
+mod second_described;
+mod second_line;
+mod second_list;
+mod second_pseudo;
+mod second_reader;
+mod second_words;
+mod tokens;
+
+use std::process::ExitCode;
+
+fn main() -> ExitCode {
+    let options = match options::read() {
+        Ok(options) => options,
+        Err(fault) => {
+            eprintln!("{fault}");
+            return ExitCode::from(2);
+        }
+    };
+
+    let (has_build, has_line) = options.other.has();
+
+    judge_build::keep_its_panics_quiet();
+
+    let agreed = match options.mode.as_str() {
+        "bench" if has_build => bench::run(&options),
+        "build" if has_build => run_build::run(&options),
+        "line" if has_line => run_line::run(&options),
+        "bench" | "build" | "line" => {
+            eprintln!("the library has no entry for {}", options.mode);
+            return ExitCode::from(2);
+        }
+        mode => {
+            eprintln!("unknown mode {mode}");
+            return ExitCode::from(2);
+        }
+    };
+
+    match agreed {
+        true => ExitCode::SUCCESS,
+        false => ExitCode::from(1),
+    }
+}

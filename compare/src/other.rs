@@ -1,0 +1,197 @@
+//! The side that is compared with the judge: the Rattle library, or the second implementation.
+
+use crate::answer::Answer;
+use crate::build_input::{BuildInput, BuildOutcome};
+use crate::line_input::{LineInput, LineOutcome};
+use crate::records::u32_at;
+use crate::second_build;
+use crate::second_line;
+
+#[derive(Clone, Copy, PartialEq)]
+pub enum Other {
+    Second,
+    Library,
+}
+
+impl Other {
+    pub fn name(self) -> &'static str {
+        match self {
+            Other::Second => "second implementation",
+            Other::Library => "nazgwern",
+        }
+    }
+
+    /// Whether this side can be asked for a build and for a line.
+    pub fn has(self) -> (bool, bool) {
+        match self {
+            Other::Second => (true, true),
+            Other::Library => (cfg!(library_build), cfg!(library_line)),
+        }
+    }
+
+    /// The outcome of a build call, or what the call did that no build call may do.
+    pub fn build(self, input: &BuildInput) -> Result<BuildOutcome, String> {
+        match self {
+            Other::Second => Ok(second_build::build(input)),
+            Other::Library => library_build(input),
+        }
+    }
+
+    /// The outcome of an emit call, or what the call did that no emit call may do.
+    pub fn line(self, input: &LineInput) -> Result<LineOutcome, String> {
+        match self {
+            Other::Second => Ok(second_line::do_instruction(input)),
+            Other::Library => library_line(input),
+        }
+    }
+}
+
+fn library_build(input: &BuildInput) -> Result<BuildOutcome, String> {
+    let mut lent = input.clone();
+    let mut answer = [0xa5; Answer::SIZE];
+    let returned = library::build(&mut lent, &mut answer);
+    let answer = Answer::from_bytes(&answer);
+
+    if returned != answer.number {
+        return Err(format!("returned {returned}, answered {answer:?}"));
+    }
+    if (&lent.labels, &lent.entry, &lent.pending) != (&input.labels, &input.entry, &input.pending) {
+        return Err("a list that is only read was changed".to_string());
+    }
+
+    Ok(BuildOutcome {
+        answer,
+        regions: lent.regions,
+    })
+}
+
+fn library_line(input: &LineInput) -> Result<LineOutcome, String> {
+    let mut lent = input.clone();
+    let mut counts = input.counts.map(u32::to_le_bytes).concat();
+    let mut answer = [0xa5; Answer::SIZE];
+    let returned = library::line(&mut lent, &mut counts, &mut answer);
+    let answer = Answer::from_bytes(&answer);
+
+    if returned != answer.number {
+        return Err(format!("returned {returned}, answered {answer:?}"));
+    }
+    if (&lent.tokens, &lent.mnemonic, &lent.descriptors)
+        != (&input.tokens, &input.mnemonic, &input.descriptors)
+    {
+        return Err("a list that is only read was changed".to_string());
+    }
+
+    Ok(LineOutcome {
+        answer,
+        counts: [0, 4, 8].map(|place| u32_at(&counts, place)),
+        data: lent.data,
+        pending: lent.pending,
+        breakpoints: lent.breakpoints,
+    })
+}
+
+/// The entries of libnazgwern.a by the C calling convention. Nothing checks these declarations
+/// against the Rattle source: a slice goes as a pointer and a length.
+pub mod library {
+    use super::*;
+
+    #[cfg(library_build)]
+    mod declared_build {
+        extern "C" {
+            pub fn nazgwern_build(
+                labels: *const u8,
+                labels_length: usize,
+                entry: *const u8,
+                entry_length: usize,
+                regions: *mut u8,
+                regions_length: usize,
+                pending: *const u8,
+                pending_length: usize,
+                answer: *mut u8,
+                answer_length: usize,
+            ) -> u32;
+        }
+    }
+
+    #[cfg(library_build)]
+    pub fn build(lent: &mut BuildInput, answer: &mut [u8; Answer::SIZE]) -> u32 {
+        unsafe {
+            declared_build::nazgwern_build(
+                lent.labels.as_ptr(),
+                lent.labels.len(),
+                lent.entry.as_ptr(),
+                lent.entry.len(),
+                lent.regions.as_mut_ptr(),
+                lent.regions.len(),
+                lent.pending.as_ptr(),
+                lent.pending.len(),
+                answer.as_mut_ptr(),
+                answer.len(),
+            )
+        }
+    }
+
+    #[cfg(not(library_build))]
+    pub fn build(_: &mut BuildInput, _: &mut [u8; Answer::SIZE]) -> u32 {
+        panic!("linked without nazgwern_build")
+    }
+
+    #[cfg(library_line)]
+    mod declared_line {
+        extern "C" {
+            pub fn nazgwern_do_instruction(
+                tokens: *const u8,
+                tokens_length: usize,
+                mnemonic: *const u8,
+                mnemonic_length: usize,
+                descriptors: *const u8,
+                descriptors_length: usize,
+                data: *mut u8,
+                data_length: usize,
+                pending: *mut u8,
+                pending_length: usize,
+                breakpoints: *mut u8,
+                breakpoints_length: usize,
+                counts: *mut u8,
+                counts_length: usize,
+                position: u32,
+                region: u16,
+                address: u32,
+                answer: *mut u8,
+                answer_length: usize,
+            ) -> u32;
+        }
+    }
+
+    #[cfg(library_line)]
+    pub fn line(lent: &mut LineInput, counts: &mut [u8], answer: &mut [u8; Answer::SIZE]) -> u32 {
+        unsafe {
+            declared_line::nazgwern_do_instruction(
+                lent.tokens.as_ptr(),
+                lent.tokens.len(),
+                lent.mnemonic.as_ptr(),
+                lent.mnemonic.len(),
+                lent.descriptors.as_ptr(),
+                lent.descriptors.len(),
+                lent.data.as_mut_ptr(),
+                lent.data.len(),
+                lent.pending.as_mut_ptr(),
+                lent.pending.len(),
+                lent.breakpoints.as_mut_ptr(),
+                lent.breakpoints.len(),
+                counts.as_mut_ptr(),
+                counts.len(),
+                lent.position,
+                lent.region,
+                lent.address,
+                answer.as_mut_ptr(),
+                answer.len(),
+            )
+        }
+    }
+
+    #[cfg(not(library_line))]
+    pub fn line(_: &mut LineInput, _: &mut [u8], _: &mut [u8; Answer::SIZE]) -> u32 {
+        panic!("linked without nazgwern_do_instruction")
+    }
+}

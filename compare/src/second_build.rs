@@ -1,0 +1,240 @@
+//! A second build, whole, written from document 01 and apart from the model and the Rust: the
+//! other side of a --self run. It walks the lists in order and stops at the first fault.
+
+use crate::answer::{Answer, NO_ENTRY};
+use crate::build_input::{BuildInput, BuildOutcome};
+use crate::second_list::{reference_size_ok, text_ok, walk, Bytes, Walk};
+
+struct Refused {
+    number: u32,
+    source: u32,
+    index: u32,
+    a: u32,
+    b: u32,
+}
+
+fn layout(buffer: u32, place: usize) -> Refused {
+    Refused {
+        number: 1,
+        source: 0,
+        index: 0,
+        a: buffer,
+        b: place as u32,
+    }
+}
+
+struct Region {
+    address: u32,
+    /// Where the data begin in the region list, and how many bytes they are.
+    begin: usize,
+    length: usize,
+}
+
+struct Lists {
+    labels: Vec<usize>,
+    entry: Option<usize>,
+    regions: Vec<Region>,
+    /// Places of the pending records in patch order.
+    patches: Vec<usize>,
+}
+
+pub fn build(input: &BuildInput) -> BuildOutcome {
+    match check_and_patch(input) {
+        Ok(outcome) => outcome,
+        Err(refused) => BuildOutcome {
+            answer: Answer {
+                number: refused.number,
+                source: refused.source,
+                index: refused.index,
+                a: refused.a,
+                b: refused.b,
+                last: NO_ENTRY,
+            },
+            regions: input.regions.to_vec(),
+        },
+    }
+}
+
+fn check_and_patch(input: &BuildInput) -> Result<BuildOutcome, Refused> {
+    let lists = read(input)?;
+
+    // Refusal 2.
+    for (count, later) in lists.labels.iter().enumerate() {
+        for earlier in &lists.labels[..count] {
+            if name_of(&input.labels, *earlier, 8) == name_of(&input.labels, *later, 8) {
+                return Err(Refused {
+                    number: 2,
+                    source: 0,
+                    index: 0,
+                    a: 0,
+                    b: *later as u32,
+                });
+            }
+        }
+    }
+
+    let entry = match lists.entry {
+        None => 0x0040_0000,
+        Some(place) => destination(input, &lists, &input.entry, place + 4, 13)?,
+    };
+
+    let mut regions = input.regions.to_vec();
+
+    for place in &lists.patches {
+        patch(input, &lists, *place, &mut regions)?;
+    }
+
+    Ok(BuildOutcome {
+        answer: Answer::accepted(entry),
+        regions,
+    })
+}
+
+/// Refusal 1 over the four lists in argument order.
+fn read(input: &BuildInput) -> Result<Lists, Refused> {
+    let labels = walk(&input.labels, |place, length, kind| {
+        kind == 34 && length > 4 && length <= 68 && text_ok(&input.labels, place + 8, length - 4)
+    });
+    let labels = stop(0, labels)?;
+
+    let entry = walk(&input.entry, |place, length, kind| {
+        place == 0 && kind == 38 && reference_size_ok(&input.entry, place + 4, length)
+    });
+    let entry = stop(1, entry)?.first().copied();
+
+    let mut seen = 0;
+    let regions = walk(&input.regions, |_, length, kind| {
+        seen += 1;
+        kind == 35 && length >= 4 && seen <= 16
+    });
+    let places = stop(2, regions)?;
+    if places.is_empty() {
+        return Err(layout(2, 0));
+    }
+    let regions: Vec<Region> = places
+        .iter()
+        .map(|place| Region {
+            address: input.regions.number32(place + 4),
+            begin: place + 8,
+            length: input.regions.number16(*place) as usize - 4,
+        })
+        .collect();
+
+    let pending = walk(&input.pending, |place, length, kind| {
+        kind == 36
+            && length >= 32
+            && (input.pending.number16(place + 4) as usize) < regions.len()
+            && input.pending[place + 18] < 5
+            && reference_size_ok(&input.pending, place + 19, length - 15)
+    });
+    let mut patches = stop(3, pending)?;
+    // A stable sort: list order stays inside a region.
+    patches.sort_by_key(|place| input.pending.number16(place + 4));
+
+    Ok(Lists {
+        labels,
+        entry,
+        regions,
+        patches,
+    })
+}
+
+fn stop(buffer: u32, walk: Walk) -> Result<Vec<usize>, Refused> {
+    match walk {
+        Walk::Whole(places) => Ok(places),
+        Walk::Fault(place) => Err(layout(buffer, place)),
+    }
+}
+
+fn name_of(list: &[u8], place: usize, skipped: usize) -> &[u8] {
+    &list[place + skipped..place + 4 + list.number16(place) as usize]
+}
+
+/// "A destination is a constant's low 32 bits, or label address plus offset. The sum wraps at
+/// 2^32." `form` is the place of the form byte; an unknown name gets refusal `unknown`.
+fn destination(
+    input: &BuildInput,
+    lists: &Lists,
+    list: &[u8],
+    form: usize,
+    unknown: u32,
+) -> Result<u32, Refused> {
+    let low = list.number32(form + 1);
+
+    if list[form] == 0 {
+        return Ok(low);
+    }
+
+    // The record's end: an entry's form comes first in its body, a pending's behind 15 bytes.
+    let start = if unknown == 13 { form - 4 } else { form - 19 };
+    let name = name_of(list, start, form + 17 - start);
+
+    for label in &lists.labels {
+        if name_of(&input.labels, *label, 8) == name {
+            let address = input.labels.number32(label + 4);
+            return Ok(((address as u64 + low as u64) % (1 << 32)) as u32);
+        }
+    }
+
+    Err(Refused {
+        number: unknown,
+        source: list.number32(form + 9),
+        index: list.number32(form + 13),
+        a: 0,
+        b: 0,
+    })
+}
+
+fn patch(
+    input: &BuildInput,
+    lists: &Lists,
+    place: usize,
+    regions: &mut [u8],
+) -> Result<(), Refused> {
+    let list = &input.pending;
+    let region = &lists.regions[list.number16(place + 4) as usize];
+    let offset = list.number32(place + 6) as usize;
+    let refused = |number, a, b| Refused {
+        number,
+        source: list.number32(place + 10),
+        index: list.number32(place + 14),
+        a,
+        b,
+    };
+
+    if region.length < 4 || offset > region.length - 4 {
+        return Err(refused(14, 0, 0));
+    }
+
+    let target = destination(input, lists, list, place + 19, 15)?;
+    let pc = (region.address as u64 + offset as u64) % (1 << 32);
+    let next = (pc + 4) % (1 << 32);
+    let out = || refused(16, target, pc as u32);
+
+    // The field's value and the number of its bits, from bit 0.
+    let (value, bits) = match list[place + 18] {
+        0 => {
+            let distance = (target / 4) as i64 - (next / 4) as i64;
+            if distance < -0x10000 || distance > 0xffff {
+                return Err(out());
+            }
+            (distance.rem_euclid(0x10000) as u64, 16)
+        }
+        1 => {
+            if (target >> 28) as u64 != next >> 28 {
+                return Err(out());
+            }
+            ((target / 4) as u64 % (1 << 26), 26)
+        }
+        2 => (target as u64 % 0x10000, 16),
+        3 => (target as u64 / 0x10000, 16),
+        _ => (target as u64, 32),
+    };
+
+    let at = region.begin + offset;
+    let word = regions.number32(at) as u64;
+    let kept = (word >> bits) << bits;
+    regions[at..at + 4].copy_from_slice(&((kept + value) as u32).to_le_bytes());
+
+    Ok(())
+}

@@ -1,0 +1,5 @@
+pub mod Contract
+pub mod PlacesLaws
+pub mod OrderLaws
+pub mod WritesLaws
+pub mod ContractLaws

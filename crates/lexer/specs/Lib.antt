@@ -1,0 +1,3 @@
+pub mod Tokens
+pub mod TokensLaws
+pub mod Views
