@@ -4,13 +4,13 @@
 ghost use mathlib.Core.Path.{_≡_};
 ghost use Prim.Native.Nat.{_%_, _≤_};
 use crate::numbers::encoding_of;
-use crate::numbers::fp_register_of;
 use crate::numbers::opcode_of;
-use crate::numbers::register_of;
 use crate::rows::Row;
 use instructions::Encoding;
 use instructions::Opcode;
 use instructions::Size;
+use registers::fp_register_of;
+use registers::register_of;
 use word::InstructionBuilder;
 
 // As `dispatch_instruction` does.

@@ -9,9 +9,9 @@ use lib.ListN.{length}
 use lib.Dec.{leb, eqb}
 use borrow.Author.Tests.{leb-true, leb-false, le-leb, lt-leb, eq-eqb, ne-eqb, eqb-true, eqb-false}
 use Rattle.record.specs.Records.{places}
-use Rattle.record.specs.declared.Layout.{Layout}
-use Rattle.record.specs.declared.Layout.the-variants.{Good, Bad}
-use Rattle.refusal.specs.Verdicts.{andThen, firstStop, layoutVerdict, nameVerdict}
+use Rattle.record.specs.declared.Layout.the-variants.{Good}
+use Rattle.refusal.specs.Verdicts.{firstStop, layoutVerdict, nameVerdict}
+use Rattle.refusal.specs.VerdictsLaws.{both-pass, layout-pass, name-pass}
 use Rattle.refusal.specs.declared.Verdict.{Verdict}
 use Rattle.refusal.specs.declared.Verdict.the-variants.{Pass, Stop}
 use Rattle.refusal.specs.declared.Refusal.{Refusal}
@@ -27,19 +27,6 @@ use Rattle.pending.specs.Pendings.{regionOf, pendingLayout, pendingAt}
 use Rattle.patch.specs.Patches.{destination, pcOf, inRange, regionFor}
 use Rattle.patch.specs.Build.{keep, orderFrom, patchOrder, nameLocation, reachVerdict, pendingVerdict, patchVerdict, entryVerdict, layoutVerdicts, buildVerdict, entryAddress, patchedRegions, outcomeOf, buildOutcome}
 use Rattle.patch.specs.declared.Built.the-variants.{Entry as BuiltEntry, Refused}
-
--- ---- checks one after the other
-pub both-pass : (a b : Verdict) → andThen a b ≡ Pass → (a ≡ Pass) × (b ≡ Pass)
-both-pass Pass b e = (refl, e)
-both-pass (Stop r) b e = (e, cc)
-
-pub layout-pass : (n : ℕ) (l : Layout) → layoutVerdict n l ≡ Pass → l ≡ Good
-layout-pass n Good e = refl
-layout-pass n (Bad p) e = cc
-
-pub name-pass : (n : ℕ) (l : Layout) → nameVerdict n l ≡ Pass → l ≡ Good
-name-pass n Good e = refl
-name-pass n (Bad p) e = cc
 
 -- every element passes where the whole list does
 pub each-pass : (check : ℕ → Verdict) (ps : List ℕ) → firstStop check ps ≡ Pass → (p : ℕ) → List·Memᴰ p ps → check p ≡ Pass

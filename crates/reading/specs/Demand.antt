@@ -33,3 +33,10 @@ never-shared labels₁ labels₂ entry regions pending b₁ b₂ pr₁ pr₂ i a
     let o₂ = outcome-accepted labels₂ entry regions pending (pr₂ .accepted) in
     let e : entryAddress labels₁ entry (entryOf entry (places entry)) ≡ entryAddress labels₂ entry (entryOf entry (places entry)) = cc in
     same-used labels₁ labels₂ entry regions pending b₁ b₂ pr₁ pr₂ (sym (ap imageOf (o₁ .1)) ∙ i ∙ ap imageOf (o₂ .1)) e
+
+-- the same in the tender's direction: tables that differ in a used address do not have both in common
+pub differing-apart : (labels₁ labels₂ entry regions pending : List ℕ) → Bytes labels₁ → Bytes labels₂
+    → Premises labels₁ entry regions pending → Premises labels₂ entry regions pending → (SameUsed labels₁ labels₂ entry pending → ⊥)
+    → imageOf (buildOutcome labels₁ entry regions pending .regions) ≡ imageOf (buildOutcome labels₂ entry regions pending .regions)
+    → buildOutcome labels₁ entry regions pending .answer ≡ buildOutcome labels₂ entry regions pending .answer → ⊥
+differing-apart labels₁ labels₂ entry regions pending b₁ b₂ pr₁ pr₂ differ i a = differ (never-shared labels₁ labels₂ entry regions pending b₁ b₂ pr₁ pr₂ i a)

@@ -1,7 +1,8 @@
 -- Laws of places and of layouts, one set for every kind of record. Assumes nothing.
 use Prim.Native.Nat.{ℕ, zero, suc, _+_, _-_, _≤_, _<_}
 use native.Mathlib.Omega.{arith}
-use mathlib.Core.List.{List, [], _∷_, _++_}
+use mathlib.Core.List.{List, [], _∷_, _++_, List·Memᴰ, List·Memᴰ·head, List·Memᴰ·tail, List·Memᴰ·cases-cons}
+use mathlib.Core.Logic.{_⊎_, inl, inr, ⊎-elim}
 use mathlib.Core.Bool.{Bool, true, false, _&&_, and-eq-true-iff}
 use mathlib.Core.Path.{_≡_, refl, sym, ap, _∙_}
 use lib.ListN.{length}
@@ -201,3 +202,88 @@ limit-good s l g = go (leb (length s) limit) refl
         let f = limit-passed s l (leb-false (length s) limit e) in
         let z : _≡_ {A = ℕ} 0 1 = cc in
         absurd (omega arith)
+
+-- ---- a place that a layout names
+
+-- what stands first of the places from `at` on, if anything does, and what follows it
+pub places-cons : (s : List ℕ) (at p : ℕ) (ps : List ℕ) → placesFrom s at ≡ p ∷ ps
+    → (at < length s) × (p ≡ at) × (((whole s at ≡ true) × (placesFrom s (next s at) ≡ ps)) ⊎ ((whole s at ≡ false) × (ps ≡ [])))
+places-cons s at p ps e = go (ltb at (length s)) refl (whole s at) refl
+  where
+    go : (b : Bool) → ltb at (length s) ≡ b → (w : Bool) → whole s at ≡ w
+        → (at < length s) × (p ≡ at) × (((whole s at ≡ true) × (placesFrom s (next s at) ≡ ps)) ⊎ ((whole s at ≡ false) × (ps ≡ [])))
+    go false b w ew =
+        let n = places-end s at (ltb-false at (length s) b) in
+        let z : _≡_ {A = ℕ} 0 1 = cc in
+        absurd (omega arith)
+    go true b true ew =
+        let h = ltb-true at (length s) b in
+        let n = places-step s at h ew in
+        (h, cc, inl (ew, cc))
+    go true b false ew =
+        let h = ltb-true at (length s) b in
+        let n = places-cut s at h ew in
+        (h, cc, inr (ew, cc))
+
+-- a place of a list is within it
+below : (s : List ℕ) (at : ℕ) (ps : List ℕ) → placesFrom s at ≡ ps → (p : ℕ) → List·Memᴰ p ps → p < length s
+below s at [] e p m = elim m [ ]
+below s at (q ∷ ps) e p m =
+    let c = places-cons s at q ps e in
+    ⊎-elim
+    (λ h. omega (arith, c .0, c .1))
+    (λ t.
+    ⊎-elim
+    (λ w. below s _ ps (w .1) p t)
+    (λ w. below s (length s) ps (places-end s (length s) (omega arith) ∙ sym (w .1)) p t)
+    (c .2))
+    (List·Memᴰ·cases-cons m)
+
+-- the place that fails is one of the places
+bad-in : (ok : ℕ → Bool) (ps : List ℕ) (p : ℕ) → firstBad ok ps ≡ Bad p → List·Memᴰ p ps
+unfolding firstBad
+bad-in ok [] p e = let z : _≡_ {A = ℕ} 0 1 = cc in absurd (omega arith)
+bad-in ok (q ∷ ps) p e = go (ok q) refl (bad-in ok ps p)
+  where
+    go : (b : Bool) → ok q ≡ b → (firstBad ok ps ≡ Bad p → List·Memᴰ p ps) → List·Memᴰ p (q ∷ ps)
+    go true f ih = List·Memᴰ·tail (ih (sym (first-pass ok q ps f) ∙ e))
+    go false f ih = let h : p ≡ q = cc (first-hit ok q ps f) in List·Memᴰ·head h
+
+of-bad-in : (n : ℕ) (ok : ℕ → Bool) (ps : List ℕ) (p : ℕ) → firstBadOf n ok ps ≡ Bad p → List·Memᴰ p ps
+unfolding firstBadOf
+of-bad-in zero ok [] p e = let z : _≡_ {A = ℕ} 0 1 = cc in absurd (omega arith)
+of-bad-in (suc n) ok [] p e = let z : _≡_ {A = ℕ} 0 1 = cc in absurd (omega arith)
+of-bad-in zero ok (q ∷ ps) p e = let h : p ≡ q = cc in List·Memᴰ·head h
+of-bad-in (suc n) ok (q ∷ ps) p e = go (ok q) refl (of-bad-in n ok ps p)
+  where
+    go : (b : Bool) → ok q ≡ b → (firstBadOf n ok ps ≡ Bad p → List·Memᴰ p ps) → List·Memᴰ p (q ∷ ps)
+    go true f ih = List·Memᴰ·tail (ih (sym (rw (f, firstBadOf)) ∙ e))
+    go false f ih =
+        let b : firstBadOf (suc n) ok (q ∷ ps) ≡ Bad q = rw (f, firstBadOf) in
+        let h : p ≡ q = cc in
+        List·Memᴰ·head h
+
+place-in : (s : List ℕ) (p : ℕ) → List·Memᴰ p (places s) → p ≤ length s
+place-in s p m = let h = below s 0 (places s) (sym (places-all s)) p m in omega arith
+
+-- the place that fails is within the list
+pub first-place : (ok : ℕ → Bool) (s : List ℕ) (p : ℕ) → firstBad ok (places s) ≡ Bad p → p ≤ length s
+first-place ok s p e = place-in s p (bad-in ok (places s) p e)
+
+pub of-place : (n : ℕ) (ok : ℕ → Bool) (s : List ℕ) (p : ℕ) → firstBadOf n ok (places s) ≡ Bad p → p ≤ length s
+of-place n ok s p e = place-in s p (of-bad-in n ok (places s) p e)
+
+-- what is at most the length is at most the limit
+pub limit-bad : (s : List ℕ) (l : Layout) (p : ℕ) → withinLimit s l ≡ Bad p → (l ≡ Bad p → p ≤ length s) → p ≤ limit
+limit-bad s l p e h = go (leb (length s) limit) refl
+  where
+    go : (b : Bool) → leb (length s) limit ≡ b → p ≤ limit
+    go true f =
+        let k = leb-true (length s) limit f in
+        omega (arith, h (sym (limit-kept s l k) ∙ e))
+    go false f =
+        let q : p ≡ limit = cc (limit-passed s l (leb-false (length s) limit f)) in
+        omega arith
+
+pub first-limit : (ok : ℕ → Bool) (s : List ℕ) (p : ℕ) → withinLimit s (firstBad ok (places s)) ≡ Bad p → p ≤ limit
+first-limit ok s p e = limit-bad s (firstBad ok (places s)) p e (first-place ok s p)

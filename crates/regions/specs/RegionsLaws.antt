@@ -11,7 +11,7 @@ use lib.Dec.{leb, eqb, ltb}
 use borrow.Author.Tests.{leb-true, ltb-true, ltb-false}
 use Rattle.record.specs.Bytes.{byteAt, le16, le32}
 use Rattle.record.specs.Records.{bodyLen, kindAt, whole, next, places, placesFrom, firstBad, firstBadOf, limit, withinLimit}
-use Rattle.record.specs.RecordsLaws.{places-end, places-step, places-cut, places-all, whole-is, first-good, of-good, limit-good, limit-kept, limit-passed}
+use Rattle.record.specs.RecordsLaws.{places-end, places-step, places-cut, places-all, places-cons, whole-is, first-good, of-good, limit-good, limit-kept, limit-passed}
 use Rattle.record.specs.declared.Layout.the-variants.{Good, Bad}
 use Rattle.regions.specs.Regions.{regionOk, regionRecords, regionLayout, regionCount, regionPlace, regionAt}
 
@@ -59,26 +59,6 @@ places-some s at h = go (whole s at) refl
     go : (w : Bool) → whole s at ≡ w → 0 < length (placesFrom s at)
     go true w = rw (places-step s at h w) (omega arith)
     go false w = rw (places-cut s at h w) (omega arith)
-
--- what stands first of the places from `at` on, if anything does, and what follows it
-pub places-cons : (s : List ℕ) (at p : ℕ) (ps : List ℕ) → placesFrom s at ≡ p ∷ ps
-    → (at < length s) × (p ≡ at) × (((whole s at ≡ true) × (placesFrom s (next s at) ≡ ps)) ⊎ ((whole s at ≡ false) × (ps ≡ [])))
-places-cons s at p ps e = go (ltb at (length s)) refl (whole s at) refl
-  where
-    go : (b : Bool) → ltb at (length s) ≡ b → (w : Bool) → whole s at ≡ w
-        → (at < length s) × (p ≡ at) × (((whole s at ≡ true) × (placesFrom s (next s at) ≡ ps)) ⊎ ((whole s at ≡ false) × (ps ≡ [])))
-    go false b w ew =
-        let n = places-end s at (ltb-false at (length s) b) in
-        let z : _≡_ {A = ℕ} 0 1 = cc in
-        absurd (omega arith)
-    go true b true ew =
-        let h = ltb-true at (length s) b in
-        let n = places-step s at h ew in
-        (h, cc, inl (ew, cc))
-    go true b false ew =
-        let h = ltb-true at (length s) b in
-        let n = places-cut s at h ew in
-        (h, cc, inr (ew, cc))
 
 -- the first record stands at the list's beginning
 pub place-first : (s : List ℕ) → regionPlace s 0 ≡ 0

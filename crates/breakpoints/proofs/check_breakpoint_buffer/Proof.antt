@@ -1,7 +1,6 @@
 -- Where the length and the fill count are kept, the filled part's layout is that of its breakpoints. Assumes nothing.
 use Prim.Native.Nat.{_≤_}
-use native.Mathlib.Omega.{arith}
-use mathlib.Core.Path.{_≡_, sym, _∙_}
+use mathlib.Core.Path.{sym, _∙_}
 use lib.ListN.{length}
 use lib.Seq.{length-take-le}
 use borrow.Author.Needs.{needs}

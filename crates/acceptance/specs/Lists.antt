@@ -1,0 +1,72 @@
+-- Record lists for the marked table, written as document 01 lays them out. Assumes nothing.
+use Prim.Native.Nat.{ℕ, zero, suc, _+_, _/_}
+use mathlib.Core.List.{List, [], _∷_, _++_}
+use Rattle.record.specs.Bytes.{le32}
+use Rattle.emit_bytes.specs.Appended.{le16Bytes, le32Bytes, le64Bytes, recordBytes}
+use Rattle.emit_outcome.specs.Emit.{Call, Outcome}
+
+-- a location of zeros
+abbrev pub here : List ℕ
+here = le64Bytes 0
+
+-- ---- tokens, by kind
+abbrev pub register : ℕ → List ℕ
+register r = recordBytes 3 (here ++ r ∷ [])
+
+abbrev pub integer : ℕ → List ℕ
+integer n = recordBytes 5 (here ++ le64Bytes n)
+
+abbrev pub minus : List ℕ
+minus = recordBytes 10 here
+
+abbrev pub comma : List ℕ
+comma = recordBytes 11 here
+
+abbrev pub leftBrace : List ℕ
+leftBrace = recordBytes 14 here
+
+abbrev pub rightBrace : List ℕ
+rightBrace = recordBytes 15 here
+
+-- ---- mnemonic and descriptor; names are ASCII
+abbrev pub mnemonic : List ℕ → List ℕ
+mnemonic name = recordBytes 32 (here ++ name)
+
+-- class, key and encoding; the other fields are 0
+abbrev pub descriptor : (class key encoding : ℕ) → List ℕ → List ℕ
+descriptor class key encoding name = recordBytes 33 (class ∷ key ∷ encoding ∷ 0 ∷ 0 ∷ 0 ∷ 0 ∷ 0 ∷ name)
+
+abbrev pub zeros : ℕ → List ℕ
+zeros zero = []
+zeros (suc n) = 0 ∷ zeros n
+
+-- a line in region 0 at 0x00400000, with empty buffers that have room for it
+abbrev pub line : (name descriptors tokens : List ℕ) → Call
+line name descriptors tokens = record {
+  token-list = tokens;
+  mnemonic = mnemonic name;
+  descriptors = descriptors;
+  region-data = zeros 20;
+  pending = [];
+  breakpoints = zeros 32;
+  counts = record { region = 0; pending = 0; breakpoints = 0 };
+  position = 0;
+  region = 0;
+  address = 0x00400000;
+}
+
+-- n words of a list
+unfoldable pub wordsIn : ℕ → List ℕ → ℕ → List ℕ
+wordsIn zero s at = []
+wordsIn (suc n) s at = le32 s at ∷ wordsIn n s (at + 4)
+
+-- the words in the filled part of the region's data
+abbrev pub emitted : Outcome → List ℕ
+emitted o = wordsIn (o .counts .region / 4) (o .region-data) 0
+
+-- ---- a build: one region of one word, and one pending at its start that waits for a constant
+abbrev pub region : (address word : ℕ) → List ℕ
+region address word = recordBytes 35 (le32Bytes address ++ le32Bytes word)
+
+abbrev pub patch : (kind destination : ℕ) → List ℕ
+patch kind destination = recordBytes 36 (le16Bytes 0 ++ le32Bytes 0 ++ here ++ kind ∷ 0 ∷ le64Bytes destination ++ here)

@@ -1,0 +1,2 @@
+pub mod LabelOperands
+pub mod LabelOperandsLaws

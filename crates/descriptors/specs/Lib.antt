@@ -1,0 +1,4 @@
+pub mod Mnemonics
+pub mod MnemonicsLaws
+pub mod Descriptors
+pub mod DescriptorsLaws

@@ -1,0 +1,55 @@
+use Rattle.emit_encodings.specs.LinesLaws.{line-as}
+use Rattle.emit_encodings.specs.Encodings.{fp2RegisterLine}
+use borrow.Author.Needs.{needs}
+use Rattle.emit_encodings.proofs.do_fp_2register_instruction.Statement.{statement}
+use Rattle.emit_encodings.proofs.do_fp_2register_instruction.Tie as tie
+use Rattle.emit_encodings.proofs.do_fp_2register_instruction.Reads as reads
+use Rattle.emit_encodings.proofs.do_fp_2register_instruction.Lts as lts
+use Rattle.emit_encodings.proofs.line_of.Reads as line-of-reads
+use Rattle.emit_words.proofs.fp_2_register_word.Reads as fp-2-register-word-reads
+use Rattle.emit_words.proofs.with.Reads as with-reads
+use Rattle.operand_list.proofs.fp_slot_in.Reads as fp-slot-in-reads
+use Rattle.operand_list.proofs.read_operands.Reads as read-operands-reads
+
+-- src/lib.rt:313:9
+read-operands-requires : tie.Need-read-operands-requires
+read-operands-requires c κs = search needs
+
+-- src/lib.rt:320:9
+fp-slot-in-requires : tie.Need-fp-slot-in-requires
+fp-slot-in-requires c κs = search needs
+
+-- src/lib.rt:321:9
+fp-slot-in-requires-2 : tie.Need-fp-slot-in-requires-2
+fp-slot-in-requires-2 c κs = search needs
+
+-- src/lib.rt:317:9
+fp-2-register-word-requires : tie.Need-fp-2-register-word-requires
+fp-2-register-word-requires c κs = search needs
+
+-- src/lib.rt:323:19
+with-requires : tie.Need-with-requires
+with-requires c κs = search needs
+
+-- src/lib.rt:323:5
+line-of-requires : tie.Need-line-of-requires
+line-of-requires c κs = search needs
+
+-- src/lib.rt:309:1
+returns : tie.Need-returns
+unfolding fp2RegisterLine
+returns c =
+    line-as (c .before .before .before .before .before .before .read-operands .ensures) (c .before .with .ensures) (c .line-of .ensures)
+    (rw (c .before .before .fp-2-register-word .ensures, c .before .before .before .fp-slot-in2 .ensures, c .before .before .before .before .fp-slot-in .ensures, c .before .before .before .before .before .before .read-operands .ensures .operands-are))
+
+pub do-fp-2register-instruction-spec : {M : Type 1} → statement M
+do-fp-2register-instruction-spec =
+    tie.close
+    (tie.spec
+    read-operands-requires
+    fp-slot-in-requires
+    fp-slot-in-requires-2
+    fp-2-register-word-requires
+    with-requires
+    line-of-requires
+    returns)

@@ -1,0 +1,4 @@
+pub mod Lines
+pub mod Encodings
+pub mod Contract
+pub mod LinesLaws

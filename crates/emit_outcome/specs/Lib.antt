@@ -1,0 +1,3 @@
+pub mod Dispatch
+pub mod Emit
+pub mod Contract

@@ -1,0 +1,29 @@
+// What an emit call returns, and the definition of its whole outcome. This crate has types and definitions, and no functions.
+use emit_pseudo::Pseudo;
+use refusal::Refusal;
+
+// The caller's three fill counts.
+pub struct FillCounts {
+    pub region: u32,
+    pub pending: u32,
+    pub breakpoints: u32,
+}
+
+pub enum EmitAnswer {
+    Done,
+    Refused(Refusal),
+}
+
+// An emit call's answer, position and counts.
+pub struct Emitted {
+    pub answer: EmitAnswer,
+    pub position: u32,
+    pub counts: FillCounts,
+}
+
+// What a mnemonic is: a descriptor at a place of the table, a pseudo-instruction, or neither.
+pub enum Meaning {
+    Table(usize),
+    Builtin(Pseudo),
+    Neither,
+}

@@ -1,0 +1,21 @@
+-- Each arm is the definition's, by what the answer is. Assumes nothing.
+use mathlib.Core.Path.{sym, ap}
+use Rattle.operand_list.specs.OperandLists.{ofMaybe}
+use borrow.Author.Needs.{needs}
+use Rattle.operand_list.proofs.of_maybe.Statement.{statement}
+use Rattle.operand_list.proofs.of_maybe.Tie as tie
+
+returns : tie.Need-returns
+returns c = sym (ap ofMaybe (c .before .answer .given .1))
+
+returns-2 : tie.Need-returns-2
+returns-2 c = sym (ap ofMaybe (c .enum-told .given .1))
+
+pub of-maybe-spec : {M : Type 1} → statement M
+of-maybe-spec =
+    tie.close
+    (tie.spec
+    (λ c. search needs)
+    (λ c. search needs)
+    returns
+    returns-2)

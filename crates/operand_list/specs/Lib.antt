@@ -1,0 +1,3 @@
+pub mod OperandLists
+pub mod Contract
+pub mod OperandListsLaws

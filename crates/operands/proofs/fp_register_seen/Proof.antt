@@ -1,0 +1,36 @@
+-- Each arm is the definition's, by what the token's kind holds. Assumes nothing.
+use borrow.Author.Needs.{needs}
+use mathlib.Core.Path.{sym, ap, _∙_}
+use Rattle.operands.specs.Operands.{fpRegisterSeen, fpRegisterIn}
+use Rattle.operands.specs.declared.FPRegisterAnswer.the-variants.{Missed}
+use Rattle.operands.proofs.fp_register_seen.Statement.{statement}
+use Rattle.operands.proofs.fp_register_seen.Tie as tie
+
+returns : tie.Need-returns
+returns c = sym (ap fpRegisterSeen (c .enum-told .given .1))
+
+returns-2 : tie.Need-returns-2
+returns-2 c =
+    let a = c .before .before .before in
+    let seen = a .before .before .seen .given in
+    sym (ap fpRegisterSeen (seen .1) ∙ ap (fpRegisterIn (seen .0 .0)) (sym (a .as-fp-register .ensures) ∙ c .before .slot .given .1))
+
+returns-3 : tie.Need-returns-3
+returns-3 c =
+    let a = c .before .before .before in
+    let seen = a .before .before .seen .given in
+    ap Missed (c .expected-register .ensures) ∙ sym (ap fpRegisterSeen (seen .1) ∙ ap (fpRegisterIn (seen .0 .0)) (sym (a .as-fp-register .ensures) ∙ c .before .enum-told2 .given .1))
+
+pub fp-register-seen-spec : {M : Type 1} → statement M
+fp-register-seen-spec =
+    tie.close
+    (tie.spec
+    (λ c. search needs)
+    (λ c. search needs)
+    (λ c κs. search needs)
+    (λ c. search needs)
+    (λ c. search needs)
+    (λ c κs. search needs)
+    returns
+    returns-2
+    returns-3)

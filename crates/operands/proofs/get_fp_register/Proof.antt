@@ -1,0 +1,18 @@
+-- The register is made of the token that was read. Assumes nothing.
+use borrow.Author.Needs.{needs}
+use Rattle.operands.specs.Operands.{fpRegisterSeen, getFPRegister}
+use Rattle.operands.specs.OperandsLaws.{read-made}
+use Rattle.operands.proofs.get_fp_register.Statement.{statement}
+use Rattle.operands.proofs.get_fp_register.Tie as tie
+
+returns : tie.Need-returns
+unfolding getFPRegister
+returns c = read-made (c .before .before .next-adjacent .ensures) fpRegisterSeen _ (c .fp-register-seen .ensures)
+
+pub get-fp-register-spec : {M : Type 1} → statement M
+get-fp-register-spec =
+    tie.close
+    (tie.spec
+    (λ c κs. search needs)
+    (λ c κs. search needs)
+    returns)

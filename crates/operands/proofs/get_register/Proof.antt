@@ -1,0 +1,18 @@
+-- The register is made of the token that was read. Assumes nothing.
+use borrow.Author.Needs.{needs}
+use Rattle.operands.specs.Operands.{registerSeen, getRegister}
+use Rattle.operands.specs.OperandsLaws.{read-made}
+use Rattle.operands.proofs.get_register.Statement.{statement}
+use Rattle.operands.proofs.get_register.Tie as tie
+
+returns : tie.Need-returns
+unfolding getRegister
+returns c = read-made (c .before .before .next-adjacent .ensures) registerSeen _ (c .register-seen .ensures)
+
+pub get-register-spec : {M : Type 1} → statement M
+get-register-spec =
+    tie.close
+    (tie.spec
+    (λ c κs. search needs)
+    (λ c κs. search needs)
+    returns)
