@@ -32,7 +32,8 @@ unfolding writePending
 writeRegion labels pending region [] d = d
 writeRegion labels pending region (p ∷ ps) d = writeRegion labels pending region ps (writePending labels pending region (pendingAt pending p) d)
 
--- the answer and the region list at exit, for a build of these lists
+-- the answer and the region list at exit, for a build of these lists; demand 3's claim on two label tables is about the same outcome:
+-- `never-shared` in crates/reading/specs/Demand.antt
 pub record BuildIs (labels entry regions pending : List ℕ) (answer : Built) (exit : List ℕ) : Type 0 where
   pub answer-is : answer ≡ buildOutcome labels entry regions pending .answer
   pub bytes-are : exit ≡ buildOutcome labels entry regions pending .regions

@@ -1,5 +1,5 @@
 // What `finish` prints for each case of standard input: a 4-byte length, then so many bytes of input for `finish` (vectors/make_finish).
-use image_text::Count;
+use libc::STDIN_FILENO;
 use libc::STDOUT_FILENO;
 
 // More than any run has.
@@ -12,16 +12,14 @@ fn main() {
     }
 }
 
-// Whether there was another case.
+// Whether there was a case and no byte of it is left.
 fn run_case(number: u64) -> bool {
-    match image_text::read_count(u64::MAX) {
-        Count::Missing => false,
-        Count::Bytes(length) => {
-            io::write_all(STDOUT_FILENO, b"case ");
-            io::print_decimal(STDOUT_FILENO, number);
-            io::write_all(STDOUT_FILENO, b"\n");
-            image_text::skip(image_text::finish(length as u64));
-            true
-        }
+    let mut bytes = [0u8; 4];
+    if io::read_full(STDIN_FILENO, &mut bytes) < 4 {
+        return false;
     }
+    io::write_all(STDOUT_FILENO, b"case ");
+    io::print_decimal(STDOUT_FILENO, number);
+    io::write_all(STDOUT_FILENO, b"\n");
+    image_text::finish(record::word_at(&bytes, 0) as u64) == 0
 }

@@ -6,7 +6,7 @@ ghost use Rattle.io.specs.Counts.{Counts};
 use libc::STDIN_FILENO;
 
 // A count, if its four bytes are there.
-pub enum Count {
+enum Count {
     Missing,
     Bytes(u32),
 }
@@ -25,7 +25,7 @@ pub(crate) fn empty_list() -> [u8; 65537]
 }
 
 // The count that stands next, of at most `left` bytes.
-pub fn read_count(left: u64) -> Count {
+fn read_count(left: u64) -> Count {
     let mut bytes = [0u8; 4];
     let got = read_some(&mut bytes, left);
     if got < 4 {
@@ -54,7 +54,7 @@ pub(crate) fn read_list(list: &mut [u8], left: u64) -> Taken
 }
 
 // Reads so many bytes, or those that there are, and drops them.
-pub fn skip(count: u64) {
+fn skip(count: u64) {
     let mut scratch = io::buffer();
     let mut rest = count;
     while rest > 0 {

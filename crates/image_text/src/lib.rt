@@ -7,10 +7,6 @@ mod lines;
 mod output;
 mod text;
 
-pub use input::Count;
-pub use input::read_count;
-pub use input::skip;
-
 // Reads at most `left` bytes, and answers how many of them are left.
 pub fn finish(left: u64) -> u64
     ensures { λ r. ⌜ r ≤ left ⌝ }
