@@ -55,14 +55,17 @@ impl Tally {
         self.0[answer.number as usize] += 1;
     }
 
-    pub fn print(&self) {
-        println!("accepted {}", self.0[0]);
+    /// A line for each number that was met.
+    pub fn text(&self) -> String {
+        let mut text = format!("accepted {}\n", self.0[0]);
 
         for (number, count) in self.0.iter().enumerate().skip(1) {
             if *count > 0 {
-                println!("refusal {number} {count}");
+                text += &format!("refusal {number} {count}\n");
             }
         }
+
+        text
     }
 }
 

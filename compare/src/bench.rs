@@ -102,7 +102,7 @@ fn time<T, R>(batch: usize, prepare: impl Fn() -> T, call: impl Fn(T) -> R) -> f
     taken.as_nanos() as f64 / batch as f64
 }
 
-fn median(mut times: Vec<f64>) -> f64 {
+pub fn median(mut times: Vec<f64>) -> f64 {
     times.sort_by(f64::total_cmp);
 
     times[times.len() / 2]

@@ -56,7 +56,7 @@ fn judge(input: &LineInput) -> LineOutcome {
     }
 }
 
-fn builder(input: &LineInput) -> BinaryBuilder {
+pub fn builder(input: &LineInput) -> BinaryBuilder {
     let mut builder = BinaryBuilder::new();
 
     if input.region != NO_REGION {
@@ -187,7 +187,7 @@ fn refusal(input: &LineInput, error: &AssemblerError, position: u32) -> Answer {
     }
 }
 
-fn location(body: &[u8]) -> Location {
+pub fn location(body: &[u8]) -> Location {
     Location {
         source: u32_at(body, 0) as usize,
         index: u32_at(body, 4) as usize,
@@ -200,11 +200,11 @@ fn location_bytes(location: Location) -> Vec<u8> {
         .concat()
 }
 
-fn text(bytes: &[u8]) -> &str {
+pub fn text(bytes: &[u8]) -> &str {
     from_utf8(bytes).unwrap()
 }
 
-fn token(kind: u16, body: &[u8]) -> Token<'_> {
+pub fn token(kind: u16, body: &[u8]) -> Token<'_> {
     let payload = &body[8..];
     let kind = match kind {
         0 => TokenKind::Comment(text(payload)),
@@ -242,7 +242,7 @@ fn opcode(class: u8, key: u8) -> Opcode {
     }
 }
 
-fn instruction(body: &[u8]) -> Instruction<'_> {
+pub fn instruction(body: &[u8]) -> Instruction<'_> {
     let size = match body[3] {
         0 => Size::Single,
         1 => Size::Double,

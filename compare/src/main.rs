@@ -15,6 +15,7 @@ mod assembler {
 
 mod answer;
 mod bench;
+mod bench_line;
 mod build_input;
 mod damage;
 mod damage_build;
@@ -27,6 +28,9 @@ mod generate_line;
 mod judge_build;
 mod judge_line;
 mod line_input;
+mod list;
+mod list_build;
+mod list_line;
 mod model;
 mod model_line;
 mod model_list;
@@ -63,10 +67,11 @@ fn main() -> ExitCode {
     judge_build::keep_its_panics_quiet();
 
     let agreed = match options.mode.as_str() {
-        "bench" if has_build => bench::run(&options),
+        "bench" if has_build => bench::run(&options) && (!has_line || bench_line::run()),
         "build" if has_build => run_build::run(&options),
         "line" if has_line => run_line::run(&options),
-        "bench" | "build" | "line" => {
+        "list" if has_build && has_line => list::run(&options),
+        "bench" | "build" | "line" | "list" => {
             eprintln!("the library has no entry for {}", options.mode);
             return ExitCode::from(2);
         }

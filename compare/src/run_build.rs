@@ -17,13 +17,7 @@ pub fn run(options: &Options) -> bool {
     let mut whole = 0u64;
 
     for index in 0..options.count {
-        let mut random = Random::of(options.seed, index);
-        let well = random.one_in(2);
-        let input = match well {
-            true if random.one_in(400) => full_list(&mut random).write(),
-            true => well_formed(&mut random).write(),
-            false => damaged(&mut random),
-        };
+        let (well, input) = generated(options.seed, index);
 
         if well {
             whole += 1;
@@ -48,10 +42,24 @@ pub fn run(options: &Options) -> bool {
     );
     println!("well-formed inputs {whole}");
     println!("damaged inputs {}", options.count - whole);
-    tally.print();
+    print!("{}", tally.text());
     println!("0 differ");
 
     true
+}
+
+/// A build call, and whether it was made well formed.
+pub fn generated(seed: u64, index: u64) -> (bool, BuildInput) {
+    let mut random = Random::of(seed, index);
+    let well = random.one_in(2);
+
+    let input = match well {
+        true if random.one_in(400) => full_list(&mut random).write(),
+        true => well_formed(&mut random).write(),
+        false => damaged(&mut random),
+    };
+
+    (well, input)
 }
 
 /// The answer that both sides give; none where they differ, which is printed whole.

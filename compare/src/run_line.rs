@@ -20,18 +20,7 @@ pub fn run(options: &Options) -> bool {
     let mut accepted = vec![0u64; ENCODINGS.len() + PSEUDO.len()];
 
     for index in 0..options.count {
-        let mut random = Random::of(options.seed, index);
-        let well = !random.one_in(3);
-        let (input, named) = match well {
-            true => {
-                let line = match random.one_in(500) {
-                    true => full_line(&mut random),
-                    false => well_formed(&mut random),
-                };
-                (line.write(), line.named())
-            }
-            false => (damaged(&mut random), None),
-        };
+        let (well, input, named) = generated(options.seed, index);
 
         if well {
             whole += 1;
@@ -61,7 +50,7 @@ pub fn run(options: &Options) -> bool {
     );
     println!("well-formed inputs {whole}");
     println!("damaged inputs {}", options.count - whole);
-    tally.print();
+    print!("{}", tally.text());
     println!("accepted lines of each encoding, in order: {encodings:?}");
     println!("accepted lines of each pseudo-instruction, in the Rust's order: {pseudo:?}");
     println!("0 differ");
@@ -69,8 +58,24 @@ pub fn run(options: &Options) -> bool {
     true
 }
 
+/// An emit call, whether it was made well formed, and what its mnemonic then names.
+pub fn generated(seed: u64, index: u64) -> (bool, LineInput, Option<usize>) {
+    let mut random = Random::of(seed, index);
+
+    if random.one_in(3) {
+        return (false, damaged(&mut random), None);
+    }
+
+    let line = match random.one_in(500) {
+        true => full_line(&mut random),
+        false => well_formed(&mut random),
+    };
+
+    (true, line.write(), line.named())
+}
+
 /// The answer that both sides give; none where they differ, which is printed whole.
-fn agreed(other: Other, input: &LineInput) -> Option<Answer> {
+pub fn agreed(other: Other, input: &LineInput) -> Option<Answer> {
     let expected = judge_line::expected(input);
     let met = other.line(input);
 

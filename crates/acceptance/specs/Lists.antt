@@ -2,7 +2,8 @@
 use Prim.Native.Nat.{ℕ, zero, suc, _+_, _/_}
 use mathlib.Core.List.{List, [], _∷_, _++_}
 use Rattle.record.specs.Bytes.{le32}
-use Rattle.emit_bytes.specs.Appended.{le16Bytes, le32Bytes, le64Bytes, recordBytes}
+use Rattle.stores.specs.Stores.{le16Bytes, le32Bytes, le64Bytes}
+use Rattle.emit_bytes.specs.Appended.{recordBytes}
 use Rattle.emit_outcome.specs.Emit.{Call, Outcome}
 
 -- a location of zeros

@@ -1,12 +1,10 @@
 -- Document 01's table 'Marked for proof', every row, as one statement about the definitions of an emit call and of a build.
 -- Assumes nothing.
 use mathlib.Core.Path.{_≡_, refl}
-use mathlib.Core.List.{List, [], _∷_, _++_}
-use Prim.Native.Nat.{ℕ}
+use mathlib.Core.List.{[], _∷_, _++_}
 use Rattle.field.specs.Field.{setField}
 use Rattle.record.specs.Bytes.{all, sameBytes}
 use Rattle.record.specs.Records.{placesF, placesFrom, places, firstBad, firstBadOf, withinLimit}
-use Rattle.record.specs.declared.Location.{Location}
 use Rattle.refusal.specs.Numbers.{zeroLocation}
 use Rattle.refusal.specs.Verdicts.{firstStop}
 use Rattle.refusal.specs.declared.Refusal.the-variants.{ExpectedLabel, JumpOutOfRange}
@@ -24,14 +22,17 @@ use Rattle.patch.specs.declared.Built.the-variants.{Refused}
 use Rattle.cursor.specs.Cursors.{passed, peek, step, nextAdjacent}
 use Rattle.operands.specs.Operands.{getRegister, signed, getInteger, getConstant, getValue}
 use Rattle.assembler_util.specs.LabelOperands.{symbolLabel, toLabel, getLabel, braced, afterLabel, getOffsetOrLabel}
-use Rattle.operand_list.specs.OperandLists.{readOperand, readOperands}
+use Rattle.operand_read.specs.OperandReads.{readOperand}
+use Rattle.operand_list.specs.OperandLists.{readOperands}
 use Rattle.descriptors.specs.Mnemonics.{mnemonicOk, oneMnemonic, mnemonicLayout, mnemonicName}
 use Rattle.descriptors.specs.Descriptors.{fieldsOk, descriptorOk, descriptorLayout}
 use Rattle.breakpoints.specs.Breakpoints.{breakpointOk, filledLayout, pendingBufferLayout, breakpointBufferLayout, dataBufferLayout}
-use Rattle.emit_words.specs.Pairs.{loadPairs, labelPairs, isImmediate}
-use Rattle.emit_encodings.specs.Encodings.{registerLine, shamLine, offsetLine, encodingLine}
-use Rattle.emit_pseudo.specs.Pseudos.{pseudoIn, pseudoLine}
-use Rattle.emit_bytes.specs.Appended.{wordBytes, pendingsBytes, pcsBytes, append}
+use Rattle.emit_pairs.specs.Pairs.{loadPairs, labelPairs, isImmediate}
+use Rattle.emit_lines.specs.Encodings.{registerLine, shamLine, offsetLine, encodingLine}
+use Rattle.pseudo_names.specs.PseudoNames.{pseudoIn}
+use Rattle.emit_pseudo.specs.Pseudos.{pseudoLine}
+use Rattle.stores.specs.Stores.{append}
+use Rattle.emit_bytes.specs.Appended.{wordBytes, pendingsBytes, pcsBytes}
 use Rattle.emit_outcome.specs.declared.EmitAnswer.the-variants.{Refused as LineRefused}
 use Rattle.emit_outcome.specs.Dispatch.{meaning, tableLine}
 use Rattle.emit_outcome.specs.Emit.{layoutStop, listStop, edgeStop, roomStop, lineOutcome, emitOutcome}
@@ -57,7 +58,7 @@ pub record MarkedTable : Type 0 where
   -- sll $t0,$t1,33 (Func 0)
   pub sll : emitted (emitOutcome (line (115 ∷ 108 ∷ 108 ∷ []) (descriptor 1 0 5 (115 ∷ 108 ∷ 108 ∷ [])) (register 8 ++ comma ++ register 9 ++ comma ++ integer 33))) ≡ 0x00094840 ∷ []
   -- lw $t0,($t1): refusal 7, a = 14
-  pub lw-brace : emitOutcome (line (108 ∷ 119 ∷ []) (descriptor 0 35 13 (108 ∷ 119 ∷ [])) (register 8 ++ comma ++ leftBrace ++ register 9 ++ rightBrace)) .answer ≡ LineRefused (ExpectedLabel zeroLocation 14)
+  pub lw-brace : emitOutcome (line (108 ∷ 119 ∷ []) (descriptor 0 35 13 (108 ∷ 119 ∷ [])) (register 8 ++ comma ++ leftBrace ++ register 9 ++ rightBrace)) .answer ≡ LineRefused (ExpectedLabel zeroLocation 14) 3
   -- b, pc 00400000 to 00440000
   pub b-forward : buildOutcome [] [] (region 0x00400000 0x10000000) (patch 0 0x00440000) .regions ≡ region 0x00400000 0x1000ffff
   -- b, pc 00400000 to 00440004: refusal 16

@@ -1,7 +1,7 @@
 -- Labels and offsets: the operand readers (assembler_util.rs) on a decoded token list and an index (document 01, 'Tokens'). Assumes nothing.
 use Prim.Native.Nat.{ℕ, _+_}
 use mathlib.Core.List.{List}
-use mathlib.Core.Bool.{Bool, true, false}
+use mathlib.Core.Bool.{true, false}
 use Rattle.record.specs.declared.Location.{Location}
 use Rattle.registers.specs.declared.RegisterSlot.{RegisterSlot}
 use Rattle.lexer.specs.declared.Text.{Text}
@@ -17,14 +17,12 @@ use Rattle.address_label.specs.declared.AddressLabel.the-variants.{Constant, La
 use Rattle.cursor.specs.declared.Seen.{Seen}
 use Rattle.cursor.specs.declared.Seen.the-variants.{Met, End}
 use Rattle.cursor.specs.Cursors.{At, seek, peek, nextAdjacent}
-use Rattle.operands.specs.declared.Miss.{Miss}
 use Rattle.operands.specs.declared.Miss.the-variants.{EndOfFile, ExpectedLabel, ExpectedRightBrace}
 use Rattle.operands.specs.declared.RegisterAnswer.{RegisterAnswer}
 use Rattle.operands.specs.declared.RegisterAnswer.the-variants.{Got as GotRegister, Missed as MissedRegister}
 use Rattle.operands.specs.declared.ConstantAnswer.{ConstantAnswer}
 use Rattle.operands.specs.declared.ConstantAnswer.the-variants.{Got as GotConstant, Missed as MissedConstant}
 use Rattle.operands.specs.Operands.{here, isKind, getRegister, getInteger, getConstant}
-use Rattle.assembler_util.specs.declared.OffsetOrLabel.{OffsetOrLabel}
 use Rattle.assembler_util.specs.declared.OffsetOrLabel.the-variants.{Label as LabelOperand, Offset}
 use Rattle.assembler_util.specs.declared.LabelAnswer.{LabelAnswer}
 use Rattle.assembler_util.specs.declared.LabelAnswer.the-variants.{Got as GotLabel, Missed as MissedLabel}

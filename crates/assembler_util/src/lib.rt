@@ -117,7 +117,7 @@ pub fn get_label(s: &[u8], c: Cursor) -> LabelRead
     requires { ⌜ Placed (now s) c ⌝ }
     ensures { λ r. ⌜ ReadAs (now (s .entry)) (getLabel (tokens (now (s .entry))) (c .index)) (r .answer) (r .cursor) ⌝ }
 {
-    let read = cursor::next_adjacent(s, c);
+    let read = lexer_cursor::next_adjacent(s, c);
     let seen = read.answer;
     let cursor = read.cursor;
     match seen {
@@ -161,7 +161,7 @@ fn braced(label: AddressLabel, s: &[u8], c: Cursor) -> OffsetRead
             cursor,
         },
         RegisterAnswer::Got(slot) => {
-            let right = cursor::next_adjacent(s, cursor);
+            let right = lexer_cursor::next_adjacent(s, cursor);
             let seen = right.answer;
             let behind = right.cursor;
             let answer = closed_seen(label, slot, seen);
@@ -220,7 +220,7 @@ pub fn get_offset_or_label(s: &[u8], c: Cursor) -> OffsetRead
     requires { ⌜ Placed (now s) c ⌝ }
     ensures { λ r. ⌜ ReadAs (now (s .entry)) (getOffsetOrLabel (tokens (now (s .entry))) (c .index)) (r .answer) (r .cursor) ⌝ }
 {
-    let read = cursor::next_adjacent(s, c);
+    let read = lexer_cursor::next_adjacent(s, c);
     let seen = read.answer;
     let cursor = read.cursor;
     match seen {

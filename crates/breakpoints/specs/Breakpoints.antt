@@ -1,10 +1,10 @@
 -- Breakpoint records, kind 37, and the filled part of a buffer (document 01, 'Pending 36, breakpoint 37'). Assumes nothing.
-use Prim.Native.Nat.{ℕ, _+_, _-_, _%_}
+use Prim.Native.Nat.{ℕ, _%_}
 use mathlib.Core.List.{List}
 use mathlib.Core.Bool.{Bool, true, false, _&&_}
 use lib.ListN.{length, take}
 use lib.Dec.{leb, eqb}
-use Rattle.record.specs.Records.{bodyLen, kindAt, whole, places, firstBad, limit, withinLimit}
+use Rattle.record.specs.Records.{bodyLen, kindAt, whole, places, firstBad, withinLimit}
 use Rattle.record.specs.declared.Layout.{Layout}
 use Rattle.record.specs.declared.Layout.the-variants.{Good, Bad}
 use Rattle.pending.specs.Pendings.{pendingOk}

@@ -5,7 +5,6 @@ use mathlib.Core.Bool.{Bool, true, false, not, _&&_}
 use lib.ListN.{length, getD, drop}
 use lib.Dec.{ltb, eqb}
 use Rattle.record.specs.Records.{places}
-use Rattle.record.specs.declared.Location.{Location}
 use Rattle.lexer.specs.declared.Token.{Token}
 use Rattle.lexer.specs.declared.TokenKind.{TokenKind}
 use Rattle.lexer.specs.declared.TokenKind.the-variants.{NewLine}

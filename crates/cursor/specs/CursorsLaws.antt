@@ -13,8 +13,8 @@ use Rattle.record.specs.Records.{next, whole, places, placesFrom}
 use Rattle.record.specs.RecordsLaws.{places-all, places-end, places-step, places-cut, layoutFrom, good-ok, good-next}
 use Rattle.record.specs.declared.Layout.the-variants.{Good}
 use Rattle.lexer.specs.declared.Token.{Token}
-use Rattle.lexer.specs.Tokens.{tokenOk, tokenLayout, tokenAt, tokens}
-use Rattle.lexer.specs.TokensLaws.{TokenIs, token-is, token-good}
+use Rattle.lexer.specs.Tokens.{tokenOk, TokenIs, tokenLayout, tokenAt, tokens}
+use Rattle.lexer.specs.TokensLaws.{token-is, token-good}
 use Rattle.cursor.specs.declared.Cursor.{Cursor}
 use Rattle.cursor.specs.declared.Seen.the-variants.{Met, End}
 use Rattle.cursor.specs.Cursors.{At, isAdjacentKind, passed, seek, noToken, peek, step, nextAdjacent, cursorAt}

@@ -1,8 +1,8 @@
 // A position in a token list, by value beside the list (cursor.rs): a read costs the tokens that it passes.
 ghost use mathlib.Core.Path.{_≡_};
 ghost use Rattle.lexer.specs.Tokens.{tokenLayout, tokens};
-ghost use Rattle.cursor.specs.Cursors.{cursorAt, startIndex, isAdjacentKind, peek, step, seek, nextAdjacent};
-ghost use Rattle.cursor.specs.Reads.{Placed, ReadAs};
+ghost use Rattle.cursor.specs.Cursors.{cursorAt, startIndex, isAdjacentKind, peek, step, seek};
+ghost use Rattle.cursor.specs.Reads.{Placed};
 use lexer::Token;
 use lexer::TokenKind;
 use record::Layout;
@@ -96,15 +96,4 @@ pub fn seek_without(s: &[u8], c: Cursor) -> Cursor
         index = index + 1;
     }
     Cursor { index, at }
-}
-
-// The next token that is not passed over, and the position behind it.
-pub fn next_adjacent(s: &[u8], c: Cursor) -> TokenRead
-    requires { ⌜ Placed (now s) c ⌝ }
-    ensures { λ r. ⌜ ReadAs (now (s .entry)) (nextAdjacent (tokens (now (s .entry))) (c .index)) (r .answer) (r .cursor) ⌝ }
-{
-    let found = seek_without(s, c);
-    let answer = peek(s, found);
-    let cursor = next(s, found);
-    TokenRead { answer, cursor }
 }

@@ -1,5 +1,5 @@
 -- Descriptor records, kind 33: the instruction table (document 01, 'Mnemonic 32, descriptor 33'). Assumes nothing.
-use Prim.Native.Nat.{ℕ, _+_, _-_}
+use Prim.Native.Nat.{ℕ, _+_}
 use mathlib.Core.List.{List, [], _∷_}
 use mathlib.Core.Bool.{Bool, true, false, _&&_, _||_}
 use lib.ListN.{getD}

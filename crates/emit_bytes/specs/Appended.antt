@@ -1,28 +1,19 @@
 -- What a line appends: words to the region data, pending records, a breakpoint record (document 01, 'Pending 36, breakpoint 37').
 -- Assumes nothing.
-use Prim.Native.Nat.{ℕ, zero, suc, _+_, _/_, _%_, _^_}
+use Prim.Native.Nat.{ℕ, zero, suc, _+_}
 use mathlib.Core.List.{List, [], _∷_, _++_}
-use lib.ListN.{length, take, drop}
+use lib.ListN.{length}
+use Rattle.stores.specs.Stores.{le16Bytes, le32Bytes, le64Bytes}
 use Rattle.record.specs.Bytes.{part}
 use Rattle.record.specs.declared.Location.{Location}
 use Rattle.address_label.specs.declared.AddressLabel.{AddressLabel}
 use Rattle.address_label.specs.declared.AddressLabel.the-variants.{Constant, Label}
 use Rattle.pending.specs.declared.InstructionLabelKind.{InstructionLabelKind}
 use Rattle.pending.specs.declared.InstructionLabelKind.the-variants.{Branch, Jump, Lower, Upper, Full}
-use Rattle.emit_words.specs.declared.InstructionLabel.{InstructionLabel}
-use Rattle.emit_words.specs.declared.PairLabel.{PairLabel}
-use Rattle.emit_words.specs.declared.PairLabel.the-variants.{Nothing, Some}
-use Rattle.emit_words.specs.declared.InstructionPair.{InstructionPair}
-
--- little-endian numbers
-abbrev pub le16Bytes : ℕ → List ℕ
-le16Bytes n = n % 256 ∷ n / 256 % 256 ∷ []
-
-abbrev pub le32Bytes : ℕ → List ℕ
-le32Bytes n = n % 256 ∷ n / 256 % 256 ∷ n / 65536 % 256 ∷ n / 16777216 % 256 ∷ []
-
-abbrev pub le64Bytes : ℕ → List ℕ
-le64Bytes n = le32Bytes (n % 2 ^ 32) ++ le32Bytes (n / 2 ^ 32)
+use Rattle.emit_pairs.specs.declared.InstructionLabel.{InstructionLabel}
+use Rattle.emit_pairs.specs.declared.PairLabel.{PairLabel}
+use Rattle.emit_pairs.specs.declared.PairLabel.the-variants.{Nothing, Some}
+use Rattle.emit_pairs.specs.declared.InstructionPair.{InstructionPair}
 
 abbrev pub locationBytes : Location → List ℕ
 locationBytes l = le32Bytes (l .source) ++ le32Bytes (l .index)
@@ -69,10 +60,6 @@ pcsBytes (suc n) pc = le32Bytes pc ++ pcsBytes n (pc + 4)
 
 abbrev pub breakpointBytes : Location → (pc n : ℕ) → List ℕ
 breakpointBytes location pc n = recordBytes 37 (locationBytes location ++ pcsBytes n pc)
-
--- a buffer with bytes written from its fill count on
-unfoldable pub append : List ℕ → ℕ → List ℕ → List ℕ
-append buffer fill bytes = take fill buffer ++ bytes ++ drop (fill + length bytes) buffer
 
 -- ---- sizes
 

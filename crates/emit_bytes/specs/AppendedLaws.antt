@@ -1,21 +1,22 @@
--- Laws of appended bytes: one append after the other, what stores leave, one word or one record more, and the lengths. Assumes nothing.
+-- Laws of what a line appends: one word or one record more, and the lengths. Assumes nothing.
 use Prim.Native.Nat.{ℕ, zero, suc, _+_, _-_, _*_, _%_, _≤_, _<_}
-use native.Mathlib.Nat.{add-zero, not-suc-le-zero}
+use native.Mathlib.Nat.{not-suc-le-zero}
 use native.Mathlib.Numerals.{add-one}
 use native.Mathlib.Omega.{arith}
 use mathlib.Core.Path.{_≡_, refl, sym, ap, ap₂, _∙_}
 use mathlib.Core.List.{List, [], _∷_, _++_, map, append-assoc, append-nil}
-use lib.ListN.{length, take, drop, getD, set, take-append-drop, length-append, length-take, length-drop, drop-of-length-le}
-use lib.Seq.{sets-eq, drop-drop, take-nil, take-all, length-take-le, take-at, drop-append-add}
+use lib.ListN.{length, take, drop, getD, length-append, length-take, length-drop, drop-of-length-le}
+use lib.Seq.{take-nil, take-all, length-take-le}
 use Rattle.record.specs.Bytes.{part}
 use Rattle.record.specs.declared.Location.{Location}
 use Rattle.address_label.specs.declared.AddressLabel.{AddressLabel}
 use Rattle.address_label.specs.declared.AddressLabel.the-variants.{Constant, Label}
-use Rattle.emit_words.specs.declared.InstructionLabel.{InstructionLabel}
-use Rattle.emit_words.specs.declared.InstructionPair.{InstructionPair}
-use Rattle.emit_words.specs.declared.PairLabel.{PairLabel}
-use Rattle.emit_words.specs.declared.PairLabel.the-variants.{Nothing, Some}
-use Rattle.emit_bytes.specs.Appended.{le16Bytes, le32Bytes, wordBytes, labelBytes, pendingBytes, pairBytes, pendingsBytes, pcsBytes, breakpointBytes, append, nameBytes, pairLen, pendingsLen}
+use Rattle.emit_pairs.specs.declared.InstructionLabel.{InstructionLabel}
+use Rattle.emit_pairs.specs.declared.InstructionPair.{InstructionPair}
+use Rattle.emit_pairs.specs.declared.PairLabel.{PairLabel}
+use Rattle.emit_pairs.specs.declared.PairLabel.the-variants.{Nothing, Some}
+use Rattle.stores.specs.Stores.{le16Bytes, le32Bytes}
+use Rattle.emit_bytes.specs.Appended.{wordBytes, labelBytes, pendingBytes, pairBytes, pendingsBytes, pcsBytes, breakpointBytes, nameBytes, pairLen, pendingsLen}
 
 -- ---- parts that run past the list
 
@@ -27,59 +28,17 @@ rest s i n h =
     let m : length (drop i s) ≡ length s - i = length-drop i s in
     take-all (length s - i) (drop i s) (omega arith) ∙ sym (take-all n (drop i s) (omega arith))
 
--- ---- appends
-
-pub append-none : (d : List ℕ) (at : ℕ) → d ≡ append d at []
-unfolding append
-append-none d at = sym (simp (append-nil, add-zero, take-append-drop))
-
--- an append that fits keeps the buffer's length
-pub length-append-kept : (d : List ℕ) (at : ℕ) (bs : List ℕ) → at + length bs ≤ length d → length (append d at bs) ≡ length d
-unfolding append
-length-append-kept d at bs h = simp (length-append, length-take, length-drop) (omega arith)
-
--- an append right after an append is one append
-pub append-append : (d : List ℕ) (at : ℕ) (bs cs : List ℕ) (k : ℕ) → at + length bs ≡ k → k + length cs ≤ length d
-    → append (append d at bs) k cs ≡ append d at (bs ++ cs)
-unfolding append
-append-append d at bs cs k e h =
-    let p : List ℕ = take at d ++ bs in
-    let q : List ℕ = drop (at + length bs) d in
-    let lp : length p ≡ k = simp (length-append, length-take) (omega arith) in
-    let n : at + length bs + length cs ≡ at + length (bs ++ cs) = simp length-append (omega arith) in
-    ap₂ (λ (a b : List ℕ). a ++ cs ++ b) (take-at p q k lp)
-    (ap (λ (n : ℕ). drop (n + length cs) (p ++ q)) (sym lp) ∙ drop-append-add p q (length cs) ∙ drop-drop (length cs) (at + length bs) d)
-    ∙ ap₂ (λ (a : List ℕ) (n : ℕ). a ++ drop n d) (append-assoc (take at d) bs cs) n
-
--- the same of buffers that are known by equations
-pub append-then : {e f : List ℕ} (d : List ℕ) (at : ℕ) (bs : List ℕ) (k : ℕ) (cs : List ℕ) → e ≡ append d at bs → f ≡ append e k cs
-    → at + length bs ≡ k → k + length cs ≤ length d → f ≡ append d at (bs ++ cs)
-append-then d at bs k cs p q h l = q ∙ ap (λ (x : List ℕ). append x k cs) p ∙ append-append d at bs cs k h l
-
--- ---- stores, one after the other
-
-pub one-store : (d : List ℕ) (at b : ℕ) → at + 1 ≤ length d → set d at b ≡ append d at (b ∷ [])
-unfolding append
-one-store d at b h = sets-eq (b ∷ []) d at h
-
-pub two-stores : (d : List ℕ) (at b₀ b₁ : ℕ) → at + 2 ≤ length d → set (set d at b₀) (at + 1) b₁ ≡ append d at (b₀ ∷ b₁ ∷ [])
-unfolding append
-two-stores d at b₀ b₁ h = rw add-one (sets-eq (b₀ ∷ b₁ ∷ []) d at h)
-
-pub four-stores : (d : List ℕ) (at b₀ b₁ b₂ b₃ : ℕ) → at + 4 ≤ length d
-    → set (set (set (set d at b₀) (at + 1) b₁) (at + 2) b₂) (at + 3) b₃ ≡ append d at (b₀ ∷ b₁ ∷ b₂ ∷ b₃ ∷ [])
-unfolding append
-four-stores d at b₀ b₁ b₂ b₃ h =
-    let e1 : at + 1 ≡ suc at = omega arith in
-    let e2 : at + 2 ≡ suc (suc at) = omega arith in
-    let e3 : at + 3 ≡ suc (suc (suc at)) = omega arith in
-    rw (e1, e2, e3) (sets-eq (b₀ ∷ b₁ ∷ b₂ ∷ b₃ ∷ []) d at h)
-
 -- ---- words
 
 -- the bytes of one pair's word
 abbrev pub wordOf : InstructionPair → List ℕ
 wordOf p = le32Bytes (p .word)
+
+-- each has four
+pub word-length : (ps : List InstructionPair) (i : ℕ) → i < length ps → length (getD (map wordOf ps) i []) ≡ 4
+word-length [] i h = absurd (not-suc-le-zero h)
+word-length (p ∷ ps) zero h = refl
+word-length (p ∷ ps) (suc i) h = word-length ps i (omega arith)
 
 pub words-length : (ps : List InstructionPair) → length (wordBytes ps) ≡ 4 * length ps
 unfolding wordBytes

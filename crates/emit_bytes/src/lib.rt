@@ -1,14 +1,15 @@
 // What a line appends, as bytes: its words, its pending records and its breakpoint record.
 ghost use mathlib.Core.Path.{_≡_};
-ghost use mathlib.Core.List.{List, [], _∷_, _++_, map};
+ghost use mathlib.Core.List.{map};
 ghost use Prim.Native.Nat.{_+_, _*_, _^_, _≤_, _<_};
 ghost use lib.ListN.{length, take};
-ghost use Rattle.emit_words.specs.declared.InstructionPair.{InstructionPair};
-ghost use Rattle.emit_bytes.specs.Appended.{le16Bytes, le32Bytes, le64Bytes, locationBytes, wordBytes, kindNumber, labelBytes, pendingBytes, pairBytes, pendingsBytes, pcsBytes, breakpointBytes, append, nameBytes, pairLen, pendingsLen};
+ghost use Rattle.emit_pairs.specs.declared.InstructionPair.{InstructionPair};
+ghost use Rattle.stores.specs.Stores.{le32Bytes, append};
+ghost use Rattle.emit_bytes.specs.Appended.{locationBytes, wordBytes, kindNumber, labelBytes, pendingBytes, pendingsBytes, breakpointBytes, nameBytes, pairLen, pendingsLen};
 use address_label::AddressLabel;
-use emit_words::EmitInstruction;
-use emit_words::InstructionLabel;
-use emit_words::PairLabel;
+use emit_pairs::EmitInstruction;
+use emit_pairs::InstructionLabel;
+use emit_pairs::PairLabel;
 use pending::InstructionLabelKind;
 use record::Location;
 
@@ -44,51 +45,12 @@ pub fn count_of(e: EmitInstruction) -> usize
     e.count
 }
 
-// Two, four and eight bytes from `at` on, the lowest first.
-fn put16(d: &mut [u8], at: usize, n: u16)
-    requires { ⌜ at + 2 ≤ length (now d) ⌝ }
-    ensures { λ _. ⌜ now (d .exit) ≡ append (now (d .entry)) at (le16Bytes n) ⌝ }
-{
-    d[at] = (n % 256) as u8;
-    d[at + 1] = (n / 256 % 256) as u8;
-}
-
-fn put32(d: &mut [u8], at: usize, n: u32)
-    requires { ⌜ at + 4 ≤ length (now d) ⌝ }
-    ensures { λ _. ⌜ now (d .exit) ≡ append (now (d .entry)) at (le32Bytes n) ⌝ }
-{
-    d[at] = (n % 256) as u8;
-    d[at + 1] = (n / 256 % 256) as u8;
-    d[at + 2] = (n / 65536 % 256) as u8;
-    d[at + 3] = (n / 16777216 % 256) as u8;
-}
-
-fn put64(d: &mut [u8], at: usize, n: u64)
-    requires { ⌜ at + 8 ≤ length (now d) ⌝ }
-    ensures { λ _. ⌜ now (d .exit) ≡ append (now (d .entry)) at (le64Bytes n) ⌝ }
-{
-    put32(&mut *d, at, (n % 0x1_0000_0000) as u32);
-    put32(&mut *d, at + 4, (n / 0x1_0000_0000) as u32);
-}
-
 fn put_location(d: &mut [u8], at: usize, l: Location)
     requires { ⌜ at + 8 ≤ length (now d) ⌝ }
     ensures { λ _. ⌜ now (d .exit) ≡ append (now (d .entry)) at (locationBytes l) ⌝ }
 {
-    put32(&mut *d, at, l.source);
-    put32(&mut *d, at + 4, l.index);
-}
-
-// A copy of `src` from `at` on.
-fn put_all(d: &mut [u8], at: usize, src: &[u8])
-    requires { ⌜ at + length (now src) ≤ length (now d) ⌝ }
-    ensures { λ _. ⌜ now (d .exit) ≡ append (now (d .entry)) at (now (src .entry)) ⌝ }
-{
-    let mut i: usize = 0;
-    while i < src.len() {
-        d[at + i] = src[i];
-        i = i + 1;
-    }
+    stores::put32(&mut *d, at, l.source);
+    stores::put32(&mut *d, at + 4, l.index);
 }
 
 // The first n words from `at` on.
@@ -101,19 +63,9 @@ pub fn put_words(d: &mut [u8], at: usize, e: EmitInstruction)
     let mut i: usize = 0;
     while i < n {
         let b = words[i];
-        put_four(&mut *d, at + 4 * i, b);
+        stores::put_all(&mut *d, at + 4 * i, &b[..]);
         i = i + 1;
     }
-}
-
-fn put_four(d: &mut [u8], at: usize, b: [u8; 4])
-    requires { ⌜ at + 4 ≤ length (now d) ⌝ }
-    ensures { λ _. ⌜ now (d .exit) ≡ append (now (d .entry)) at b ⌝ }
-{
-    d[at] = b[0];
-    d[at + 1] = b[1];
-    d[at + 2] = b[2];
-    d[at + 3] = b[3];
 }
 
 fn kind_number(kind: InstructionLabelKind) -> u8
@@ -156,16 +108,16 @@ fn put_label(d: &mut [u8], at: usize, tokens: &[u8], label: AddressLabel)
     match label {
         AddressLabel::Constant(value) => {
             d[at] = 0;
-            put64(&mut *d, at + 1, value);
-            put64(&mut *d, at + 9, 0);
+            stores::put64(&mut *d, at + 1, value);
+            stores::put64(&mut *d, at + 9, 0);
         }
         AddressLabel::Label(name) => {
             let location = name.location;
             let offset = name.offset;
             d[at] = 1;
-            put64(&mut *d, at + 1, offset);
+            stores::put64(&mut *d, at + 1, offset);
             put_location(&mut *d, at + 9, location);
-            put_all(&mut *d, at + 17, name_of(tokens, label));
+            stores::put_all(&mut *d, at + 17, name_of(tokens, label));
         }
     }
 }
@@ -187,10 +139,10 @@ fn put_pending(
     let label = waits.label;
     let name = name_of(tokens, label);
     let n = (32 + name.len()) % 0x1_0000;
-    put16(&mut *d, at, n as u16);
-    put16(&mut *d, at + 2, 36);
-    put16(&mut *d, at + 4, region);
-    put32(&mut *d, at + 6, offset);
+    stores::put16(&mut *d, at, n as u16);
+    stores::put16(&mut *d, at + 2, 36);
+    stores::put16(&mut *d, at + 4, region);
+    stores::put32(&mut *d, at + 6, offset);
     put_location(&mut *d, at + 10, location);
     d[at + 18] = kind_number(kind);
     put_label(&mut *d, at + 19, tokens, label);
@@ -271,12 +223,12 @@ pub fn put_breakpoint(d: &mut [u8], at: usize, location: Location, pc: u32, n: u
     requires { ⌜ (n ≤ 5) × (at + 12 + 4 * n ≤ length (now d)) × (pc + 4 * n ≤ 2 ^ 32 + 3) ⌝ }
     ensures { λ _. ⌜ now (d .exit) ≡ append (now (d .entry)) at (breakpointBytes location pc n) ⌝ }
 {
-    put16(&mut *d, at, (8 + 4 * n) as u16);
-    put16(&mut *d, at + 2, 37);
+    stores::put16(&mut *d, at, (8 + 4 * n) as u16);
+    stores::put16(&mut *d, at + 2, 37);
     put_location(&mut *d, at + 4, location);
     let mut i: usize = 0;
     while i < n {
-        put32(&mut *d, at + 12 + 4 * i, pc + 4 * (i as u32));
+        stores::put32(&mut *d, at + 12 + 4 * i, pc + 4 * (i as u32));
         i = i + 1;
     }
 }

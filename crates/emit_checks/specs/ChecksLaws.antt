@@ -24,7 +24,7 @@ use Rattle.descriptors.specs.Descriptors.{descriptorOk, descriptorLayout, descr
 use Rattle.pending.specs.Pendings.{pendingOk}
 use Rattle.breakpoints.specs.Breakpoints.{breakpointOk, filledLayout, pendingBufferLayout, breakpointBufferLayout, regionNumberOk, dataBufferLayout}
 use Rattle.breakpoints.specs.BreakpointsLaws.{data-layout, data-refused, data-good, pending-buffer-good, breakpoint-buffer-good}
-use Rattle.emit_words.specs.declared.InstructionPair.{InstructionPair}
+use Rattle.emit_pairs.specs.declared.InstructionPair.{InstructionPair}
 use Rattle.emit_bytes.specs.AppendedLaws.{breakpoint-length}
 use Rattle.emit_outcome.specs.declared.FillCounts.{FillCounts}
 use Rattle.emit_outcome.specs.Emit.{Call, layoutStop, listStop, regionStop, edgeStop, spaceStop, newPending, roomStop}

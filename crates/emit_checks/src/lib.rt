@@ -40,10 +40,8 @@ fn check_layouts(
     ) {
         return Verdict::Stop(Refusal::BadLayout(3, place as u32));
     }
-    if let Layout::Bad(place) = breakpoints::check_pending_buffer(
-        pending,
-        counts.pending as usize,
-    ) {
+    let kept = counts.pending as usize;
+    if let Layout::Bad(place) = breakpoints::check_pending_buffer(pending, kept) {
         return Verdict::Stop(Refusal::BadLayout(4, place as u32));
     }
     if let Layout::Bad(place) = breakpoints::check_breakpoint_buffer(

@@ -1,16 +1,14 @@
--- What an emit call promises: its answer, position and counts, and every lent byte. Assumes nothing.
+-- What an emit call promises: its answer with the position, its counts, and every lent byte. Assumes nothing.
 use mathlib.Core.Path.{_≡_}
 use mathlib.Core.List.{List}
 use Prim.Native.Nat.{ℕ}
-use Rattle.emit_outcome.specs.declared.EmitAnswer.{EmitAnswer}
 use Rattle.emit_outcome.specs.declared.FillCounts.{FillCounts}
 use Rattle.emit_outcome.specs.declared.Emitted.{Emitted}
-use Rattle.emit_outcome.specs.Emit.{Call, Outcome, emitOutcome}
+use Rattle.emit_outcome.specs.Emit.{Call, Outcome}
 
 -- the outcome, part by part
 pub record EmittedIs (out : Outcome) (r : Emitted) (region-data pending breakpoints : List ℕ) : Type 0 where
   pub answer-is : r .answer ≡ out .answer
-  pub position-is : r .position ≡ out .position
   pub counts-are : r .counts ≡ out .counts
   pub data-is : region-data ≡ out .region-data
   pub pending-is : pending ≡ out .pending

@@ -6,12 +6,11 @@ use Rattle.names.specs.declared.Named.{Named}
 use Rattle.names.specs.declared.Named.the-variants.{At, Missing}
 use Rattle.names.specs.Names.{firstNamed}
 use Rattle.descriptors.specs.Descriptors.{findDescriptor, instructionAt}
-use Rattle.emit_encodings.specs.Lines.{Line}
-use Rattle.emit_encodings.specs.Encodings.{encodingLine}
-use Rattle.emit_pseudo.specs.declared.Pseudo.{Pseudo}
-use Rattle.emit_pseudo.specs.declared.MaybePseudo.{MaybePseudo}
-use Rattle.emit_pseudo.specs.declared.MaybePseudo.the-variants.{Some, Nothing}
-use Rattle.emit_pseudo.specs.Pseudos.{pseudoIn, pseudoOf, pseudoLine}
+use Rattle.emit_lines.specs.Lines.{Line}
+use Rattle.emit_lines.specs.Encodings.{encodingLine}
+use Rattle.pseudo_names.specs.declared.MaybePseudo.{MaybePseudo}
+use Rattle.pseudo_names.specs.declared.MaybePseudo.the-variants.{Some, Nothing}
+use Rattle.pseudo_names.specs.PseudoNames.{pseudoIn, pseudoOf}
 use Rattle.emit_outcome.specs.declared.Meaning.{Meaning}
 use Rattle.emit_outcome.specs.declared.Meaning.the-variants.{Table, Builtin, Neither}
 

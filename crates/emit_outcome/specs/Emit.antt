@@ -1,6 +1,6 @@
 -- A whole emit call: its answer, position, counts and every lent byte, from its inputs (document 01, 'Where the work stops'). Assumes nothing.
 use Prim.Native.Nat.{ℕ, zero, suc, _+_, _*_, _-_, _^_}
-use mathlib.Core.List.{List, [], _∷_}
+use mathlib.Core.List.{List}
 use mathlib.Core.Bool.{Bool, true, false, _&&_}
 use lib.ListN.{length}
 use lib.Dec.{leb, eqb}
@@ -17,15 +17,16 @@ use Rattle.operands.specs.declared.Miss.the-variants.{EndOfFile as NoToken, Exp
 use Rattle.descriptors.specs.Mnemonics.{mnemonicLayout, mnemonicName, mnemonicLocation}
 use Rattle.descriptors.specs.Descriptors.{descriptorLayout, descriptorRepeat}
 use Rattle.breakpoints.specs.Breakpoints.{dataBufferLayout, pendingBufferLayout, breakpointBufferLayout}
-use Rattle.emit_words.specs.declared.InstructionPair.{InstructionPair}
-use Rattle.emit_encodings.specs.declared.LineAnswer.{LineAnswer}
-use Rattle.emit_encodings.specs.declared.LineAnswer.the-variants.{Emitted, Missed, OutOfRange}
-use Rattle.emit_encodings.specs.Lines.{Line}
+use Rattle.emit_pairs.specs.declared.InstructionPair.{InstructionPair}
+use Rattle.emit_lines.specs.declared.LineAnswer.{LineAnswer}
+use Rattle.emit_lines.specs.declared.LineAnswer.the-variants.{Emitted, Missed, OutOfRange}
+use Rattle.emit_lines.specs.Lines.{Line}
 use Rattle.emit_pseudo.specs.Pseudos.{pseudoLine}
 use Rattle.emit_outcome.specs.Dispatch.{meaning, tableLine}
 use Rattle.emit_outcome.specs.declared.Meaning.{Meaning}
 use Rattle.emit_outcome.specs.declared.Meaning.the-variants.{Table, Builtin, Neither}
-use Rattle.emit_bytes.specs.Appended.{wordBytes, pendingsBytes, breakpointBytes, append}
+use Rattle.stores.specs.Stores.{append}
+use Rattle.emit_bytes.specs.Appended.{wordBytes, pendingsBytes, breakpointBytes}
 use Rattle.emit_outcome.specs.declared.FillCounts.{FillCounts}
 use Rattle.emit_outcome.specs.declared.EmitAnswer.{EmitAnswer}
 use Rattle.emit_outcome.specs.declared.EmitAnswer.the-variants.{Done, Refused}
@@ -43,10 +44,9 @@ pub record Call : Type 0 where
   pub region : ℕ
   pub address : ℕ
 
--- its outcome: what is returned, and the three buffers at exit
+-- its outcome: the answer with the position, the counts, and the three buffers at exit
 pub record Outcome : Type 0 where
   pub answer : EmitAnswer
-  pub position : ℕ
   pub counts : FillCounts
   pub region-data : List ℕ
   pub pending : List ℕ
@@ -55,8 +55,7 @@ pub record Outcome : Type 0 where
 -- "Lent bytes and fill counts then remain as at entry"
 abbrev pub refuse : Call → ℕ → Refusal → Outcome
 refuse c position r = record {
-  answer = Refused r;
-  position = position;
+  answer = Refused r position;
   counts = c .counts;
   region-data = c .region-data;
   pending = c .pending;
@@ -127,8 +126,7 @@ roomStop c pairs =
 
 abbrev pub accept : Call → ℕ → List InstructionPair → Outcome
 accept c position pairs = record {
-  answer = Done;
-  position = position;
+  answer = Done position;
   counts = record {
     region = c .counts .region + 4 * length pairs;
     pending = c .counts .pending + length (newPending c pairs);

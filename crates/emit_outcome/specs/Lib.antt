@@ -1,3 +1,4 @@
 pub mod Dispatch
 pub mod Emit
 pub mod Contract
+pub mod RefusedLaws

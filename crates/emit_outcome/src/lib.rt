@@ -1,5 +1,5 @@
 // What an emit call returns, and the definition of its whole outcome. This crate has types and definitions, and no functions.
-use emit_pseudo::Pseudo;
+use pseudo_names::Pseudo;
 use refusal::Refusal;
 
 // The caller's three fill counts.
@@ -9,15 +9,15 @@ pub struct FillCounts {
     pub breakpoints: u32,
 }
 
+// Either with the position at which reading stands then.
 pub enum EmitAnswer {
-    Done,
-    Refused(Refusal),
+    Done(u32),
+    Refused(Refusal, u32),
 }
 
-// An emit call's answer, position and counts.
+// An emit call's answer and counts.
 pub struct Emitted {
     pub answer: EmitAnswer,
-    pub position: u32,
     pub counts: FillCounts,
 }
 

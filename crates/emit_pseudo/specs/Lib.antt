@@ -1,1 +1,2 @@
 pub mod Pseudos
+pub mod PseudosLaws

@@ -1,4 +1,2 @@
 pub mod Words
 pub mod WordsLaws
-pub mod Pairs
-pub mod PairsLaws

@@ -5,7 +5,7 @@ use lib.Bits.{bitOr}
 use Rattle.instructions.specs.declared.Opcode.{Opcode}
 use Rattle.instructions.specs.declared.Size.{Size}
 use Rattle.instructions.specs.Bases.{sizeCode}
-use Rattle.word.specs.Layout.{Fields, layout, immediateLayout, baseFields, withRs, withRt, withRd, withSa}
+use Rattle.word.specs.Layout.{layout, immediateLayout, baseFields, withRs, withRt, withRd, withSa}
 
 -- opcode or function alone: Jump and Parameterless
 abbrev pub baseWord : Opcode → ℕ

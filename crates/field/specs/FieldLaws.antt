@@ -1,11 +1,11 @@
 -- Laws of fields, for every place and width. Assumes nothing.
-use mathlib.Core.Path.{_≡_, refl, sym, ap, ap₂, _∙_, subst}
+use mathlib.Core.Path.{_≡_, sym, ap, ap₂, _∙_, subst}
 use Prim.Native.Nat.{ℕ, _+_, _-_, _*_, _/_, _%_, _^_, _≤_, _<_}
-use native.Mathlib.Nat.{add-comm, add-assoc, add-mul, mul-assoc, mul-comm, zero-add, add-zero, mod-lt, lt-of-lt-of-le, mod-eq-of-lt, div-eq-of-lt, zero-mul}
+use native.Mathlib.Nat.{add-mul, mul-assoc, mul-comm, add-zero, mod-lt, mod-eq-of-lt, div-eq-of-lt, zero-mul}
 use native.Mathlib.Omega.{arith}
 use lib.Arith.{digits-lt}
-use lib.Pow.{pow-pos, pow-add, pow-mono, split, high, low, shr-shr, shl-shr, field, mod-mod-pow, high-ones, ones-split, shr-mod, shr-lt, ones-lt}
-use lib.Bits.{bitAnd, bitOr, and-block, or-block, and-mask, and-zero-r, or-zero-l, or-zero-r, or-lt}
+use lib.Pow.{pow-pos, pow-add, split, high, low, shr-shr, field, mod-mod-pow, shr-lt}
+use lib.Bits.{bitOr, or-block, or-zero-l, or-zero-r}
 use Rattle.field.specs.Field.{getField, clearField, setField, orField}
 
 -- three digits, at 2 ^ off and 2 ^ (off + width)

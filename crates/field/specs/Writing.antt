@@ -1,7 +1,6 @@
 -- Field writing, once for every word, offset, width and value together. Assumes nothing.
-use mathlib.Core.Path.{_≡_, refl, sym, ap, _∙_}
+use mathlib.Core.Path.{_≡_}
 use Prim.Native.Nat.{ℕ, _+_, _/_, _%_, _^_, _≤_, _<_}
-use native.Mathlib.Nat.{mod-lt, mod-eq-of-lt}
 use lib.Bits.{bitOr}
 use Rattle.field.specs.Field.{getField, setField, orField}
 use Rattle.field.specs.FieldLaws.{or-get, or-below, or-above, or-is-set, get-set-same, get-set-below, get-set-above}

@@ -1,11 +1,10 @@
 // What `finish` does (document 01): reads the build's four lists from standard input, builds, and prints the image or the refusal.
 // Both programs above it call this: `finish` on the whole input, `finish_cases` on one case after the other.
 ghost use Prim.Native.Nat.{_≤_};
+use text::input;
 
-mod input;
 mod lines;
 mod output;
-mod text;
 
 // Reads at most `left` bytes, and answers how many of them are left.
 pub fn finish(left: u64) -> u64

@@ -1,10 +1,9 @@
-// A build's outcome on standard output. Lines gather in a buffer, which is written when it has no room for another.
+// A build's outcome on standard output. Lines gather in a buffer, which is written when it has no room for more.
 ghost use mathlib.Core.Path.{_≡_};
-ghost use Prim.Native.Nat.{_+_, _≤_, _<_};
+ghost use Prim.Native.Nat.{_+_, _≤_};
 ghost use lib.ListN.{length};
-ghost use Rattle.regions.specs.Regions.{regionLayout, regionCount};
+ghost use Rattle.regions.specs.Regions.{regionLayout};
 use crate::lines;
-use crate::lines::LONGEST_LINE;
 use libc::STDOUT_FILENO;
 use patch::Built;
 use record::Layout;
@@ -14,7 +13,7 @@ pub(crate) fn print(built: Built, regions: &[u8]) {
     let mut space = io::buffer();
     match built {
         Built::Refused(refusal) => {
-            let end = lines::put_refusal(&mut space, refusal::numbers(refusal));
+            let end = text::output::put_refusal(&mut space, refusal::numbers(refusal));
             io::write_all(STDOUT_FILENO, &space[..end]);
         }
         Built::Entry(entry) => {
@@ -51,7 +50,7 @@ fn print_good_regions(regions: &[u8], out: &mut [u8], at: usize) -> usize
         let address = region.address;
         let start = region.start;
         let data_end = start + region.size;
-        let line_at = room(&mut *out, end);
+        let line_at = text::output::room(&*out, end);
         let data_at = lines::put_region(&mut *out, line_at, number, address);
         end = print_data(&regions[start..data_end], address, &mut *out, data_at);
         number += 1;
@@ -69,7 +68,7 @@ fn print_data(data: &[u8], address: u32, out: &mut [u8], at: usize) -> usize
     let mut end = at;
     let mut i = 0;
     while i + 4 <= data.len() {
-        let line_at = room(&mut *out, end);
+        let line_at = text::output::room(&*out, end);
         let pc = std::num::wrapping_add_u32(address, i as u32);
         end = lines::put_word(&mut *out, line_at, pc, record::word_at(data, i));
         i += 4;
@@ -77,20 +76,18 @@ fn print_data(data: &[u8], address: u32, out: &mut [u8], at: usize) -> usize
     if i == data.len() {
         return end;
     }
-    let line_at = room(&mut *out, end);
+    let line_at = text::output::room(&*out, end);
     let pc = std::num::wrapping_add_u32(address, i as u32);
-    lines::put_part(out, line_at, pc, &data[i..])
+    print_part(out, line_at, pc, &data[i..])
 }
 
-// Where the next line goes. Without room for one the buffer is written first.
-fn room(out: &mut [u8], end: usize) -> usize
-    requires { ⌜ end ≤ length (now out) ⌝ }
-    requires { ⌜ 128 ≤ length (now out) ⌝ }
-    ensures { λ r. ⌜ r + 128 ≤ length (now (out .exit)) ⌝ }
+// A last part word: its bytes in the order of memory.
+fn print_part(out: &mut [u8], at: usize, pc: u32, bytes: &[u8]) -> usize
+    requires { ⌜ at + 128 ≤ length (now out) ⌝ }
+    ensures { λ r. ⌜ r ≤ length (now (out .exit)) ⌝ }
 {
-    if end + LONGEST_LINE <= out.len() {
-        return end;
-    }
-    io::write_all(STDOUT_FILENO, &out[..end]);
-    0
+    let blank_at = text::put_hex(&mut *out, at, pc, 8);
+    let bytes_at = text::put_byte(&mut *out, blank_at, b' ');
+    let end = text::output::print_hex(&mut *out, bytes_at, bytes);
+    text::put_byte(out, end, b'\n')
 }

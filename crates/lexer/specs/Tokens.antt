@@ -1,12 +1,13 @@
 -- Token records, kinds 0 to 15 (document 01, 'Tokens'). Assumes nothing.
-use Prim.Native.Nat.{ℕ, _+_, _-_}
+use Prim.Native.Nat.{ℕ, _+_, _-_, _≤_}
 use mathlib.Core.List.{List, [], _∷_, map}
 use mathlib.Core.Bool.{Bool, true, false, _&&_}
-use lib.ListN.{getD}
+use mathlib.Core.Path.{_≡_}
+use lib.ListN.{length, getD}
 use lib.Dec.{leb, eqb}
 use lib.Ieee.{ofBits, binary64}
 use Rattle.record.specs.Bytes.{byteAt, le64, locationAt, part, isText, all}
-use Rattle.record.specs.Records.{bodyLen, kindAt, whole, places, firstBad, withinLimit}
+use Rattle.record.specs.Records.{bodyLen, kindAt, next, whole, places, firstBad, withinLimit}
 use Rattle.record.specs.declared.Layout.{Layout}
 use Rattle.registers.specs.Slots.{registerOf, fpRegisterOf}
 use Rattle.lexer.specs.declared.Payload.{Payload}
@@ -53,6 +54,16 @@ payloadOk Unknown s at = false
 unfoldable pub tokenOk : List ℕ → ℕ → Bool
 unfolding payloadOf payloadOk
 tokenOk s at = whole s at && (leb 8 (bodyLen s at) && payloadOk (payloadOf (kindAt s at)) s at)
+
+-- what a reader of the record at `at` asks of it: the record is there, and as much of its body as its kind has
+pub record TokenIs (s : List ℕ) (at : ℕ) : Type 0 where
+  pub whole-at : whole s at ≡ true
+  pub head : at + 4 ≤ length s
+  pub body : next s at ≤ length s
+  pub least : 8 ≤ bodyLen s at
+  -- a register has its byte, a number its eight
+  pub slot : (3 ≤ kindAt s at) → (kindAt s at ≤ 4) → 9 ≤ bodyLen s at
+  pub number : (5 ≤ kindAt s at) → (kindAt s at ≤ 6) → 16 ≤ bodyLen s at
 
 unfoldable pub tokenLayout : List ℕ → Layout
 unfolding tokenOk firstBad places withinLimit

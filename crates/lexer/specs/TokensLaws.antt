@@ -8,21 +8,12 @@ use lib.ListN.{length}
 use lib.Dec.{leb, eqb}
 use borrow.Author.Tests.{leb-true, eqb-true, le-leb, lt-leb}
 use Rattle.record.specs.Bytes.{byteAt}
-use Rattle.record.specs.Records.{bodyLen, kindAt, next, whole, places, firstBad, limit}
+use Rattle.record.specs.Records.{bodyLen, kindAt, whole, places, firstBad, limit}
 use Rattle.record.specs.RecordsLaws.{layoutFrom, whole-is, places-all, limit-kept, limit-passed, limit-good}
 use Rattle.record.specs.declared.Layout.the-variants.{Good, Bad}
 use Rattle.lexer.specs.declared.Payload.{Payload}
 use Rattle.lexer.specs.declared.Payload.the-variants.{Slot, Number}
-use Rattle.lexer.specs.Tokens.{payloadLen, payloadOf, payloadOk, tokenOk, tokenLayout}
-
-pub record TokenIs (s : List ℕ) (at : ℕ) : Type 0 where
-  pub whole-at : whole s at ≡ true
-  pub head : at + 4 ≤ length s
-  pub body : next s at ≤ length s
-  pub least : 8 ≤ bodyLen s at
-  -- a register has its byte, a number its eight
-  pub slot : (3 ≤ kindAt s at) → (kindAt s at ≤ 4) → 9 ≤ bodyLen s at
-  pub number : (5 ≤ kindAt s at) → (kindAt s at ≤ 6) → 16 ≤ bodyLen s at
+use Rattle.lexer.specs.Tokens.{TokenIs, payloadLen, payloadOf, payloadOk, tokenOk, tokenLayout}
 
 slot-of : (kind : ℕ) → 3 ≤ kind → kind ≤ 4 → payloadOf kind ≡ Slot
 unfolding payloadOf

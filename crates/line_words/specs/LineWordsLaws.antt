@@ -1,5 +1,5 @@
 -- Laws of the words of a line: how many stand before its last words, one or two more pushed after them, what an offset comes to, and each line from its parts. Assumes nothing.
-use mathlib.Core.Path.{_≡_, refl, sym, ap, _∙_}
+use mathlib.Core.Path.{_≡_, refl, _∙_}
 use mathlib.Core.List.{List, [], _∷_, _++_, append-assoc}
 use mathlib.Core.Bool.{Bool, true, false}
 use Prim.Native.Nat.{ℕ, _+_, _%_, _≤_}
@@ -12,21 +12,21 @@ use Rattle.instructions.specs.declared.Opcode.the-variants.{Func}
 use Rattle.address_label.specs.declared.NamedLabel.{NamedLabel}
 use Rattle.address_label.specs.declared.AddressLabel.{AddressLabel}
 use Rattle.address_label.specs.declared.AddressLabel.the-variants.{Constant, Label}
-use Rattle.emit_words.specs.declared.PairLabel.{PairLabel}
-use Rattle.emit_words.specs.declared.InstructionPair.{InstructionPair}
-use Rattle.emit_words.specs.declared.EmitInstruction.{EmitInstruction}
+use Rattle.emit_pairs.specs.declared.PairLabel.{PairLabel}
+use Rattle.emit_pairs.specs.declared.InstructionPair.{InstructionPair}
+use Rattle.emit_pairs.specs.declared.EmitInstruction.{EmitInstruction}
 use Rattle.emit_words.specs.Words.{registerWord, inputsWord, destinationWord}
-use Rattle.emit_words.specs.Pairs.{EmitIs, plain, atNumber, labelPairs, isImmediate}
-use Rattle.emit_words.specs.PairsLaws.{emit-as, emit-push, load-pairs-length}
+use Rattle.emit_pairs.specs.Pairs.{EmitIs, plain, atNumber, labelPairs, isImmediate}
+use Rattle.emit_pairs.specs.PairsLaws.{emit-as, emit-push, load-pairs-length}
 use Rattle.operands.specs.declared.InstructionValue.{InstructionValue}
 use Rattle.operands.specs.declared.InstructionValue.the-variants.{Slot, Literal}
 use Rattle.assembler_util.specs.declared.OffsetOrLabel.{OffsetOrLabel}
 use Rattle.assembler_util.specs.declared.OffsetOrLabel.the-variants.{Label as LabelOffset, Offset}
-use Rattle.operand_list.specs.declared.Operand.{Operand}
-use Rattle.operand_list.specs.declared.Operand.the-variants.{Value as ValueOperand}
+use Rattle.operand_read.specs.declared.Operand.{Operand}
+use Rattle.operand_read.specs.declared.Operand.the-variants.{Value as ValueOperand}
 use Rattle.operand_list.specs.declared.Operands.{Operands}
-use Rattle.operand_list.specs.OperandLists.{slotIn, valueIn, labelIn}
-use Rattle.line_words.specs.LineWords.{valuePairs, valueNumber, addedPairs, constantPairs, offsetPairs, baseNumber, offsetNumber, baseImmediate, offsetImmediate, registerPairs, inputsPairs, setOpcode, compareWord, branchTo, branchPairs, branchOpcode, branchCustomPairs, turned, setCustomPairs, differencePairs}
+use Rattle.operand_parts.specs.OperandParts.{slotIn, valueIn, labelIn}
+use Rattle.line_words.specs.LineWords.{valuePairs, valueNumber, addedPairs, constantPairs, offsetPairs, baseNumber, offsetNumber, baseImmediate, offsetImmediate, registerPairs, inputsPairs, branchTo, branchPairs}
 
 -- ---- how many words
 
@@ -50,9 +50,6 @@ offset-length (Offset (Constant c) r) = go (isImmediate c)
     go false = added-length (Constant c) r
 offset-length (Offset (Label name) r) = added-length (Label name) r
 offset-length (LabelOffset label) = omega (arith, label-length label atNumber)
-
-pub difference-length : (o : Operands) → length (differencePairs o) ≤ 4
-difference-length o = simp length-append (omega (arith, value-length (valueIn (o .third))))
 
 -- ---- one word pushed, and a second
 
@@ -81,15 +78,6 @@ module _ {o : OffsetOrLabel} {label : AddressLabel} {r : RegisterSlot} (e : o �
 pub base-label : {o : OffsetOrLabel} {label : AddressLabel} → o ≡ LabelOffset label → ComesTo o 0 atNumber (labelPairs label atNumber)
 base-label e = rw e (refl, refl, refl)
 
--- ---- a comparison's word
-
-module _ {op : Opcode} {greater : Bool} (unsigned : Bool) (rd a b : ℕ) (o : op ≡ setOpcode unsigned) where
-  pub compare-greater : greater ≡ true → registerWord op rd b a ≡ compareWord greater unsigned rd a b
-  compare-greater g = ap (λ (x : Opcode). registerWord x rd b a) o ∙ sym (ap (λ (x : Bool). compareWord x unsigned rd a b) g)
-
-  pub compare-less : greater ≡ false → registerWord op rd a b ≡ compareWord greater unsigned rd a b
-  compare-less g = ap (λ (x : Opcode). registerWord x rd a b) o ∙ sym (ap (λ (x : Bool). compareWord x unsigned rd a b) g)
-
 -- ---- a line's words, by what the code has at hand: a value in a register, and the words made of it
 
 module _ (o : Operands) {v : InstructionValue} (slot : RegisterSlot) (n : registerNumber slot ≡ valueNumber v) (e : v ≡ valueIn (o .third))
@@ -98,28 +86,11 @@ module _ (o : Operands) {v : InstructionValue} (slot : RegisterSlot) (n : regist
       → valuePairs v ++ plain w ∷ [] ≡ registerPairs op o
   register-line op h = cc
 
-  pub difference-line : {x : ℕ} → w ≡ registerWord (Func 35) (registerNumber d) (registerNumber s) (registerNumber slot)
-      → x ≡ registerWord (Func 41) (registerNumber d) 0 (registerNumber d)
-      → valuePairs v ++ plain w ∷ plain x ∷ [] ≡ differencePairs o
-  difference-line h k = cc
-
-  pub set-line : (greater result unsigned : Bool) {ts : List InstructionPair}
-      → w ≡ compareWord greater unsigned (registerNumber d) (registerNumber s) (registerNumber slot)
-      → ts ≡ turned result (registerNumber d)
-      → valuePairs v ++ plain w ∷ ts ≡ setCustomPairs greater result unsigned o
-  set-line greater result unsigned h k = cc
-
 module _ (o : Operands) {v : InstructionValue} (slot : RegisterSlot) (n : registerNumber slot ≡ valueNumber v) (e : v ≡ valueIn (o .second))
     {s : RegisterSlot} (p : s ≡ slotIn (o .first)) {label : AddressLabel} (l : label ≡ labelIn (o .third)) {to : PairLabel} (t : to ≡ branchTo label) {w : ℕ} where
   pub branch-line : (op : Opcode) → w ≡ inputsWord op (registerNumber s) (registerNumber slot)
       → valuePairs v ++ (record { word = w; label = to }) ∷ [] ≡ branchPairs op o
   branch-line op h = cc
-
-  pub branch-custom-line : (greater result unsigned : Bool) {op : Opcode} {x : ℕ}
-      → w ≡ compareWord greater unsigned atNumber (registerNumber s) (registerNumber slot)
-      → op ≡ branchOpcode result → x ≡ inputsWord op atNumber 0
-      → valuePairs v ++ plain w ∷ (record { word = x; label = to }) ∷ [] ≡ branchCustomPairs greater result unsigned o
-  branch-custom-line greater result unsigned h b k = cc
 
 pub inputs-line : (op : Opcode) (a b : Operand) (v : InstructionValue) (slot : RegisterSlot) {d s : RegisterSlot} {w x : ℕ} → registerNumber slot ≡ valueNumber v → d ≡ slotIn a → s ≡ slotIn b
     → w ≡ inputsWord op (registerNumber s) (registerNumber slot) → x ≡ destinationWord (Func 18) (registerNumber d)

@@ -1,20 +1,19 @@
 -- Words that load a constant do so: the second half of demand 3. Assumes nothing.
-use mathlib.Core.Path.{_≡_, refl, sym, ap, ap₂, _∙_}
-use mathlib.Core.List.{List, [], _∷_}
-use mathlib.Core.Bool.{Bool, true, false, _||_}
-use Prim.Native.Nat.{ℕ, _+_, _-_, _*_, _/_, _%_, _^_, _<_, _≤_}
+use mathlib.Core.Path.{_≡_, refl, sym, ap, _∙_}
+use mathlib.Core.List.{[], _∷_}
+use mathlib.Core.Bool.{Bool, true, false}
+use Prim.Native.Nat.{ℕ, _+_, _-_, _*_, _%_, _^_, _<_, _≤_}
 use native.Mathlib.Omega.{arith}
 use lib.Bits.{bitOr, or-zero-l, or-shifted}
 use lib.Dec.{leb, ltb, eqb}
 use lib.ListN.{length, getD, set, length-set}
 use lib.Seq.{set-set, getD-set-same, getD-set-other}
-use borrow.Author.Tests.{lt-ltb, le-ltb, ltb-true, ltb-false, leb-true, leb-false, eqb-true, eqb-false, eq-eqb, ne-eqb}
-use Rattle.field.specs.Field.{getField}
+use borrow.Author.Tests.{lt-ltb, le-ltb, ltb-true, leb-true, eqb-true, eqb-false, ne-eqb}
 use Rattle.word.specs.Layout.{immediateLayout}
 use Rattle.word.specs.LayoutLaws.{get-opcode, get-rs, get-rt, get-immediate}
-use Rattle.loading.specs.Load.{low32, upperHalf, lowerHalf, isSmall, addiuWord, luiWord, oriWord, wideWords, loadWords}
+use Rattle.loading.specs.Load.{low32, upperHalf, lowerHalf, isSmall, addiuWord, luiWord, oriWord, loadWords}
 use Rattle.loading.specs.LoadLaws.{small-low, words-small, words-ori, words-lui, words-both}
-use Rattle.loading.specs.Run.{Registers, readRegister, writeRegister, signed16, Outcome, ran, failed, execute, step, run}
+use Rattle.loading.specs.Run.{Registers, readRegister, writeRegister, signed16, ran, execute, step, run}
 
 -- ---- one register
 zero-reads : (g : Registers) → readRegister g 0 ≡ 0

@@ -1,61 +1,35 @@
-// The library to link: a build by the C calling convention, where a slice goes as a pointer and a length.
+// The library to link: a build and a line by the C calling convention, where a slice goes as a pointer and a length.
 ghost use mathlib.Core.Path.{_≡_};
-ghost use mathlib.Core.List.{_++_};
-ghost use Prim.Native.Nat.{_+_, _≤_};
-ghost use lib.ListN.{length, take, drop};
-ghost use Rattle.nazgwern.specs.Answer.{low32, answerWords, le32Bytes, wordBytes, Linked, linkedBuild};
+ghost use Prim.Native.Nat.{_≤_};
+ghost use lib.ListN.{length};
+ghost use Rattle.nazgwern.specs.Answer.{builtWords, lineWords, countsAt, countsAfter, linkedBuild, linkedLine};
+use emit_outcome::EmitAnswer;
+use emit_outcome::FillCounts;
 use patch::Built;
 
-// Number, source, index, a, b and the entry, each four bytes.
+// Number, source, index, a, b and the last, each four bytes.
 const ANSWER_BYTES: usize = 24;
 
-// The number's low 32 bits.
-fn low_word(a: i64) -> u32
-    ensures { λ r. ⌜ r ≡ low32 a ⌝ }
-{
-    let parts = signed::split(a);
-    let low = (parts.size % 0x1_0000_0000) as u32;
-    if parts.negative {
-        0xFFFF_FFFF - low
-    } else {
-        low
-    }
-}
+// The fill counts of the region data, the pending and the breakpoint buffer, each four bytes.
+const COUNTS_BYTES: usize = 12;
 
-// The answer's words.
-fn words_of(built: Built) -> [u32; 6]
-    ensures { λ r. ⌜ r ≡ answerWords built ⌝ }
+// A refused build has no entry.
+fn built_words(built: Built) -> [u32; 6]
+    ensures { λ r. ⌜ r ≡ builtWords built ⌝ }
 {
     match built {
-        Built::Entry(address) => [0, 0, 0, 0, 0, address],
-        Built::Refused(refusal) => {
-            let n = refusal::numbers(refusal);
-            let at = n.location;
-            [n.number, at.source, at.index, low_word(n.a), n.b, 0]
-        }
+        Built::Entry(address) => linked_answer::done_words(address),
+        Built::Refused(refusal) => linked_answer::refusal_words(refusal, 0),
     }
 }
 
-// The four bytes of a word from `at` on, the lowest first.
-fn put32(d: &mut [u8], at: usize, w: u32)
-    requires { ⌜ at + 4 ≤ length (now d) ⌝ }
-    ensures { λ _. ⌜ now (d .exit) ≡ take at (now (d .entry)) ++ le32Bytes w ++ drop (at + 4) (now (d .entry)) ⌝ }
+// A line has a position, refused or not.
+fn line_words(answer: EmitAnswer) -> [u32; 6]
+    ensures { λ r. ⌜ r ≡ lineWords answer ⌝ }
 {
-    d[at] = (w % 256) as u8;
-    d[at + 1] = (w / 256 % 256) as u8;
-    d[at + 2] = (w / 65536 % 256) as u8;
-    d[at + 3] = (w / 16777216 % 256) as u8;
-}
-
-// The words' bytes from the start on.
-fn put_words(d: &mut [u8], words: [u32; 6])
-    requires { ⌜ 24 ≤ length (now d) ⌝ }
-    ensures { λ _. ⌜ now (d .exit) ≡ wordBytes words ++ drop 24 (now (d .entry)) ⌝ }
-{
-    let mut i: usize = 0;
-    while i < 6 {
-        put32(&mut *d, 4 * i, words[i]);
-        i += 1;
+    match answer {
+        EmitAnswer::Done(position) => linked_answer::done_words(position),
+        EmitAnswer::Refused(refusal, position) => linked_answer::refusal_words(refusal, position),
     }
 }
 
@@ -75,7 +49,80 @@ pub extern "C" fn nazgwern_build(
         return 1;
     }
     let built = binary_builder::build(labels, entry, regions, pending);
-    let words = words_of(built);
-    put_words(answer, words);
+    let words = built_words(built);
+    linked_answer::put_words(answer, &words[..]);
+    words[0]
+}
+
+fn counts_at(s: &[u8]) -> FillCounts
+    requires { ⌜ 12 ≤ length (now s) ⌝ }
+    ensures { λ r. ⌜ r ≡ countsAt (now (s .entry)) ⌝ }
+{
+    let region = record::word_at(s, 0);
+    let pending = record::word_at(s, 4);
+    let breakpoints = record::word_at(s, 8);
+    FillCounts {
+        region,
+        pending,
+        breakpoints,
+    }
+}
+
+// The counts of an accepted line; a refused line leaves those that stand there.
+fn put_counts(d: &mut [u8], answer: EmitAnswer, c: FillCounts)
+    requires { ⌜ 12 ≤ length (now d) ⌝ }
+    ensures { λ _. ⌜ now (d .exit) ≡ countsAfter answer c (now (d .entry)) ⌝ }
+{
+    match answer {
+        EmitAnswer::Done(_) => {
+            let words = [c.region, c.pending, c.breakpoints];
+            linked_answer::put_words(d, &words[..]);
+        }
+        EmitAnswer::Refused(_, _) => {}
+    }
+}
+
+// Emits a line into the buffers or refuses it, writes the answer and returns its number: 0 for an accepted line.
+// Where the answer or the counts are too short it returns 1 and changes nothing.
+#[no_mangle]
+pub extern "C" fn nazgwern_do_instruction(
+    tokens: &[u8],
+    mnemonic: &[u8],
+    descriptors: &[u8],
+    data: &mut [u8],
+    pending: &mut [u8],
+    breakpoints: &mut [u8],
+    counts: &mut [u8],
+    position: u32,
+    region: u16,
+    address: u32,
+    answer: &mut [u8],
+) -> u32
+    ensures { λ r. ⌜ linkedLine (now (tokens .entry)) (now (mnemonic .entry)) (now (descriptors .entry)) (now («data» .entry)) (now (pending .entry)) (now (breakpoints .entry)) (now (counts .entry)) position region address (now (answer .entry)) ≡ (record { number = r; region-data = now («data» .exit); pending = now (pending .exit); breakpoints = now (breakpoints .exit); counts = now (counts .exit); answer = now (answer .exit) }) ⌝ }
+{
+    if answer.len() < ANSWER_BYTES {
+        return 1;
+    }
+    if counts.len() < COUNTS_BYTES {
+        return 1;
+    }
+    let c = counts_at(&*counts);
+    let emitted = emit_core::do_instruction(
+        tokens,
+        mnemonic,
+        descriptors,
+        data,
+        pending,
+        breakpoints,
+        position,
+        region,
+        address,
+        c,
+    );
+    let given = emitted.answer;
+    let filled = emitted.counts;
+    let words = line_words(given);
+    put_counts(counts, given, filled);
+    linked_answer::put_words(answer, &words[..]);
     words[0]
 }

@@ -4,6 +4,7 @@ use mathlib.Core.Path.{_≡_}
 use mathlib.Core.List.{List}
 use Rattle.cursor.specs.declared.Cursor.{Cursor}
 use Rattle.cursor.specs.Cursors.{cursorAt}
+use Rattle.cursor.specs.Reads.{Placed}
 use Rattle.operand_list.specs.declared.Operands.{Operands}
 use Rattle.operand_list.specs.declared.OperandsAnswer.{OperandsAnswer}
 use Rattle.operand_list.specs.OperandLists.{Reading}
@@ -13,3 +14,4 @@ pub record OperandsAs (s : List ℕ) (x : Reading) (answer : OperandsAnswer) (op
   pub answer-is : answer ≡ x .answer
   pub operands-are : operands ≡ x .operands
   pub cursor-is : cursor ≡ cursorAt s (x .index)
+  pub placed : Placed s cursor

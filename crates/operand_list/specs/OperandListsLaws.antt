@@ -1,36 +1,31 @@
--- Laws of reading a line's operands: an operand by what is asked for, and a line's operands one after the other. Assumes nothing.
+-- Laws of reading a line's operands, one after the other. Assumes nothing.
 use Prim.Native.Nat.{ℕ}
 use mathlib.Core.Path.{_≡_, refl, ap, _∙_}
 use mathlib.Core.List.{List}
 use Rattle.lexer.specs.declared.Token.{Token}
-use Rattle.lexer.specs.Tokens.{tokens}
 use Rattle.cursor.specs.declared.Cursor.{Cursor}
 use Rattle.cursor.specs.Cursors.{At}
 use Rattle.cursor.specs.CursorsLaws.{cursor-eta}
-use Rattle.cursor.specs.Reads.{Placed, ReadAs}
+use Rattle.cursor.specs.Reads.{Placed}
 use Rattle.operands.specs.declared.Miss.{Miss}
-use Rattle.operand_list.specs.declared.Want.{Want}
-use Rattle.operand_list.specs.declared.Operand.{Operand}
-use Rattle.operand_list.specs.declared.OperandAnswer.{OperandAnswer}
-use Rattle.operand_list.specs.declared.OperandAnswer.the-variants.{Got}
+use Rattle.operand_read.specs.declared.Want.{Want}
+use Rattle.operand_read.specs.declared.Operand.{Operand}
+use Rattle.operand_read.specs.declared.OperandAnswer.{OperandAnswer}
+use Rattle.operand_read.specs.declared.OperandAnswer.the-variants.{Got}
 use Rattle.operand_list.specs.declared.Operands.{Operands}
 use Rattle.operand_list.specs.declared.OperandsAnswer.{OperandsAnswer}
 use Rattle.operand_list.specs.declared.OperandsAnswer.the-variants.{Missed as MissedOne}
 use Rattle.operand_list.specs.Contract.{OperandsAs}
-use Rattle.operand_list.specs.OperandLists.{readOperand, noOperands, Reading, missed, thirdRead, secondRead, firstRead, readOperands}
+use Rattle.operand_read.specs.OperandReads.{readOperand}
+use Rattle.operand_list.specs.OperandLists.{noOperands, Reading, missed, thirdRead, secondRead, firstRead, readOperands}
 
 module _ {s : List ℕ} {x : Reading} {answer : OperandsAnswer} {operands : Operands} {cursor : Cursor} where
   pub operands-as : Placed s cursor → x ≡ record { answer = answer; operands = operands; index = cursor .index } → OperandsAs s x answer operands cursor
-  operands-as p e = rw e (record { answer-is = refl; operands-are = refl; cursor-is = cursor-eta s cursor p })
+  operands-as p e = rw e (record { answer-is = refl; operands-are = refl; cursor-is = cursor-eta s cursor p; placed = p })
 
   pub missed-as : {m : Miss} {behind : Cursor} → (answer ≡ MissedOne m) × (operands ≡ noOperands) × (cursor ≡ behind) → Placed s behind → x ≡ missed m (behind .index)
       → OperandsAs s x answer operands cursor
-  missed-as {m} {behind} g p e = rw e (record { answer-is = g .0; operands-are = g .1; cursor-is = g .2 ∙ cursor-eta s behind p })
-
--- what is read is what was asked for
-pub wanted : {s : List ℕ} {want is : Want} {answer : OperandAnswer} {cursor : Cursor} (i : ℕ) → want ≡ is → ReadAs s (readOperand is (tokens s) i) answer cursor
-    → ReadAs s (readOperand want (tokens s) i) answer cursor
-wanted i e r = rw e r
+  missed-as {m} {behind} g p e = rw e (record { answer-is = g .0; operands-are = g .1; cursor-is = g .2 ∙ cursor-eta s behind p; placed = rw (g .2) p })
 
 -- ---- the operands of a line, by what each place gives
 

@@ -3,17 +3,13 @@ use Prim.Native.Nat.{ℕ, _+_, _-_, _%_, _^_}
 use mathlib.Core.List.{List}
 use mathlib.Core.Bool.{Bool, true, false}
 use lib.Dec.{eqb}
-use Rattle.record.specs.declared.Location.{Location}
-use Rattle.registers.specs.declared.RegisterSlot.{RegisterSlot}
 use Rattle.lexer.specs.declared.Token.{Token}
-use Rattle.lexer.specs.declared.TokenKind.{TokenKind}
 use Rattle.lexer.specs.Tokens.{strip}
 use Rattle.cursor.specs.declared.Seen.{Seen}
 use Rattle.cursor.specs.declared.Seen.the-variants.{Met, End}
-use Rattle.cursor.specs.Cursors.{At, seek, peek, step, nextAdjacent}
+use Rattle.cursor.specs.Cursors.{At, seek, peek, nextAdjacent}
 use Rattle.operands.specs.declared.Miss.{Miss}
 use Rattle.operands.specs.declared.Miss.the-variants.{EndOfFile, ExpectedRegister, ExpectedConstant}
-use Rattle.operands.specs.declared.InstructionValue.{InstructionValue}
 use Rattle.operands.specs.declared.InstructionValue.the-variants.{Slot, Literal}
 use Rattle.operands.specs.declared.RegisterAnswer.{RegisterAnswer}
 use Rattle.operands.specs.declared.RegisterAnswer.the-variants.{Got as GotRegister, Missed as MissedRegister}

@@ -112,7 +112,7 @@ pub fn get_register(s: &[u8], c: Cursor) -> RegisterRead
     requires { ⌜ Placed (now s) c ⌝ }
     ensures { λ r. ⌜ ReadAs (now (s .entry)) (getRegister (tokens (now (s .entry))) (c .index)) (r .answer) (r .cursor) ⌝ }
 {
-    let read = cursor::next_adjacent(s, c);
+    let read = lexer_cursor::next_adjacent(s, c);
     let seen = read.answer;
     let cursor = read.cursor;
     let answer = register_seen(seen);
@@ -138,7 +138,7 @@ pub fn get_fp_register(s: &[u8], c: Cursor) -> FPRegisterRead
     requires { ⌜ Placed (now s) c ⌝ }
     ensures { λ r. ⌜ ReadAs (now (s .entry)) (getFPRegister (tokens (now (s .entry))) (c .index)) (r .answer) (r .cursor) ⌝ }
 {
-    let read = cursor::next_adjacent(s, c);
+    let read = lexer_cursor::next_adjacent(s, c);
     let seen = read.answer;
     let cursor = read.cursor;
     let answer = fp_register_seen(seen);
@@ -165,7 +165,7 @@ pub fn get_cc(s: &[u8], c: Cursor) -> CcRead
     requires { ⌜ Placed (now s) c ⌝ }
     ensures { λ r. ⌜ ReadAs (now (s .entry)) (getCc (tokens (now (s .entry))) (c .index)) (r .answer) (r .cursor) ⌝ }
 {
-    let read = cursor::next_adjacent(s, c);
+    let read = lexer_cursor::next_adjacent(s, c);
     let seen = read.answer;
     let cursor = read.cursor;
     let answer = cc_seen(seen);
@@ -202,7 +202,7 @@ fn signed(minus: bool, s: &[u8], c: Cursor) -> IntegerRead
     requires { ⌜ Placed (now s) c ⌝ }
     ensures { λ r. ⌜ ReadAs (now (s .entry)) (signed minus (tokens (now (s .entry))) (c .index)) (r .answer) (r .cursor) ⌝ }
 {
-    let read = cursor::next_adjacent(s, c);
+    let read = lexer_cursor::next_adjacent(s, c);
     let seen = read.answer;
     let next = read.cursor;
     let nothing = IntegerRead {
@@ -245,7 +245,7 @@ pub fn get_constant(s: &[u8], c: Cursor) -> ConstantRead
     requires { ⌜ Placed (now s) c ⌝ }
     ensures { λ r. ⌜ ReadAs (now (s .entry)) (getConstant (tokens (now (s .entry))) (c .index)) (r .answer) (r .cursor) ⌝ }
 {
-    let read = cursor::next_adjacent(s, c);
+    let read = lexer_cursor::next_adjacent(s, c);
     let seen = read.answer;
     let cursor = read.cursor;
     match seen {
@@ -276,7 +276,7 @@ pub fn get_value(s: &[u8], c: Cursor) -> ValueRead
     requires { ⌜ Placed (now s) c ⌝ }
     ensures { λ r. ⌜ ReadAs (now (s .entry)) (getValue (tokens (now (s .entry))) (c .index)) (r .answer) (r .cursor) ⌝ }
 {
-    let read = cursor::next_adjacent(s, c);
+    let read = lexer_cursor::next_adjacent(s, c);
     let seen = read.answer;
     let cursor = read.cursor;
     match seen {

@@ -1,14 +1,13 @@
 -- A whole build: its answer and every byte of the region list, from the four lists (document 01, 'Where the work stops'). Assumes nothing.
 use Prim.Native.Nat.{ℕ, zero, suc, _+_}
 use mathlib.Core.List.{List, [], _∷_, _++_}
-use mathlib.Core.Bool.{Bool, true, false}
+use mathlib.Core.Bool.{true, false}
 use lib.Dec.{leb, eqb}
 use Rattle.record.specs.Bytes.{le32}
 use Rattle.record.specs.Records.{places}
 use Rattle.record.specs.declared.Location.{Location}
 use Rattle.refusal.specs.Numbers.{zeroLocation}
 use Rattle.refusal.specs.Verdicts.{andThen, firstStop, layoutVerdict, nameVerdict}
-use Rattle.refusal.specs.declared.Refusal.{Refusal}
 use Rattle.refusal.specs.declared.Refusal.the-variants.{UnknownEntry, PatchPastEnd, UnknownLabel, JumpOutOfRange}
 use Rattle.refusal.specs.declared.Verdict.{Verdict}
 use Rattle.refusal.specs.declared.Verdict.the-variants.{Pass, Stop}

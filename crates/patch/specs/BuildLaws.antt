@@ -5,7 +5,6 @@ use mathlib.Core.List.{List, [], _∷_, _++_, List·Memᴰ, List·Memᴰ·head, 
 use mathlib.Core.Logic.{_⊎_, inl, inr}
 use mathlib.Core.Bool.{Bool, true, false}
 use mathlib.Core.Path.{_≡_, refl, sym, ap, _∙_}
-use lib.ListN.{length}
 use lib.Dec.{leb, eqb}
 use borrow.Author.Tests.{leb-true, leb-false, le-leb, lt-leb, eq-eqb, ne-eqb, eqb-true, eqb-false}
 use Rattle.record.specs.Records.{places}
@@ -23,9 +22,9 @@ use Rattle.regions.specs.declared.Region.{Region}
 use Rattle.regions.specs.Regions.{regionLayout, regionCount}
 use Rattle.address_label.specs.Entries.{entryLayout, entryOf}
 use Rattle.pending.specs.declared.Pending.{Pending}
-use Rattle.pending.specs.Pendings.{regionOf, pendingLayout, pendingAt}
-use Rattle.patch.specs.Patches.{destination, pcOf, inRange, regionFor}
-use Rattle.patch.specs.Build.{keep, orderFrom, patchOrder, nameLocation, reachVerdict, pendingVerdict, patchVerdict, entryVerdict, layoutVerdicts, buildVerdict, entryAddress, patchedRegions, outcomeOf, buildOutcome}
+use Rattle.pending.specs.Pendings.{regionOf, pendingLayout}
+use Rattle.patch.specs.Patches.{destination, pcOf, inRange}
+use Rattle.patch.specs.Build.{keep, orderFrom, patchOrder, nameLocation, reachVerdict, pendingVerdict, patchVerdict, entryVerdict, layoutVerdicts, buildVerdict, entryAddress, patchedRegions, buildOutcome}
 use Rattle.patch.specs.declared.Built.the-variants.{Entry as BuiltEntry, Refused}
 
 -- every element passes where the whole list does

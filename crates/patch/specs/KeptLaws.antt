@@ -3,7 +3,7 @@ use Prim.Native.Nat.{ℕ, _+_, _-_, _<_, _≤_}
 use native.Mathlib.Omega.{arith}
 use mathlib.Core.List.{List}
 use mathlib.Core.Bool.{Bool, true, false}
-use mathlib.Core.Logic.{_⊎_, inl, inr, ⊎-elim}
+use mathlib.Core.Logic.{_⊎_, inl, inr}
 use mathlib.Core.Path.{_≡_, refl, sym, ap, _∙_}
 use lib.ListN.{length}
 use lib.Dec.{ltb}
@@ -11,7 +11,6 @@ use borrow.Author.Tests.{ltb-true, ltb-false}
 use Rattle.record.specs.Bytes.{byteAt, le32}
 use Rattle.record.specs.Records.{bodyLen, next, places}
 use Rattle.record.specs.declared.Layout.the-variants.{Good}
-use Rattle.regions.specs.declared.Region.{Region}
 use Rattle.regions.specs.Regions.{regionLayout, regionCount, regionPlace, regionAt}
 use Rattle.regions.specs.RegionsLaws.{RegionIs, region-is, region-place-ok, places-apart, places-kept}
 use Rattle.pending.specs.declared.Pending.{Pending}

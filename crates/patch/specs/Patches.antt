@@ -1,12 +1,11 @@
 -- One patch: its destination, its field, its range, its place (document 01, 'Label 34, region 35, entry 38'). Assumes nothing.
-use Prim.Native.Nat.{ℕ, _+_, _-_, _*_, _/_, _%_, _^_}
+use Prim.Native.Nat.{ℕ, _+_, _-_, _/_, _%_, _^_}
 use mathlib.Core.List.{List}
-use mathlib.Core.Bool.{Bool, true, false, _&&_}
+use mathlib.Core.Bool.{Bool, true, _&&_}
 use lib.ListN.{set}
 use lib.Dec.{leb, eqb}
 use Rattle.field.specs.Field.{setField}
-use Rattle.record.specs.Bytes.{le32, part}
-use Rattle.record.specs.declared.Location.{Location}
+use Rattle.record.specs.Bytes.{part}
 use Rattle.labels.specs.Labels.{resolve}
 use Rattle.labels.specs.declared.Address.{Address}
 use Rattle.labels.specs.declared.Address.the-variants.{Known, Unknown}
@@ -15,7 +14,6 @@ use Rattle.address_label.specs.declared.AddressLabel.the-variants.{Constant, La
 use Rattle.pending.specs.declared.InstructionLabelKind.{InstructionLabelKind}
 use Rattle.pending.specs.declared.InstructionLabelKind.the-variants.{Branch, Jump, Lower, Upper, Full}
 use Rattle.pending.specs.declared.Pending.{Pending}
-use Rattle.pending.specs.Pendings.{pendingAt}
 use Rattle.regions.specs.declared.Region.{Region}
 use Rattle.regions.specs.Regions.{regionPlace, regionAt}
 

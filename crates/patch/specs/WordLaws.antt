@@ -8,7 +8,14 @@ use mathlib.Core.Path.{_≡_, sym, _∙_}
 use lib.ListN.{length, set, length-set}
 use lib.Seq.{getD-set-same, getD-set-other}
 use Rattle.record.specs.Bytes.{le32, byteAt}
+use Rattle.stores.specs.Stores.{le32Bytes, append}
+use Rattle.stores.specs.StoresLaws.{four-stores}
 use Rattle.patch.specs.Patches.{putWord}
+
+-- where there is room, the word's bytes written from i on
+pub put-written : {e : List ℕ} (d : List ℕ) (i w : ℕ) → i + 4 ≤ length d → e ≡ append d i (le32Bytes w) → e ≡ putWord d i w
+unfolding putWord
+put-written d i w h e = e ∙ sym (four-stores d i (w % 256) (w / 256 % 256) (w / 65536 % 256) (w / 16777216 % 256) h)
 
 pub length-put : (d : List ℕ) (i w : ℕ) → length (putWord d i w) ≡ length d
 unfolding putWord

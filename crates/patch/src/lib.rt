@@ -5,7 +5,7 @@ ghost use lib.ListN.{length};
 ghost use Rattle.labels.specs.Labels.{labelLayout};
 ghost use mathlib.Core.Bool.{_&&_};
 ghost use lib.Dec.{leb};
-ghost use Rattle.patch.specs.Patches.{destination, plusOffset, nameEnd, inRange, patchedWord, putWord};
+ghost use Rattle.patch.specs.Patches.{destination, plusOffset, nameEnd, inRange, patchedWord};
 ghost use Rattle.patch.specs.Build.{nameLocation, addressOr, pendingVerdict, writePending};
 use address_label::AddressLabel;
 use labels::Address;
@@ -106,17 +106,6 @@ pub fn add_label(instruction: u32, pc: u32, kind: InstructionLabelKind, destinat
     }
 }
 
-// The four bytes of a word from `i` on, the lowest first.
-fn put_word(d: &mut [u8], i: usize, w: u32)
-    requires { ⌜ i + 4 ≤ length (now d) ⌝ }
-    ensures { λ _. ⌜ now (d .exit) ≡ putWord (now (d .entry)) i w ⌝ }
-{
-    d[i] = (w % 256) as u8;
-    d[i + 1] = (w / 256 % 256) as u8;
-    d[i + 2] = (w / 65536 % 256) as u8;
-    d[i + 3] = (w / 16777216 % 256) as u8;
-}
-
 // The checks of one patch: 14, 15, 16.
 pub fn check_pending(labels: &[u8], pending: &[u8], region: Region, p: Pending) -> Verdict
     requires { ⌜ labelLayout (now labels) ≡ Layout.Good ⌝ }
@@ -165,5 +154,5 @@ pub fn write_pending(labels: &[u8], regions: &mut [u8], pending: &[u8], region: 
     let pc = std::num::wrapping_add_u32(region.address, p.offset);
     let destination = address_or_zero(get_address(label, pending, labels));
     let word = add_label(record::word_at(regions, slot), pc, kind, destination);
-    put_word(regions, slot, word);
+    stores::put32(regions, slot, word);
 }

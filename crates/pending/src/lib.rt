@@ -2,8 +2,7 @@
 ghost use mathlib.Core.Path.{_≡_};
 ghost use Prim.Native.Nat.{_≤_};
 ghost use lib.ListN.{length};
-ghost use Rattle.pending.specs.Pendings.{pendingOk, pendingLayout, kindFrom, pendingAt};
-ghost use Rattle.pending.specs.PendingsLaws.{PendingIs};
+ghost use Rattle.pending.specs.Pendings.{pendingOk, PendingIs, pendingLayout, kindFrom, pendingAt};
 use address_label::AddressLabel;
 use record::Layout;
 use record::Location;

@@ -5,8 +5,6 @@ use mathlib.Core.List.{List}
 use Prim.Native.Nat.{ℕ}
 use Rattle.record.specs.Records.{places}
 use Rattle.address_label.specs.Entries.{entryOf}
-use Rattle.patch.specs.declared.Built.{Built}
-use Rattle.patch.specs.declared.Built.the-variants.{Entry}
 use Rattle.patch.specs.Build.{buildOutcome, entryAddress}
 use Rattle.patch.specs.BuildLaws.{outcome-accepted}
 use Rattle.reading.specs.Reading.{imageOf, readings, destinations}

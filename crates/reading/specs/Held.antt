@@ -1,5 +1,5 @@
 -- After the patches of an accepted build, the region list holds each patch's field. Assumes nothing.
-use Prim.Native.Nat.{ℕ, _+_, _-_, _/_, _%_, _^_, _<_, _≤_}
+use Prim.Native.Nat.{ℕ, _+_, _-_, _%_, _^_, _<_, _≤_}
 use native.Mathlib.Omega.{arith}
 use native.Mathlib.Nat.{mod-lt}
 use mathlib.Core.List.{List, [], _∷_, List·Memᴰ, List·Memᴰ·head, List·Memᴰ·tail, List·Memᴰ·cases-cons}
@@ -14,7 +14,6 @@ use Rattle.record.specs.Bytes.{le32}
 use Rattle.record.specs.Records.{places, firstBad}
 use Rattle.record.specs.RecordsLaws.{first-good}
 use Rattle.record.specs.declared.Layout.the-variants.{Good}
-use Rattle.refusal.specs.declared.Verdict.the-variants.{Pass}
 use Rattle.labels.specs.declared.Address.the-variants.{Known}
 use Rattle.regions.specs.Regions.{regionCount, regionPlace}
 use Rattle.pending.specs.declared.Pending.{Pending}
@@ -22,9 +21,9 @@ use Rattle.pending.specs.Pendings.{pendingOk, pendingAt}
 use Rattle.pending.specs.PendingsLaws.{pending-region, pending-good}
 use Rattle.patch.specs.Patches.{destination, pcOf, fieldWidth, fieldValue, patchedWord, putWord, regionFor, slotOf, inRange}
 use Rattle.patch.specs.PatchesLaws.{low-width, patched-field, destination-lt}
-use Rattle.patch.specs.WordLaws.{length-put, read-same, read-other}
+use Rattle.patch.specs.WordLaws.{read-same, read-other}
 use Rattle.patch.specs.KeptLaws.{InData, in-data, data-apart, Kept, kept-first, kept-put}
-use Rattle.patch.specs.Build.{patchOrder, buildVerdict, patchVerdict, addressOr, writePending, writePatches, patchedRegions}
+use Rattle.patch.specs.Build.{patchOrder, patchVerdict, addressOr, writePending, writePatches, patchedRegions}
 use Rattle.patch.specs.BuildLaws.{Reached, reached, Accepted, accepted-is, each-pass, in-order, ordered-in}
 use Rattle.reading.specs.Premises.{In, Premises, destinationAt, pcAt}
 

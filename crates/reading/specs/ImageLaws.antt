@@ -4,7 +4,7 @@ use native.Mathlib.Omega.{arith}
 use native.Mathlib.Nat.{add-assoc}
 use mathlib.Core.List.{List, [], _∷_, map}
 use mathlib.Core.Path.{_≡_, refl, sym, ap, _∙_}
-use lib.ListN.{length, getD, take, drop}
+use lib.ListN.{length, getD}
 use lib.Seq.{getD-take, getD-drop}
 use Rattle.record.specs.Bytes.{byteAt, le32, part}
 use Rattle.record.specs.Records.{bodyLen, places}

@@ -1,16 +1,12 @@
 -- What the tender asks beforehand: the premises of reading back. Assumes nothing.
-use Prim.Native.Nat.{ℕ, _+_, _-_, _*_, _/_, _%_, _≤_}
+use Prim.Native.Nat.{ℕ, _+_, _-_, _/_, _%_, _≤_}
 use mathlib.Core.Path.{_≡_}
 use mathlib.Core.List.{List, List·Memᴰ}
 use mathlib.Core.Logic.{_⊎_}
 use Rattle.record.specs.Bytes.{byteAt, le64, part}
 use Rattle.record.specs.Records.{bodyLen, places}
 use Rattle.refusal.specs.declared.Verdict.the-variants.{Pass}
-use Rattle.labels.specs.declared.Address.{Address}
-use Rattle.labels.specs.declared.Address.the-variants.{Known}
-use Rattle.pending.specs.declared.InstructionLabelKind.{InstructionLabelKind}
 use Rattle.pending.specs.declared.InstructionLabelKind.the-variants.{Branch, Jump, Lower, Upper}
-use Rattle.pending.specs.declared.Pending.{Pending}
 use Rattle.pending.specs.Pendings.{pendingAt}
 use Rattle.patch.specs.Patches.{destination, after, pcOf, regionFor}
 use Rattle.patch.specs.Build.{buildVerdict, addressOr}

@@ -1,6 +1,6 @@
 -- Reading back: in the image of an accepted build, under the tender's premises, the readings of the whole pending list are its
 -- destinations. Assumes nothing.
-use Prim.Native.Nat.{ℕ, _+_, _-_, _*_, _/_, _%_, _^_, _<_, _≤_}
+use Prim.Native.Nat.{ℕ, _+_, _-_, _*_, _/_, _%_, _^_, _<_}
 use native.Mathlib.Omega.{arith}
 use native.Mathlib.Nat.{mod-eq-of-lt}
 use mathlib.Core.List.{List, [], _∷_, map, List·Memᴰ, List·Memᴰ·head, List·Memᴰ·tail}
@@ -16,16 +16,15 @@ use Rattle.address_label.specs.AddressLabels.{addressLabelAt}
 use Rattle.address_label.specs.AddressLabelsLaws.{at-constant, at-named}
 use Rattle.pending.specs.declared.InstructionLabelKind.{InstructionLabelKind}
 use Rattle.pending.specs.declared.InstructionLabelKind.the-variants.{Branch, Jump, Lower, Upper, Full}
-use Rattle.pending.specs.declared.Pending.{Pending}
 use Rattle.pending.specs.Pendings.{pendingAt, labelOf}
 use Rattle.labels.specs.Labels.{resolve}
-use Rattle.patch.specs.Patches.{destination, plusOffset, wrap32, after, pcOf, fieldWidth, fieldValue, regionFor, slotOf, inRange}
+use Rattle.patch.specs.Patches.{destination, plusOffset, wrap32, after, fieldWidth, fieldValue, slotOf, inRange}
 use Rattle.patch.specs.PatchesLaws.{jump-page}
 use Rattle.patch.specs.Build.{addressOr, patchedRegions}
-use Rattle.reading.specs.Reading.{Image, imageOf, pcIn, wordIn, half, signedBytes, readBy, reading, readings, destinations}
+use Rattle.reading.specs.Reading.{imageOf, pcIn, wordIn, half, signedBytes, readBy, reading, readings, destinations}
 use Rattle.reading.specs.Premises.{In, Premises, Pair, SameTarget, destinationAt, pcAt}
 use Rattle.reading.specs.Arithmetic.{branch-reads, jump-reads, halves-read}
-use Rattle.reading.specs.Held.{Holds, has-region, reaches, known, dest-lt, in-range, finished-kept, finished-holds}
+use Rattle.reading.specs.Held.{has-region, reaches, known, dest-lt, in-range, finished-kept, finished-holds}
 use Rattle.reading.specs.ImageLaws.{image-word, image-pc}
 
 map-same : {f g : ℕ → Address} (ps : List ℕ) → ((p : ℕ) → List·Memᴰ p ps → f p ≡ g p) → map f ps ≡ map g ps

@@ -1,7 +1,7 @@
 -- The finished image, and document 01's MIPS32 reading of each patch in it. Assumes nothing.
 use Prim.Native.Nat.{ℕ, _+_, _-_, _*_, _/_, _%_, _^_}
-use mathlib.Core.List.{List, [], _∷_, map}
-use mathlib.Core.Bool.{Bool, true, false}
+use mathlib.Core.List.{List, [], map}
+use mathlib.Core.Bool.{true, false}
 use lib.ListN.{getD}
 use lib.Dec.{ltb}
 use Rattle.record.specs.Bytes.{le32, part}

@@ -6,7 +6,7 @@ use mathlib.Core.List.{List, [], _∷_, map, List·Memᴰ, List·Memᴰ·cases-c
 use mathlib.Core.Logic.{_⊎_, inl, inr, ⊎-elim}
 use mathlib.Core.Path.{_≡_, refl, sym, ap, _∙_}
 use lib.ListN.{length}
-use Rattle.record.specs.Bytes.{byteAt, le32, le64, part}
+use Rattle.record.specs.Bytes.{byteAt, le32, le64}
 use Rattle.record.specs.Records.{bodyLen, next, places}
 use Rattle.names.specs.Names.{firstNamed}
 use Rattle.names.specs.declared.Named.{Named}
@@ -18,11 +18,10 @@ use Rattle.refusal.specs.declared.Verdict.the-variants.{Pass}
 use Rattle.address_label.specs.AddressLabels.{addressLabelAt}
 use Rattle.address_label.specs.Entries.{entryOf}
 use Rattle.address_label.specs.EntriesLaws.{entry-good}
-use Rattle.address_label.specs.declared.AddressLabel.{AddressLabel}
 use Rattle.pending.specs.Pendings.{pendingAt, labelOf}
-use Rattle.patch.specs.Patches.{destination, plusOffset, wrap32}
-use Rattle.patch.specs.Build.{patchedRegions, entryAddress, addressOr, reachEntry, entryVerdict}
-use Rattle.patch.specs.BuildLaws.{Accepted, accepted-is}
+use Rattle.patch.specs.Patches.{destination, plusOffset}
+use Rattle.patch.specs.Build.{patchedRegions, entryAddress, addressOr, reachEntry}
+use Rattle.patch.specs.BuildLaws.{accepted-is}
 use Rattle.reading.specs.Reading.{imageOf, readings, destinations}
 use Rattle.reading.specs.Premises.{In, Premises}
 use Rattle.reading.specs.Used.{Bytes, pendingName, entryName, SameUsed}

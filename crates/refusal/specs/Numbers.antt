@@ -1,6 +1,6 @@
 -- What each refusal returns (document 01, 'Where the work stops'). Assumes nothing.
 use Prim.Native.Nat.{ℕ}
-use lib.IntN.{ℤ, pos, negsuc}
+use lib.IntN.{pos, negsuc}
 use Rattle.record.specs.declared.Location.{Location}
 use Rattle.refusal.specs.declared.Numbered.{Numbered}
 use Rattle.refusal.specs.declared.Refusal.{Refusal}

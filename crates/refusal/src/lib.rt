@@ -1,6 +1,6 @@
 // The refusals and what document 01 returns for each: a number, a location and two numbers.
 ghost use mathlib.Core.Path.{_≡_};
-ghost use lib.IntN.{ℤ, pos};
+ghost use lib.IntN.{pos};
 ghost use Rattle.refusal.specs.Numbers.{numbered};
 use record::Location;
 

@@ -1,5 +1,5 @@
 -- A register's number is below 32: it fits a field of five bits. Assumes nothing.
-use Prim.Native.Nat.{ℕ, _<_}
+use Prim.Native.Nat.{_<_}
 use lib.Dec.{lit<}
 use Rattle.registers.specs.declared.RegisterSlot.{RegisterSlot}
 use Rattle.registers.specs.declared.RegisterSlot.the-variants.{Zero, AssemblerTemporary, Value0, Value1, Parameter0, Parameter1, Parameter2, Parameter3, Temporary0, Temporary1, Temporary2, Temporary3, Temporary4, Temporary5, Temporary6, Temporary7, Saved0, Saved1, Saved2, Saved3, Saved4, Saved5, Saved6, Saved7, Temporary8, Temporary9, Kernel0, Kernel1, GeneralPointer, StackPointer, FramePointer, ReturnAddress}

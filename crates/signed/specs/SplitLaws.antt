@@ -8,7 +8,7 @@ use lib.IntN.{ℤ, pos, negsuc, natAbs, _-ℤ_}
 use lib.Signed.{ltZ, nonNeg}
 use borrow.Author.Tests.{ltb-true, le-ltb}
 use mir.Syntax.{w64}
-use mir.Val.{Fits, SFits}
+use mir.Val.{SFits}
 use Rattle.signed.specs.Split.{isNegative, size}
 
 pub small : (z : ℤ) → SFits w64 z → size z < 2 ^ 63

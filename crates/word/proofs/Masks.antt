@@ -1,10 +1,10 @@
 -- What the mask of `with_field` keeps, for every place and width. Assumes nothing.
-use mathlib.Core.Path.{_≡_, refl, sym, ap, ap₂, _∙_, subst}
+use mathlib.Core.Path.{_≡_, sym, ap, ap₂, _∙_, subst}
 use Prim.Native.Nat.{ℕ, _+_, _-_, _*_, _/_, _%_, _^_, _≤_, _<_}
-use native.Mathlib.Nat.{add-assoc, add-mul, one-mul, add-zero, mod-lt, mod-eq-of-lt}
+use native.Mathlib.Nat.{add-mul, one-mul, add-zero, mod-lt, mod-eq-of-lt}
 use native.Mathlib.Omega.{arith}
 use lib.Dec.{lit<}
-use lib.Pow.{pow-pos, ones-lt, ones-split, shl-exact, shl-lt, split, shr-shr, shr-lt}
+use lib.Pow.{pow-pos, ones-lt, ones-split, shl-exact, split, shr-shr, shr-lt}
 use lib.Bits.{bitAnd, and-block, and-mask, and-zero-r}
 use Rattle.field.specs.Field.{clearField}
 use Rattle.field.specs.FieldLaws.{clear-three, three}

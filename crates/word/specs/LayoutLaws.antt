@@ -1,14 +1,14 @@
 -- Writing a field of a laid-out word is replacing that field; reading one gives it. Assumes nothing.
-use mathlib.Core.Path.{_≡_, refl, sym, ap, _∙_}
+use mathlib.Core.Path.{_≡_, ap, _∙_}
 use Prim.Native.Nat.{ℕ, _+_, _*_, _/_, _%_, _^_, _<_}
 use native.Mathlib.Omega.{arith}
 use lib.Bits.{bitOr, or-block, or-zero-r}
 use Rattle.field.specs.Field.{getField, setField, orField}
-use Rattle.field.specs.FieldLaws.{or-spill, or-is-set}
+use Rattle.field.specs.FieldLaws.{or-spill}
 use Rattle.instructions.specs.declared.Opcode.{Opcode}
 use Rattle.instructions.specs.declared.Opcode.the-variants.{Op, Func, Special, Algebra, Cop1, Cop1I}
 use Rattle.instructions.specs.Bases.{instructionBase}
-use Rattle.word.specs.Layout.{Fields, layout, immediateLayout, jumpLayout, baseFields, withRs, withRt, withRd, withSa}
+use Rattle.word.specs.Layout.{Fields, layout, immediateLayout, baseFields, withRs, withRt, withRd, withSa}
 
 -- each field holds a number of its width
 pub record Fits (f : Fields) : Type 0 where

@@ -1,6 +1,6 @@
 // A word under construction and the methods that put its fields in (the top of emit.rs).
 ghost use mathlib.Core.Path.{_≡_};
-ghost use Prim.Native.Nat.{ℕ, _+_, _*_, _^_, _≤_, _<_};
+ghost use Prim.Native.Nat.{_+_, _*_, _^_, _≤_, _<_};
 ghost use Rattle.field.specs.Field.{setField, orField};
 ghost use Rattle.registers.specs.Numbers.{registerNumber, fpRegisterNumber};
 ghost use Rattle.instructions.specs.Bases.{instructionBase, sizeCode};

@@ -3,7 +3,7 @@ use Prim.Native.Nat.{ℕ, _-_, _*_, _≤_}
 use native.Mathlib.Omega.{arith}
 use mathlib.Core.Path.{_≡_, refl, ap, _∙_}
 use lib.ListN.{length-map, take}
-use Rattle.emit_words.specs.Pairs.{plain}
+use Rattle.emit_pairs.specs.Pairs.{plain}
 use Rattle.emit_bytes.specs.Appended.{pendingsLen}
 use Rattle.emit_bytes.specs.AppendedLaws.{sizes-next}
 use Rattle.emit_bytes.proofs.pendings_size.Statement.{statement}

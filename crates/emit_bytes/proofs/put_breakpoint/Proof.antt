@@ -4,8 +4,10 @@ use native.Mathlib.Omega.{arith}
 use mathlib.Core.Path.{_≡_, refl, sym, ap, _∙_}
 use mathlib.Core.List.{_++_, List}
 use lib.ListN.{length}
-use Rattle.emit_bytes.specs.Appended.{append, pcsBytes, le16Bytes, le32Bytes, locationBytes}
-use Rattle.emit_bytes.specs.AppendedLaws.{append-none, append-then, pcs-next, pcs-length}
+use Rattle.stores.specs.Stores.{append, le16Bytes, le32Bytes}
+use Rattle.emit_bytes.specs.Appended.{pcsBytes, locationBytes}
+use Rattle.stores.specs.StoresLaws.{append-none, append-then}
+use Rattle.emit_bytes.specs.AppendedLaws.{pcs-next, pcs-length}
 use Rattle.emit_bytes.proofs.put_breakpoint.Statement.{statement}
 use Rattle.emit_bytes.proofs.put_breakpoint.Tie as tie
 

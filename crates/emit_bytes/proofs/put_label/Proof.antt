@@ -6,7 +6,7 @@ use mathlib.Core.List.{[], _∷_}
 use lib.ListN.{length, length-set}
 use borrow.Author.Needs.{needs}
 use Rattle.emit_bytes.specs.Appended.{nameBytes}
-use Rattle.emit_bytes.specs.AppendedLaws.{append-then, one-store}
+use Rattle.stores.specs.StoresLaws.{append-then, one-store}
 use Rattle.emit_bytes.proofs.put_label.Statement.{statement}
 use Rattle.emit_bytes.proofs.put_label.Tie as tie
 

@@ -1,6 +1,6 @@
 -- `put_location` meets its contract: its two appends follow each other. Assumes nothing.
 use native.Mathlib.Omega.{arith}
-use Rattle.emit_bytes.specs.AppendedLaws.{append-then}
+use Rattle.stores.specs.StoresLaws.{append-then}
 use Rattle.emit_bytes.proofs.put_location.Statement.{statement}
 use Rattle.emit_bytes.proofs.put_location.Tie as tie
 

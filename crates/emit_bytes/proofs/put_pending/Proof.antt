@@ -4,8 +4,10 @@ use native.Mathlib.Omega.{arith}
 use mathlib.Core.Path.{_≡_, ap, ap₂, _∙_}
 use mathlib.Core.List.{List, _∷_, _++_}
 use lib.ListN.{length, length-set}
-use Rattle.emit_bytes.specs.Appended.{append, le16Bytes, le32Bytes, locationBytes, kindNumber, labelBytes}
-use Rattle.emit_bytes.specs.AppendedLaws.{append-then, one-store, label-length, low-bytes}
+use Rattle.stores.specs.Stores.{append, le16Bytes, le32Bytes}
+use Rattle.emit_bytes.specs.Appended.{locationBytes, kindNumber, labelBytes}
+use Rattle.stores.specs.StoresLaws.{append-then, one-store}
+use Rattle.emit_bytes.specs.AppendedLaws.{label-length, low-bytes}
 use Rattle.emit_bytes.proofs.put_pending.Statement.{statement}
 use Rattle.emit_bytes.proofs.put_pending.Tie as tie
 

@@ -5,11 +5,13 @@ use mathlib.Core.Path.{_≡_, refl, sym, ap, _∙_}
 use mathlib.Core.List.{append-nil}
 use lib.ListN.{length, take, getD, length-map}
 use borrow.Author.Needs.{needs}
-use Rattle.emit_words.specs.Pairs.{plain}
-use Rattle.emit_words.specs.declared.PairLabel.{PairLabel}
-use Rattle.emit_words.specs.declared.PairLabel.the-variants.{Nothing, Some}
-use Rattle.emit_bytes.specs.Appended.{append, pairLen, pendingsLen, pendingBytes, pendingsBytes}
-use Rattle.emit_bytes.specs.AppendedLaws.{append-none, append-then, pending-length, pendings-length, pendings-next, sizes-next, sizes-room}
+use Rattle.emit_pairs.specs.Pairs.{plain}
+use Rattle.emit_pairs.specs.declared.PairLabel.{PairLabel}
+use Rattle.emit_pairs.specs.declared.PairLabel.the-variants.{Nothing, Some}
+use Rattle.stores.specs.Stores.{append}
+use Rattle.emit_bytes.specs.Appended.{pairLen, pendingsLen, pendingBytes, pendingsBytes}
+use Rattle.stores.specs.StoresLaws.{append-none, append-then}
+use Rattle.emit_bytes.specs.AppendedLaws.{pending-length, pendings-length, pendings-next, sizes-next, sizes-room}
 use Rattle.emit_bytes.proofs.put_pendings.Statement.{statement}
 use Rattle.emit_bytes.proofs.put_pendings.Tie as tie
 

@@ -3,9 +3,9 @@ use mathlib.Core.Path.{_≡_, ap}
 use mathlib.Core.List.{map}
 use lib.ListN.{length-map, length, getD}
 use borrow.Author.Needs.{needs}
-use Rattle.emit_words.specs.Pairs.{plain}
-use Rattle.emit_words.specs.declared.InstructionPair.{InstructionPair}
-use Rattle.emit_bytes.specs.Appended.{le32Bytes}
+use Rattle.emit_pairs.specs.Pairs.{plain}
+use Rattle.emit_pairs.specs.declared.InstructionPair.{InstructionPair}
+use Rattle.stores.specs.Stores.{le32Bytes}
 use Rattle.emit_bytes.proofs.Lists.{tab, spelled}
 use Rattle.emit_bytes.proofs.words_of.Statement.{statement}
 use Rattle.emit_bytes.proofs.words_of.Tie as tie

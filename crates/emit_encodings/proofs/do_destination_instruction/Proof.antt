@@ -1,37 +1,10 @@
-use Rattle.emit_encodings.specs.LinesLaws.{line-as}
-use Rattle.emit_encodings.specs.Encodings.{destinationLine}
+-- `do_destination_instruction` meets its contract: one register, and one word. Assumes nothing.
+use Rattle.emit_lines.specs.LinesLaws.{line-as}
+use Rattle.emit_lines.specs.Encodings.{destinationLine}
 use borrow.Author.Needs.{needs}
 use Rattle.emit_encodings.proofs.do_destination_instruction.Statement.{statement}
 use Rattle.emit_encodings.proofs.do_destination_instruction.Tie as tie
-use Rattle.emit_encodings.proofs.do_destination_instruction.Reads as reads
-use Rattle.emit_encodings.proofs.do_destination_instruction.Lts as lts
-use Rattle.emit_encodings.proofs.line_of.Reads as line-of-reads
-use Rattle.emit_words.proofs.destination_word.Reads as destination-word-reads
-use Rattle.emit_words.proofs.with.Reads as with-reads
-use Rattle.operand_list.proofs.read_operands.Reads as read-operands-reads
-use Rattle.operand_list.proofs.slot_in.Reads as slot-in-reads
 
--- src/lib.rt:100:9
-read-operands-requires : tie.Need-read-operands-requires
-read-operands-requires c κs = search needs
-
--- src/lib.rt:103:49
-slot-in-requires : tie.Need-slot-in-requires
-slot-in-requires c κs = search needs
-
--- src/lib.rt:103:9
-destination-word-requires : tie.Need-destination-word-requires
-destination-word-requires c κs = search needs
-
--- src/lib.rt:104:19
-with-requires : tie.Need-with-requires
-with-requires c κs = search needs
-
--- src/lib.rt:104:5
-line-of-requires : tie.Need-line-of-requires
-line-of-requires c κs = search needs
-
--- src/lib.rt:96:1
 returns : tie.Need-returns
 unfolding destinationLine
 returns c =
@@ -42,9 +15,9 @@ pub do-destination-instruction-spec : {M : Type 1} → statement M
 do-destination-instruction-spec =
     tie.close
     (tie.spec
-    read-operands-requires
-    slot-in-requires
-    destination-word-requires
-    with-requires
-    line-of-requires
+    (λ c κs. search needs)
+    (λ c κs. search needs)
+    (λ c κs. search needs)
+    (λ c κs. search needs)
+    (λ c κs. search needs)
     returns)

@@ -6,8 +6,8 @@ use mathlib.Core.Bool.{true}
 use lib.ListN.{length}
 use borrow.Author.Tests.{not-true, not-false}
 use Rattle.record.specs.RecordsLaws.{layoutFrom, layout-end, layout-bad, layout-next}
-use Rattle.lexer.specs.Tokens.{tokenOk, tokenLayout}
-use Rattle.lexer.specs.TokensLaws.{TokenIs, token-is, token-kept, token-passed}
+use Rattle.lexer.specs.Tokens.{tokenOk, TokenIs, tokenLayout}
+use Rattle.lexer.specs.TokensLaws.{token-is, token-kept, token-passed}
 use borrow.Author.Needs.{needs}
 use Rattle.lexer.proofs.first_bad_token.Statement.{statement}
 use Rattle.lexer.proofs.first_bad_token.Tie as tie

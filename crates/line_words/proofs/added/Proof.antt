@@ -1,8 +1,8 @@
 -- The word that adds stands behind the at most two that load the label. Assumes nothing.
 use mathlib.Core.Path.{refl}
 use native.Mathlib.Omega.{arith}
-use Rattle.emit_words.specs.Pairs.{atNumber, plain}
-use Rattle.emit_words.specs.PairsLaws.{emit-as, emit-push}
+use Rattle.emit_pairs.specs.Pairs.{atNumber, plain}
+use Rattle.emit_pairs.specs.PairsLaws.{emit-as, emit-push}
 use Rattle.line_words.specs.LineWordsLaws.{label-length}
 use borrow.Author.Needs.{needs}
 use Rattle.line_words.proofs.added.Statement.{statement}

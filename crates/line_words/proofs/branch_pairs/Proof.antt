@@ -1,6 +1,6 @@
 -- The branch stands behind the at most two words that load the second operand. Assumes nothing.
 use native.Mathlib.Omega.{arith}
-use Rattle.emit_words.specs.PairsLaws.{emit-as, emit-push}
+use Rattle.emit_pairs.specs.PairsLaws.{emit-as, emit-push}
 use Rattle.line_words.specs.LineWordsLaws.{value-length, branch-line}
 use borrow.Author.Needs.{needs}
 use Rattle.line_words.proofs.branch_pairs.Statement.{statement}

@@ -2,10 +2,10 @@
 use mathlib.Core.Path.{_≡_, refl, sym, ap, _∙_}
 use mathlib.Core.List.{[], _∷_}
 use Rattle.emit_words.specs.Words.{inputsWord}
-use Rattle.emit_words.specs.Pairs.{EmitIs, plain}
-use Rattle.emit_words.specs.PairsLaws.{emit-as}
-use Rattle.operand_list.specs.declared.Operand.{Operand}
-use Rattle.operand_list.specs.OperandLists.{number}
+use Rattle.emit_pairs.specs.Pairs.{EmitIs, plain}
+use Rattle.emit_pairs.specs.PairsLaws.{emit-as}
+use Rattle.operand_read.specs.declared.Operand.{Operand}
+use Rattle.operand_parts.specs.OperandParts.{number}
 use Rattle.line_words.specs.LineWords.{inputsPairs}
 use borrow.Author.Needs.{needs}
 use Rattle.line_words.proofs.inputs_pairs.Statement.{statement}

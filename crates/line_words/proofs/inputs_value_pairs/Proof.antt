@@ -1,7 +1,7 @@
 -- The operation and mflo stand behind the at most two words that load the last operand. Assumes nothing.
 use native.Mathlib.Omega.{arith}
-use Rattle.emit_words.specs.Pairs.{plain}
-use Rattle.emit_words.specs.PairsLaws.{emit-as}
+use Rattle.emit_pairs.specs.Pairs.{plain}
+use Rattle.emit_pairs.specs.PairsLaws.{emit-as}
 use Rattle.line_words.specs.LineWordsLaws.{value-length, count-one, emit-two, inputs-line}
 use borrow.Author.Needs.{needs}
 use Rattle.line_words.proofs.inputs_value_pairs.Statement.{statement}

@@ -1,6 +1,6 @@
 -- Each arm is one of the cases that an offset comes to. Assumes nothing.
 use mathlib.Core.Path.{sym, _∙_}
-use Rattle.emit_words.specs.PairsLaws.{emit-as}
+use Rattle.emit_pairs.specs.PairsLaws.{emit-as}
 use Rattle.line_words.specs.LineWordsLaws.{base-kept, base-added, base-named, base-label}
 use borrow.Author.Needs.{needs}
 use Rattle.line_words.proofs.make_offset_or_label.Statement.{statement}

@@ -1,7 +1,7 @@
 -- The word stands behind the at most three that make the base register. Assumes nothing.
 use native.Mathlib.Omega.{arith}
-use Rattle.emit_words.specs.Pairs.{plain}
-use Rattle.emit_words.specs.PairsLaws.{emit-as, emit-push}
+use Rattle.emit_pairs.specs.Pairs.{plain}
+use Rattle.emit_pairs.specs.PairsLaws.{emit-as, emit-push}
 use Rattle.line_words.specs.LineWordsLaws.{offset-length}
 use borrow.Author.Needs.{needs}
 use Rattle.line_words.proofs.offset_pairs.Statement.{statement}

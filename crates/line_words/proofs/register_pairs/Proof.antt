@@ -1,7 +1,7 @@
 -- The word stands behind the at most two that load the last operand. Assumes nothing.
 use native.Mathlib.Omega.{arith}
-use Rattle.emit_words.specs.Pairs.{plain}
-use Rattle.emit_words.specs.PairsLaws.{emit-as, emit-push}
+use Rattle.emit_pairs.specs.Pairs.{plain}
+use Rattle.emit_pairs.specs.PairsLaws.{emit-as, emit-push}
 use Rattle.line_words.specs.LineWordsLaws.{value-length, register-line}
 use borrow.Author.Needs.{needs}
 use Rattle.line_words.proofs.register_pairs.Statement.{statement}

@@ -1,6 +1,6 @@
 -- A register takes no word; a number is loaded into $at. Assumes nothing.
 use mathlib.Core.Path.{sym, ap}
-use Rattle.emit_words.specs.PairsLaws.{emit-as}
+use Rattle.emit_pairs.specs.PairsLaws.{emit-as}
 use Rattle.line_words.specs.LineWords.{valuePairs, valueNumber}
 use borrow.Author.Needs.{needs}
 use Rattle.line_words.proofs.unpack_value.Statement.{statement}

@@ -1,6 +1,5 @@
 -- `immediate_word` meets its contract: the chain of methods lays the immediate format out. Assumes nothing.
 use mathlib.Core.Path.{_≡_, _∙_}
-use Prim.Native.Nat.{ℕ}
 use borrow.Author.Needs.{needs}
 use Rattle.field.specs.Field.{setField}
 use Rattle.registers.specs.Numbers.{registerNumber}

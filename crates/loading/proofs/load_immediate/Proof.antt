@@ -7,7 +7,7 @@ use native.Mathlib.Omega.{arith}
 use borrow.Author.Needs.{needs}
 use Rattle.registers.specs.Numbers.{registerNumber}
 use Rattle.registers.specs.NumberLaws.{register-lt}
-use Rattle.loading.specs.Load.{low32, upperHalf, lowerHalf, addiuWord, luiWord, oriWord, loadWords}
+use Rattle.loading.specs.Load.{low32, upperHalf}
 use Rattle.loading.specs.LoadLaws.{small-low, small-high, not-small, words-small, words-ori, words-lui, words-both}
 use Rattle.loading.specs.Contract.{one-loaded, two-loaded}
 use Rattle.loading.proofs.load_immediate.Statement.{statement}

@@ -1,4 +1,4 @@
--- A short answer is tested first; else the build's outcome is written as its words. Assumes nothing.
+-- `nazgwern_build` meets its contract: a short answer is tested first; else the build's outcome is written as its words. Assumes nothing.
 use native.Mathlib.Omega.{arith}
 use borrow.Author.Needs.{needs}
 use Rattle.nazgwern.specs.AnswerLaws.{linked-short, linked-answered}
@@ -10,8 +10,8 @@ returns c = linked-short _ _ _ _ _ (omega arith)
 
 returns-2 : tie.Need-returns-2
 returns-2 c =
-    let b = c .before .before .before .before .before .before .before .build .ensures in
-    linked-answered _ _ _ _ _ _ _ _ _ (omega arith) (b .answer-is) (b .bytes-are) (c .before .before .before .before .words-of .ensures) (c .before .before .put-words .ensures)
+    let b = c .before .before .before .before .before .before .before .before .build .ensures in
+    linked-answered _ _ _ _ _ _ _ _ _ (omega arith) (b .answer-is) (b .bytes-are) (c .before .before .before .before .before .built-words .ensures) (c .before .before .put-words .ensures)
 
 pub nazgwern-build-spec : {M : Type 1} → statement M
 nazgwern-build-spec =
@@ -20,6 +20,7 @@ nazgwern-build-spec =
     returns
     (λ c κs. search needs)
     (λ c κs. search needs)
+    (λ c. search needs)
     (λ c κs. search needs)
     (λ c. search needs)
     (λ c. search needs)

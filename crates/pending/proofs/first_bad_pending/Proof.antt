@@ -6,8 +6,8 @@ use mathlib.Core.Bool.{true}
 use lib.ListN.{length}
 use borrow.Author.Tests.{not-true, not-false}
 use Rattle.record.specs.RecordsLaws.{layoutFrom, layout-end, layout-bad, layout-next}
-use Rattle.pending.specs.Pendings.{pendingOk, pendingLayout}
-use Rattle.pending.specs.PendingsLaws.{PendingIs, pending-is, pending-kept, pending-passed}
+use Rattle.pending.specs.Pendings.{pendingOk, PendingIs, pendingLayout}
+use Rattle.pending.specs.PendingsLaws.{pending-is, pending-kept, pending-passed}
 use borrow.Author.Needs.{needs}
 use Rattle.pending.proofs.first_bad_pending.Statement.{statement}
 use Rattle.pending.proofs.first_bad_pending.Tie as tie

@@ -5,7 +5,6 @@ use native.Mathlib.Omega.{arith}
 use borrow.Author.Needs.{needs}
 use mir.Syntax.{w64}
 use mir.Facts.{toZ-pos}
-use Rattle.refusal.specs.declared.Numbered.{Numbered}
 use Rattle.refusal.proofs.with.Statement.{statement}
 use Rattle.refusal.proofs.with.Tie as tie
 

@@ -1,6 +1,6 @@
 -- Four texts, each behind the one before. Assumes nothing.
 use borrow.Author.Needs.{needs}
-use Rattle.image_text.specs.TextLaws.{put-then}
+use Rattle.text.specs.TextLaws.{put-then}
 use Rattle.image_text.proofs.lines.put_word.Statement.{statement}
 use Rattle.image_text.proofs.lines.put_word.Tie as tie
 

@@ -25,7 +25,7 @@ turn c =
 
 print-data-requires : tie.Need-print-data-requires Inv-loop μ-loop
 print-data-requires c κs =
-    let t = turn (c .before .before .before .before .before .before .before .before .before .before .before) in
+    let t = turn (c .before .before .before .before .before .before .before .before .before) in
     (simp (length-take, length-drop) (omega arith), (search needs, search needs))
 
 pub print-good-regions-spec : {M : Type 1} → statement M
@@ -42,7 +42,7 @@ print-good-regions-spec =
     (λ c κs. search needs)
     (λ c. search needs)
     (λ c. search needs)
-    (λ c. let t = turn (c .before .before .before .before .before .before .before .before .before) in search needs)
+    (λ c. let t = turn (c .before .before .before .before .before .before .before) in search needs)
     print-data-requires
     (λ c. search needs)
     (λ c. search needs)

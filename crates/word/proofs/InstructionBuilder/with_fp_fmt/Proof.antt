@@ -1,6 +1,4 @@
 -- `with_fp_fmt` meets its contract: a format's code fits a field of five bits. Assumes nothing.
-use Prim.Native.Nat.{_<_}
-use native.Mathlib.Omega.{arith}
 use borrow.Author.Needs.{needs}
 use Rattle.instructions.specs.BaseLaws.{size-lt}
 use Rattle.word.proofs.InstructionBuilder.with_fp_fmt.Statement.{statement}

@@ -1,6 +1,4 @@
 -- `with_fp_slot_offset` meets its contract: a float register's number fits a field of five bits. Assumes nothing.
-use Prim.Native.Nat.{_<_}
-use native.Mathlib.Omega.{arith}
 use borrow.Author.Needs.{needs}
 use Rattle.registers.specs.NumberLaws.{fp-register-lt}
 use Rattle.word.proofs.InstructionBuilder.with_fp_slot_offset.Statement.{statement}

@@ -1,10 +1,9 @@
 -- `with_number_offset` meets its contract: a number below 32 fits the field of five bits. Assumes nothing.
 use mathlib.Core.Path.{_∙_}
-use Prim.Native.Nat.{_+_, _^_, _*_, _<_}
+use Prim.Native.Nat.{_+_}
 use native.Mathlib.Nat.{lt-of-lt-of-le}
 use native.Mathlib.Omega.{arith}
 use lib.Pow.{shl-lt, pow-mono}
-use borrow.Author.Needs.{needs}
 use Rattle.field.specs.FieldLaws.{or-is-set}
 use Rattle.word.proofs.InstructionBuilder.with_number_offset.Statement.{statement}
 use Rattle.word.proofs.InstructionBuilder.with_number_offset.Tie as tie

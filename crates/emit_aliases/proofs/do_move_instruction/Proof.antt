@@ -1,0 +1,24 @@
+-- `do_move_instruction` meets its contract: two registers, and one word. Assumes nothing.
+use Rattle.emit_lines.specs.LinesLaws.{line-as}
+use borrow.Author.Needs.{needs}
+use Rattle.emit_pseudo.specs.Pseudos.{pseudoLine}
+use Rattle.emit_aliases.proofs.do_move_instruction.Statement.{statement}
+use Rattle.emit_aliases.proofs.do_move_instruction.Tie as tie
+
+returns : tie.Need-returns
+unfolding pseudoLine
+returns c =
+    line-as (c .before .before .before .before .before .before .read-operands .ensures) (c .before .with .ensures) (c .line-of .ensures)
+    (rw (c .before .before .register-word .ensures, c .before .before .before .slot-in2 .ensures, c .before .before .before .before .slot-in .ensures, c .before .before .before .before .before .before .read-operands .ensures .operands-are))
+
+pub do-move-instruction-spec : {M : Type 1} → statement M
+do-move-instruction-spec =
+    tie.close
+    (tie.spec
+    (λ c κs. search needs)
+    (λ c κs. search needs)
+    (λ c κs. search needs)
+    (λ c κs. search needs)
+    (λ c κs. search needs)
+    (λ c κs. search needs)
+    returns)

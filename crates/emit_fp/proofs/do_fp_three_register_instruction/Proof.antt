@@ -1,0 +1,25 @@
+-- `do_fp_three_register_instruction` meets its contract: three float registers, and one word. Assumes nothing.
+use Rattle.emit_lines.specs.LinesLaws.{line-as}
+use Rattle.emit_lines.specs.Encodings.{fp3RegisterLine}
+use borrow.Author.Needs.{needs}
+use Rattle.emit_fp.proofs.do_fp_three_register_instruction.Statement.{statement}
+use Rattle.emit_fp.proofs.do_fp_three_register_instruction.Tie as tie
+
+returns : tie.Need-returns
+unfolding fp3RegisterLine
+returns c =
+    line-as (c .before .before .before .before .before .before .before .read-operands .ensures) (c .before .with .ensures) (c .line-of .ensures)
+    (rw (c .before .before .fp-3-register-word .ensures, c .before .before .before .fp-slot-in3 .ensures, c .before .before .before .before .fp-slot-in2 .ensures, c .before .before .before .before .before .fp-slot-in .ensures, c .before .before .before .before .before .before .before .read-operands .ensures .operands-are))
+
+pub do-fp-three-register-instruction-spec : {M : Type 1} → statement M
+do-fp-three-register-instruction-spec =
+    tie.close
+    (tie.spec
+    (λ c κs. search needs)
+    (λ c κs. search needs)
+    (λ c κs. search needs)
+    (λ c κs. search needs)
+    (λ c κs. search needs)
+    (λ c κs. search needs)
+    (λ c κs. search needs)
+    returns)

@@ -1,0 +1,15 @@
+// What `emit_line` prints for each case of standard input (vectors/make_lines).
+use text::cases;
+
+fn main() {
+    let mut number = 0;
+    while number < cases::MOST && run_case(number) {
+        number += 1;
+    }
+}
+
+// Whether there was a case and no byte of it is left.
+fn run_case(number: u64) -> bool {
+    let case = cases::start(number);
+    case.there && line_text::emit_line(case.length) == 0
+}

@@ -1,0 +1,23 @@
+-- `do_abs_instruction` meets its contract: two registers, and the words of `abs_pairs`. Assumes nothing.
+use Rattle.emit_lines.specs.LinesLaws.{line-as}
+use borrow.Author.Needs.{needs}
+use Rattle.emit_pseudo.specs.Pseudos.{pseudoLine}
+use Rattle.emit_pseudo.proofs.do_abs_instruction.Statement.{statement}
+use Rattle.emit_pseudo.proofs.do_abs_instruction.Tie as tie
+
+returns : tie.Need-returns
+unfolding pseudoLine
+returns c =
+    line-as (c .before .before .before .before .before .read-operands .ensures) (c .before .abs-pairs .ensures) (c .line-of .ensures)
+    (rw (c .before .before .slot-in2 .ensures, c .before .before .before .slot-in .ensures, c .before .before .before .before .before .read-operands .ensures .operands-are))
+
+pub do-abs-instruction-spec : {M : Type 1} → statement M
+do-abs-instruction-spec =
+    tie.close
+    (tie.spec
+    (λ c κs. search needs)
+    (λ c κs. search needs)
+    (λ c κs. search needs)
+    (λ c κs. search needs)
+    (λ c κs. search needs)
+    returns)

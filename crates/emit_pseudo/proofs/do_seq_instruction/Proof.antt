@@ -1,0 +1,17 @@
+-- `do_seq_instruction` meets its contract: two registers and a value, and the words of `seq_pairs`. Assumes nothing.
+use Rattle.emit_lines.specs.LinesLaws.{line-as}
+use borrow.Author.Needs.{needs}
+use Rattle.emit_pseudo.specs.Pseudos.{pseudoLine}
+use Rattle.emit_pseudo.proofs.do_seq_instruction.Statement.{statement}
+use Rattle.emit_pseudo.proofs.do_seq_instruction.Tie as tie
+
+returns : tie.Need-returns
+unfolding pseudoLine
+returns c =
+    line-as (c .before .before .before .read-operands .ensures) (c .before .seq-pairs .ensures) (c .line-of .ensures)
+    (rw (c .before .before .before .read-operands .ensures .operands-are))
+
+pub do-seq-instruction-spec : {M : Type 1} → statement M
+do-seq-instruction-spec =
+    tie.close
+    (tie.spec (λ c κs. search needs) (λ c κs. search needs) (λ c κs. search needs) returns)

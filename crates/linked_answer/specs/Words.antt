@@ -1,0 +1,28 @@
+-- The answer of a linked call as words and bytes. Assumes nothing.
+use Prim.Native.Nat.{ℕ, _-_, _%_, _^_}
+use mathlib.Core.List.{List, [], _∷_, _++_}
+use lib.IntN.{ℤ, pos, negsuc}
+use lib.ListN.{getD}
+use Rattle.stores.specs.Stores.{le32Bytes}
+use Rattle.refusal.specs.declared.Numbered.{Numbered}
+
+-- a number's low 32 bits; negsuc n is -1 - n
+unfoldable pub low32 : ℤ → ℕ
+low32 (pos n) = n % 2 ^ 32
+low32 (negsuc n) = 2 ^ 32 - 1 - n % 2 ^ 32
+
+-- ---- an answer's six words: number, source, index, a, b, and the last, which is a build's entry or a line's position
+abbrev pub doneWords : ℕ → List ℕ
+doneWords last = 0 ∷ 0 ∷ 0 ∷ 0 ∷ 0 ∷ last ∷ []
+
+abbrev pub refusalWords : Numbered → ℕ → List ℕ
+refusalWords n last = n .number ∷ n .location .source ∷ n .location .index ∷ low32 (n .a) ∷ n .b ∷ last ∷ []
+
+-- the number, which the call returns too
+abbrev pub numberOf : List ℕ → ℕ
+numberOf words = getD words 0 0
+
+-- words as bytes
+unfoldable pub wordBytes : List ℕ → List ℕ
+wordBytes [] = []
+wordBytes (w ∷ ws) = le32Bytes w ++ wordBytes ws

@@ -1,0 +1,49 @@
+// The answer of a linked call: six words, and their bytes.
+ghost use mathlib.Core.Path.{_≡_};
+ghost use Prim.Native.Nat.{_*_, _≤_};
+ghost use lib.ListN.{length};
+ghost use Rattle.stores.specs.Stores.{append};
+ghost use Rattle.refusal.specs.Numbers.{numbered};
+ghost use Rattle.linked_answer.specs.Words.{low32, doneWords, refusalWords, wordBytes};
+use refusal::Refusal;
+
+// The number's low 32 bits.
+fn low_word(a: i64) -> u32
+    ensures { λ r. ⌜ r ≡ low32 a ⌝ }
+{
+    let parts = signed::split(a);
+    let low = (parts.size % 0x1_0000_0000) as u32;
+    if parts.negative {
+        0xFFFF_FFFF - low
+    } else {
+        low
+    }
+}
+
+// The words of what is done.
+pub fn done_words(last: u32) -> [u32; 6]
+    ensures { λ r. ⌜ r ≡ doneWords last ⌝ }
+{
+    [0, 0, 0, 0, 0, last]
+}
+
+// The words of a refusal.
+pub fn refusal_words(refusal: Refusal, last: u32) -> [u32; 6]
+    ensures { λ r. ⌜ r ≡ refusalWords (numbered refusal) last ⌝ }
+{
+    let n = refusal::numbers(refusal);
+    let at = n.location;
+    [n.number, at.source, at.index, low_word(n.a), n.b, last]
+}
+
+// The words' bytes from the start on.
+pub fn put_words(d: &mut [u8], words: &[u32])
+    requires { ⌜ 4 * length (now words) ≤ length (now d) ⌝ }
+    ensures { λ _. ⌜ now (d .exit) ≡ append (now (d .entry)) 0 (wordBytes (now (words .entry))) ⌝ }
+{
+    let mut i: usize = 0;
+    while i < words.len() {
+        stores::put32(&mut *d, 4 * i, words[i]);
+        i += 1;
+    }
+}

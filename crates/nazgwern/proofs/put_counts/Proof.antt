@@ -1,0 +1,27 @@
+-- `put_counts` meets its contract: each arm is the definition's clause. Assumes nothing.
+use mathlib.Core.Path.{sym, ap, _∙_}
+use borrow.Author.Needs.{needs}
+use Rattle.emit_outcome.specs.declared.EmitAnswer.{EmitAnswer}
+use Rattle.nazgwern.specs.Answer.{countsAfter}
+use Rattle.nazgwern.proofs.put_counts.Statement.{statement}
+use Rattle.nazgwern.proofs.put_counts.Tie as tie
+
+returns : tie.Need-returns
+returns c =
+    let a = c .before .before .before .before .before .before .before .before .args in
+    c .before .before .put-words .ensures ∙ sym (ap (λ (x : EmitAnswer). countsAfter x (a .c) (a .d .now)) (c .before .before .before .before .before .enum-told .given .1))
+
+returns-2 : tie.Need-returns-2
+returns-2 c = search needs
+
+pub put-counts-spec : {M : Type 1} → statement M
+put-counts-spec =
+    tie.close
+    (tie.spec
+    (λ c. search needs)
+    (λ c. search needs)
+    (λ c κs. search needs)
+    (λ c. search needs)
+    (λ c. search needs)
+    returns
+    returns-2)

@@ -1,0 +1,2 @@
+pub mod OperandReads
+pub mod OperandReadsLaws

@@ -1,0 +1,2 @@
+pub mod PseudoNames
+pub mod PseudoNamesLaws

@@ -1,0 +1,2 @@
+pub mod PseudoWords
+pub mod PseudoWordsLaws

@@ -1,0 +1,352 @@
+/* Measures the greatest stack that a call of each entry takes. Each call runs on a painted stack,
+   and what it takes reaches from the frame of the function that makes the call, so arguments and
+   return address count, down to the lowest word that has lost its paint.
+
+   Stack goes by the branches that a call takes and not by the length of its lists, so the lists
+   are short and the calls are many: each encoding and each pseudo-instruction with every line of
+   up to four operands, each patch, and each refusal. */
+#define _XOPEN_SOURCE 700
+#include "nazgwern.h"
+
+#include <stdbool.h>
+#include <stdio.h>
+#include <stdlib.h>
+#include <string.h>
+#include <ucontext.h>
+
+#define PAINT UINT64_C(0xa5a5a5a5a5a5a5a5)
+
+enum { ENCODINGS = 21, PSEUDOS = 29, OFFSET = 13 };
+enum { NEAR = 0x00400000, FAR = 0x10500000 };
+
+static const char *const pseudos[PSEUDOS + 1] = {
+    "nop", "abs", "blt", "bgt", "ble", "bge", "bltu", "bgtu", "bleu", "bgeu", "sge", "sgt", "sle",
+    "sgeu", "sgtu", "sleu", "beqz", "bnez", "seq", "sne", "neg", "negu", "not", "li", "la", "move",
+    "b", "subi", "subiu", "neither",
+};
+
+struct list {
+    size_t length;
+    uint8_t bytes[1024];
+};
+
+/* The arguments of the call that is measured. */
+static struct list tokens, mnemonic, descriptors, data, pending, breakpoints;
+static struct list labels, entry, regions;
+static uint8_t counts[NAZGWERN_COUNTS_BYTES], filled[NAZGWERN_COUNTS_BYTES];
+static uint8_t answer[NAZGWERN_ANSWER_BYTES];
+static size_t counts_length = sizeof counts, answer_length = sizeof answer;
+static uint16_t region;
+static uint32_t address, number;
+
+static uint64_t area[2048];
+static uint8_t *frame;
+static size_t greatest, calls;
+static bool seen[17];
+
+static void do_instruction(void)
+{
+    frame = __builtin_frame_address(0);
+    number = nazgwern_do_instruction(
+        tokens.bytes, tokens.length, mnemonic.bytes, mnemonic.length, descriptors.bytes,
+        descriptors.length, data.bytes, data.length, pending.bytes, pending.length,
+        breakpoints.bytes, breakpoints.length, counts, counts_length, 0, region, address,
+        answer, answer_length);
+}
+
+static void build(void)
+{
+    frame = __builtin_frame_address(0);
+    number = nazgwern_build(labels.bytes, labels.length, entry.bytes, entry.length, regions.bytes,
+                            regions.length, pending.bytes, pending.length, answer, answer_length);
+}
+
+/* Runs the call on a freshly painted stack. */
+static void run(void (*call)(void))
+{
+    static ucontext_t here, there;
+
+    for (size_t i = 0; i < sizeof area / sizeof *area; i++)
+        area[i] = PAINT;
+    getcontext(&there);
+    there.uc_stack.ss_sp = area;
+    there.uc_stack.ss_size = sizeof area;
+    there.uc_link = &here;
+    makecontext(&there, call, 0);
+    swapcontext(&here, &there);
+}
+
+static void measure(void (*call)(void))
+{
+    size_t word = 0;
+
+    memcpy(counts, filled, sizeof counts);
+    run(call);
+    while (area[word] == PAINT)
+        word++;
+    if (word == 0 || number > 16) {
+        printf("no room on the painted stack, or no such answer\n");
+        exit(1);
+    }
+
+    size_t taken = (size_t)(frame - (uint8_t *)&area[word]);
+    greatest = taken > greatest ? taken : greatest;
+    seen[number] = true;
+    calls++;
+}
+
+static void report(const char *name)
+{
+    printf("%s: %zu bytes; %zu calls, answers", name, greatest, calls);
+    for (int i = 0; i <= 16; i++)
+        if (seen[i])
+            printf(" %d", i);
+    printf("\n");
+    memset(seen, 0, sizeof seen);
+    greatest = calls = 0;
+}
+
+static void put(struct list *list, uint64_t value, size_t size)
+{
+    for (; size > 0; size--) {
+        list->bytes[list->length++] = value & 0xff;
+        value >>= 8;
+    }
+}
+
+static void put_text(struct list *list, const char *text)
+{
+    for (; *text != 0; text++)
+        put(list, (uint8_t)*text, 1);
+}
+
+static void put_head(struct list *list, size_t length, uint16_t kind)
+{
+    put(list, length, 2);
+    put(list, kind, 2);
+}
+
+static void token(uint16_t kind, uint64_t payload, size_t size)
+{
+    put_head(&tokens, 8 + size, kind);
+    put(&tokens, 0, 8);
+    put(&tokens, payload, size);
+}
+
+/* One operand or a part of one, after a comma. */
+static void operand(char letter)
+{
+    token(11, 0, 0);
+    switch (letter) {
+    case 'r': token(3, 8, 1); break;
+    case 'f': token(4, 8, 1); break;
+    case 'n': token(5, 0x12345678, 8); break;
+    case 'i': token(5, 4, 8); break;
+    case 's': token(8, 'x', 1); break;
+    case 'p': token(8, 'x', 1), token(9, 0, 0), token(5, 4, 8); break;
+    case 'm': token(10, 0, 0), token(5, 4, 8); break;
+    case 'b': token(14, 0, 0), token(3, 9, 1), token(15, 0, 0); break;
+    case 'o': token(14, 0, 0), token(3, 9, 1); break;
+    case '(': token(14, 0, 0); break;
+    case '-': token(10, 0, 0); break;
+    }
+}
+
+/* A descriptor of this encoding; `more` sets the flag or gives the alternative that it may have. */
+static void descriptor(uint8_t encoding, bool more)
+{
+    bool sized = encoding >= 15 && encoding <= 18;
+    bool flagged = encoding == 17 || encoding == 19 || encoding == 20;
+
+    put_head(&descriptors, 8 + 1, 33);
+    put(&descriptors, encoding % 6, 1);
+    put(&descriptors, 35, 1);
+    put(&descriptors, encoding, 1);
+    put(&descriptors, sized ? encoding % 3 : 0, 1);
+    put(&descriptors, flagged && more, 1);
+    put(&descriptors, encoding == 7 && more ? 0x210101 : 0, 3); /* present, Func 33 */
+    put_text(&descriptors, "t");
+}
+
+static void named(const char *name)
+{
+    mnemonic.length = 0;
+    put_head(&mnemonic, 8 + strlen(name), 32);
+    put(&mnemonic, 0, 8);
+    put_text(&mnemonic, name);
+}
+
+static void line(const char *operands)
+{
+    tokens.length = 0;
+    for (; *operands != 0; operands++)
+        operand(*operands);
+    measure(do_instruction);
+}
+
+/* Every line that goes on from these operands, four at most. */
+static void lines(char operands[5], size_t length)
+{
+    line(operands);
+    if (length == 4)
+        return;
+    for (const char *letter = "rfnispmbo(-"; *letter != 0; letter++) {
+        operands[length] = *letter;
+        lines(operands, length + 1);
+        operands[length] = 0;
+    }
+}
+
+/* The call with the list's first record of another kind, and with the list cut short. */
+static void damaged(struct list *list, void (*call)(void))
+{
+    list->bytes[2] ^= 0x40;
+    measure(call);
+    list->bytes[2] ^= 0x40;
+    list->length--;
+    measure(call);
+    list->length++;
+}
+
+static void all_lines(void)
+{
+    char operands[5] = "";
+
+    for (int encoding = 0; encoding < ENCODINGS; encoding++)
+        for (int more = 0; more < 2; more++) {
+            descriptors.length = 0;
+            descriptor((uint8_t)encoding, more == 1);
+            lines(operands, 0);
+        }
+    for (int pseudo = 0; pseudo <= PSEUDOS; pseudo++) {
+        named(pseudos[pseudo]);
+        lines(operands, 0);
+    }
+}
+
+/* Refusals 1, 2 and 10 to 12, and an answer and counts that are too short. */
+static void refused_lines(void)
+{
+    struct list *const buffers[] = {&data, &pending, &breakpoints};
+    struct list *const lists[] = {&tokens, &mnemonic, &descriptors, &pending, &breakpoints};
+
+    named("t");
+    descriptors.length = 0;
+    descriptor(OFFSET, false);
+    line("rsb");
+    for (int i = 0; i < 5; i++)
+        damaged(lists[i], do_instruction);
+    for (int i = 0; i < 3; i++)
+        for (uint8_t less = 0; less < 2; less++) {
+            size_t length = buffers[i]->length;
+            buffers[i]->length = (size_t)filled[4 * i] - less;
+            measure(do_instruction);
+            buffers[i]->length = length;
+        }
+    region = 16;
+    measure(do_instruction);
+    region = NAZGWERN_NO_REGION;
+    measure(do_instruction);
+    region = 0;
+    address = 0xffffffff;
+    measure(do_instruction);
+    answer_length--;
+    measure(do_instruction);
+    answer_length++;
+    counts_length--;
+    measure(do_instruction);
+    counts_length++;
+    descriptor(OFFSET, false);
+    measure(do_instruction);
+}
+
+/* Form 0 is a constant, 1 the label x, and 2 here a name that no label has. */
+static void reference(struct list *list, int form, uint32_t destination)
+{
+    put(list, form != 0, 1);
+    put(list, form == 0 ? destination : 0, 8);
+    put(list, 0, 8);
+    put_text(list, form == 0 ? "" : form == 1 ? "x" : "y");
+}
+
+static void patch(uint16_t number_of_region, uint32_t offset, int kind, int form, uint32_t to)
+{
+    put_head(&pending, form == 0 ? 32 : 33, 36);
+    put(&pending, number_of_region, 2);
+    put(&pending, offset, 4);
+    put(&pending, 0, 8);
+    put(&pending, (uint64_t)kind, 1);
+    reference(&pending, form, to);
+}
+
+static void label(uint32_t at)
+{
+    put_head(&labels, 4 + 1, 34);
+    put(&labels, at, 4);
+    put_text(&labels, "x");
+}
+
+static void one_build(int kind, int form, uint32_t offset, uint32_t to, int entry_form)
+{
+    labels.length = entry.length = pending.length = 0;
+    label(to);
+    if (entry_form < 3) {
+        put_head(&entry, entry_form == 0 ? 17 : 18, 38);
+        reference(&entry, entry_form, to);
+    }
+    patch(1, 0, kind, form, to);
+    patch(0, offset, kind, form, to);
+    measure(build);
+}
+
+static void all_builds(void)
+{
+    for (int i = 0; i < 2; i++) {
+        put_head(&regions, 4 + 8, 35);
+        put(&regions, NEAR, 4);
+        put(&regions, 0, 8);
+    }
+    for (int kind = 0; kind < 5; kind++)
+        for (int form = 0; form < 3; form++)
+            for (int entry_form = 0; entry_form < 4; entry_form++)
+                for (int far = 0; far < 2; far++)
+                    for (uint32_t offset = 0; offset < 6; offset++)
+                        one_build(kind, form, offset, far == 1 ? FAR : NEAR, entry_form);
+}
+
+/* Refusals 1 and 2, and an answer that is too short. */
+static void refused_builds(void)
+{
+    one_build(0, 1, 0, NEAR, 1);
+    damaged(&labels, build);
+    damaged(&entry, build);
+    damaged(&regions, build);
+    damaged(&pending, build);
+    answer_length--;
+    measure(build);
+    answer_length++;
+    label(NEAR);
+    measure(build);
+}
+
+int main(void)
+{
+    data.length = pending.length = breakpoints.length = 1024;
+    address = NEAR;
+
+    /* The first line fills the buffers in part, and all others come after its words and records. */
+    named("t");
+    descriptor(OFFSET, false);
+    line("rsb");
+    memcpy(filled, counts, sizeof filled);
+
+    all_lines();
+    refused_lines();
+    report("nazgwern_do_instruction");
+
+    all_builds();
+    refused_builds();
+    report("nazgwern_build");
+
+    return 0;
+}
