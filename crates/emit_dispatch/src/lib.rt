@@ -33,10 +33,10 @@ pub fn dispatch_encoding(encoding: Encoding, op: Opcode, s: &[u8], c: Cursor) ->
         Encoding::FPOffset => emit_fp::do_fp_offset_instruction(op, s, c),
         Encoding::FP3Register(fmt) => emit_fp::do_fp_three_register_instruction(op, fmt, s, c),
         Encoding::FP2Register(fmt) => emit_fp::do_fp_2register_instruction(op, fmt, s, c),
-        Encoding::FPMove(fmt, flag) => emit_fp::do_fp_move_instruction(op, fmt, flag, s, c),
-        Encoding::FPCond(fmt) => emit_fp::do_fp_cond_instruction(op, fmt, s, c),
+        Encoding::FPMove(fmt, flag) => emit_codes::do_fp_move_instruction(op, fmt, flag, s, c),
+        Encoding::FPCond(fmt) => emit_codes::do_fp_cond_instruction(op, fmt, s, c),
         Encoding::FPCrossMove(reg) => emit_fp::do_fp_cross_move_instruction(op, reg, s, c),
-        Encoding::FPBranch(flag) => emit_fp::do_fp_branch_instruction(op, flag, s, c),
+        Encoding::FPBranch(flag) => emit_codes::do_fp_branch_instruction(op, flag, s, c),
     }
 }
 

@@ -136,25 +136,44 @@ fn is_emitted(
     let mut data_exit = lent::copy(&*data);
     let mut pending_exit = lent::copy(&*pending);
     let mut breakpoints_exit = lent::copy(&*breakpoints);
-    let n = read_numbers();
-    let counts = n.counts;
-    let emitted = emit_core::do_instruction(
+    let is_answer_met = is_answered(
         tokens,
         mnemonic,
         descriptors,
         &mut *data,
         &mut *pending,
         &mut *breakpoints,
+    );
+    let is_data_met = lent::are_expected(&*data, &mut data_exit);
+    let is_pending_met = lent::are_expected(&*pending, &mut pending_exit);
+    let are_breakpoints_met = lent::are_expected(&*breakpoints, &mut breakpoints_exit);
+    is_answer_met && is_data_met && is_pending_met && are_breakpoints_met
+}
+
+// Makes the call, and holds its answer and its fill counts to those that are expected.
+fn is_answered(
+    tokens: &[u8],
+    mnemonic: &[u8],
+    descriptors: &[u8],
+    data: &mut [u8],
+    pending: &mut [u8],
+    breakpoints: &mut [u8],
+) -> bool {
+    let n = read_numbers();
+    let counts = n.counts;
+    let emitted = emit_core::do_instruction(
+        tokens,
+        mnemonic,
+        descriptors,
+        data,
+        pending,
+        breakpoints,
         n.position,
         n.region,
         n.address,
         counts,
     );
-    let is_answer_met = answer::is_line_expected(emitted);
-    let is_data_met = lent::are_expected(&*data, &mut data_exit);
-    let is_pending_met = lent::are_expected(&*pending, &mut pending_exit);
-    let are_breakpoints_met = lent::are_expected(&*breakpoints, &mut breakpoints_exit);
-    is_answer_met && is_data_met && is_pending_met && are_breakpoints_met
+    answer::is_line_expected(emitted)
 }
 
 fn read_numbers() -> Numbers {

@@ -2,8 +2,8 @@
 use Rattle.emit_lines.specs.LinesLaws.{line-as}
 use Rattle.emit_lines.specs.Encodings.{fpCondLine}
 use borrow.Author.Needs.{needs}
-use Rattle.emit_fp.proofs.do_fp_cond_instruction.Statement.{statement}
-use Rattle.emit_fp.proofs.do_fp_cond_instruction.Tie as tie
+use Rattle.emit_codes.proofs.do_fp_cond_instruction.Statement.{statement}
+use Rattle.emit_codes.proofs.do_fp_cond_instruction.Tie as tie
 
 returns : tie.Need-returns
 unfolding fpCondLine
