@@ -6,12 +6,12 @@ use text::input;
 mod output;
 
 // The numbers behind the buffers, and how many bytes of the input are left.
-struct Numbers {
-    counts: FillCounts,
-    position: u32,
-    region: u16,
-    address: u32,
-    left: u64,
+pub struct Numbers {
+    pub counts: FillCounts,
+    pub position: u32,
+    pub region: u16,
+    pub address: u32,
+    pub left: u64,
 }
 
 // Reads at most `left` bytes, and answers how many of them are left.
@@ -55,7 +55,8 @@ fn emit_into(tokens: &[u8], mnemonic: &[u8], descriptors: &[u8], left: u64) -> u
     numbers.left
 }
 
-fn read_numbers(left: u64) -> Numbers
+// Reads the numbers, of at most `left` bytes. A missing one is 0.
+pub fn read_numbers(left: u64) -> Numbers
     ensures { λ r. ⌜ r .left ≤ left ⌝ }
 {
     let data = input::read_word(left);

@@ -5,6 +5,11 @@ use lib.IntN.{ℤ, pos, negsuc}
 use lib.ListN.{getD}
 use Rattle.stores.specs.Stores.{le32Bytes}
 use Rattle.refusal.specs.declared.Numbered.{Numbered}
+use Rattle.refusal.specs.Numbers.{numbered}
+use Rattle.patch.specs.declared.Built.{Built}
+use Rattle.patch.specs.declared.Built.the-variants.{Entry as BuiltEntry, Refused}
+use Rattle.emit_outcome.specs.declared.EmitAnswer.{EmitAnswer}
+use Rattle.emit_outcome.specs.declared.EmitAnswer.the-variants.{Done, Refused as LineRefused}
 
 -- a number's low 32 bits; negsuc n is -1 - n
 unfoldable pub low32 : ℤ → ℕ
@@ -17,6 +22,16 @@ doneWords last = 0 ∷ 0 ∷ 0 ∷ 0 ∷ 0 ∷ last ∷ []
 
 abbrev pub refusalWords : Numbered → ℕ → List ℕ
 refusalWords n last = n .number ∷ n .location .source ∷ n .location .index ∷ low32 (n .a) ∷ n .b ∷ last ∷ []
+
+-- a refused build has no entry
+abbrev pub builtWords : Built → List ℕ
+builtWords (BuiltEntry address) = doneWords address
+builtWords (Refused r) = refusalWords (numbered r) 0
+
+-- a line has a position, refused or not
+abbrev pub lineWords : EmitAnswer → List ℕ
+lineWords (Done position) = doneWords position
+lineWords (LineRefused r position) = refusalWords (numbered r) position
 
 -- the number, which the call returns too
 abbrev pub numberOf : List ℕ → ℕ

@@ -4,7 +4,9 @@ ghost use Prim.Native.Nat.{_*_, _≤_};
 ghost use lib.ListN.{length};
 ghost use Rattle.stores.specs.Stores.{append};
 ghost use Rattle.refusal.specs.Numbers.{numbered};
-ghost use Rattle.linked_answer.specs.Words.{low32, doneWords, refusalWords, wordBytes};
+ghost use Rattle.linked_answer.specs.Words.{low32, doneWords, refusalWords, builtWords, lineWords, wordBytes};
+use emit_outcome::EmitAnswer;
+use patch::Built;
 use refusal::Refusal;
 
 // The number's low 32 bits.
@@ -21,19 +23,39 @@ fn low_word(a: i64) -> u32
 }
 
 // The words of what is done.
-pub fn done_words(last: u32) -> [u32; 6]
+fn done_words(last: u32) -> [u32; 6]
     ensures { λ r. ⌜ r ≡ doneWords last ⌝ }
 {
     [0, 0, 0, 0, 0, last]
 }
 
 // The words of a refusal.
-pub fn refusal_words(refusal: Refusal, last: u32) -> [u32; 6]
+fn refusal_words(refusal: Refusal, last: u32) -> [u32; 6]
     ensures { λ r. ⌜ r ≡ refusalWords (numbered refusal) last ⌝ }
 {
     let n = refusal::numbers(refusal);
     let at = n.location;
     [n.number, at.source, at.index, low_word(n.a), n.b, last]
+}
+
+// A refused build has no entry.
+pub fn built_words(built: Built) -> [u32; 6]
+    ensures { λ r. ⌜ r ≡ builtWords built ⌝ }
+{
+    match built {
+        Built::Entry(address) => done_words(address),
+        Built::Refused(refusal) => refusal_words(refusal, 0),
+    }
+}
+
+// A line has a position, refused or not.
+pub fn line_words(answer: EmitAnswer) -> [u32; 6]
+    ensures { λ r. ⌜ r ≡ lineWords answer ⌝ }
+{
+    match answer {
+        EmitAnswer::Done(position) => done_words(position),
+        EmitAnswer::Refused(refusal, position) => refusal_words(refusal, position),
+    }
 }
 
 // The words' bytes from the start on.

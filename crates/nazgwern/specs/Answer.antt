@@ -6,10 +6,7 @@ use lib.ListN.{length}
 use lib.Dec.{leb}
 use Rattle.stores.specs.Stores.{append}
 use Rattle.record.specs.Bytes.{le32}
-use Rattle.refusal.specs.Numbers.{numbered}
-use Rattle.linked_answer.specs.Words.{doneWords, refusalWords, numberOf, wordBytes}
-use Rattle.patch.specs.declared.Built.{Built}
-use Rattle.patch.specs.declared.Built.the-variants.{Entry as BuiltEntry, Refused}
+use Rattle.linked_answer.specs.Words.{builtWords, lineWords, numberOf, wordBytes}
 use Rattle.patch.specs.Build.{Outcome, buildOutcome}
 use Rattle.emit_outcome.specs.declared.FillCounts.{FillCounts}
 use Rattle.emit_outcome.specs.declared.EmitAnswer.{EmitAnswer}
@@ -18,10 +15,6 @@ use Rattle.emit_outcome.specs.Emit.{Outcome as LineOutcome, emitOutcome}
 use Rattle.emit_outcome.specs.Contract.{callOf}
 
 -- ---- a build
-abbrev pub builtWords : Built → List ℕ
-builtWords (BuiltEntry address) = doneWords address
-builtWords (Refused r) = refusalWords (numbered r) 0
-
 pub record Linked : Type 0 where
   pub number : ℕ
   pub regions : List ℕ
@@ -41,10 +34,6 @@ linkedBuild labels entry regions pending answer =
     ]
 
 -- ---- a line
-abbrev pub lineWords : EmitAnswer → List ℕ
-lineWords (Done position) = doneWords position
-lineWords (LineRefused r position) = refusalWords (numbered r) position
-
 -- the three fill counts, four bytes each
 abbrev pub countsAt : List ℕ → FillCounts
 countsAt counts = record { region = le32 counts 0; pending = le32 counts 4; breakpoints = le32 counts 8 }

@@ -9,7 +9,7 @@ use borrow.Author.Tests.{le-leb, lt-leb}
 use Rattle.stores.specs.Stores.{append}
 use Rattle.refusal.specs.declared.Refusal.{Refusal}
 use Rattle.refusal.specs.Numbers.{numbered}
-use Rattle.linked_answer.specs.Words.{numberOf, refusalWords, wordBytes}
+use Rattle.linked_answer.specs.Words.{builtWords, lineWords, numberOf, refusalWords, wordBytes}
 use Rattle.patch.specs.declared.Built.{Built}
 use Rattle.patch.specs.Build.{buildOutcome}
 use Rattle.emit_outcome.specs.declared.FillCounts.{FillCounts}
@@ -18,7 +18,7 @@ use Rattle.emit_outcome.specs.declared.Emitted.{Emitted}
 use Rattle.emit_outcome.specs.Emit.{Outcome, emitOutcome}
 use Rattle.emit_outcome.specs.Contract.{callOf, EmittedIs}
 use Rattle.emit_outcome.specs.RefusedLaws.{refused-stays}
-use Rattle.nazgwern.specs.Answer.{builtWords, linkedBuild, lineWords, countsAt, countsAfter, LinkedLine, linkedLine}
+use Rattle.nazgwern.specs.Answer.{linkedBuild, countsAt, countsAfter, LinkedLine, linkedLine}
 
 -- ---- a build
 module _ (labels entry regions pending answer : List ℕ) where

@@ -2,36 +2,15 @@
 ghost use mathlib.Core.Path.{_≡_};
 ghost use Prim.Native.Nat.{_≤_};
 ghost use lib.ListN.{length};
-ghost use Rattle.nazgwern.specs.Answer.{builtWords, lineWords, countsAt, countsAfter, linkedBuild, linkedLine};
+ghost use Rattle.nazgwern.specs.Answer.{countsAt, countsAfter, linkedBuild, linkedLine};
 use emit_outcome::EmitAnswer;
 use emit_outcome::FillCounts;
-use patch::Built;
 
 // Number, source, index, a, b and the last, each four bytes.
 const ANSWER_BYTES: usize = 24;
 
 // The fill counts of the region data, the pending and the breakpoint buffer, each four bytes.
 const COUNTS_BYTES: usize = 12;
-
-// A refused build has no entry.
-fn built_words(built: Built) -> [u32; 6]
-    ensures { λ r. ⌜ r ≡ builtWords built ⌝ }
-{
-    match built {
-        Built::Entry(address) => linked_answer::done_words(address),
-        Built::Refused(refusal) => linked_answer::refusal_words(refusal, 0),
-    }
-}
-
-// A line has a position, refused or not.
-fn line_words(answer: EmitAnswer) -> [u32; 6]
-    ensures { λ r. ⌜ r ≡ lineWords answer ⌝ }
-{
-    match answer {
-        EmitAnswer::Done(position) => linked_answer::done_words(position),
-        EmitAnswer::Refused(refusal, position) => linked_answer::refusal_words(refusal, position),
-    }
-}
 
 // Patches the regions in place or refuses, writes the answer and returns its number: 0 for an accepted build.
 // Where the answer is too short it returns 1 and changes nothing.
@@ -49,7 +28,7 @@ pub extern "C" fn nazgwern_build(
         return 1;
     }
     let built = binary_builder::build(labels, entry, regions, pending);
-    let words = built_words(built);
+    let words = linked_answer::built_words(built);
     linked_answer::put_words(answer, &words[..]);
     words[0]
 }
@@ -121,7 +100,7 @@ pub extern "C" fn nazgwern_do_instruction(
     );
     let given = emitted.answer;
     let filled = emitted.counts;
-    let words = line_words(given);
+    let words = linked_answer::line_words(given);
     put_counts(counts, given, filled);
     linked_answer::put_words(answer, &words[..]);
     words[0]

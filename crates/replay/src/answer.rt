@@ -1,25 +1,7 @@
 // What a call answers, beside the answer that stands next in the list.
-use emit_outcome::EmitAnswer;
 use emit_outcome::Emitted;
 use emit_outcome::FillCounts;
-use patch::Built;
 use text::input;
-
-// The last is the entry address, 0 where the build is refused.
-pub(crate) fn of_build(built: Built) -> [u32; 6] {
-    match built {
-        Built::Entry(address) => linked_answer::done_words(address),
-        Built::Refused(refusal) => linked_answer::refusal_words(refusal, 0),
-    }
-}
-
-// The last is the position.
-fn of_line(answer: EmitAnswer) -> [u32; 6] {
-    match answer {
-        EmitAnswer::Done(position) => linked_answer::done_words(position),
-        EmitAnswer::Refused(refusal, position) => linked_answer::refusal_words(refusal, position),
-    }
-}
 
 // Whether the next six numbers are these.
 pub(crate) fn is_expected(met: [u32; 6]) -> bool {
@@ -41,7 +23,7 @@ pub(crate) fn is_expected(met: [u32; 6]) -> bool {
 pub(crate) fn is_line_expected(met: Emitted) -> bool {
     let answer = met.answer;
     let counts = met.counts;
-    let is_answer_met = is_expected(of_line(answer));
+    let is_answer_met = is_expected(linked_answer::line_words(answer));
     let expected = read_counts();
     is_answer_met
         && counts.region == expected.region

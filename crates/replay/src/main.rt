@@ -7,7 +7,6 @@
 // 1, a line: the six buffers, the three fill counts, the position, the region (2 bytes) and the address. Expected: the answer, the fill counts, then the last three buffers at exit.
 // The answer is number, source, index, the low 32 bits of a, b, and the entry address or the position. A buffer at exit is a byte 0 where it is as at entry, or a byte 1 and its bytes, as many as at entry.
 ghost use Prim.Native.Nat.{_≤_};
-use emit_outcome::FillCounts;
 use libc::STDOUT_FILENO;
 use text::input;
 
@@ -16,14 +15,6 @@ mod lent;
 
 // More than any list has.
 const MOST_CALLS: u64 = 0x1_0000_0000;
-
-// The numbers of a line's call.
-struct Numbers {
-    counts: FillCounts,
-    position: u32,
-    region: u16,
-    address: u32,
-}
 
 fn main() {
     let mut calls: u64 = 0;
@@ -88,7 +79,7 @@ fn is_build_met() -> bool {
 fn is_built(labels: &[u8], entry: &[u8], regions: &mut [u8], pending: &[u8]) -> bool {
     let mut exit = lent::copy(&*regions);
     let built = binary_builder::build(labels, entry, &mut *regions, pending);
-    let is_answer_met = answer::is_expected(answer::of_build(built));
+    let is_answer_met = answer::is_expected(linked_answer::built_words(built));
     let are_regions_met = lent::are_expected(&*regions, &mut exit);
     is_answer_met && are_regions_met
 }
@@ -159,7 +150,7 @@ fn is_answered(
     pending: &mut [u8],
     breakpoints: &mut [u8],
 ) -> bool {
-    let n = read_numbers();
+    let n = line_text::read_numbers(u64::MAX);
     let counts = n.counts;
     let emitted = emit_core::do_instruction(
         tokens,
@@ -174,17 +165,4 @@ fn is_answered(
         counts,
     );
     answer::is_line_expected(emitted)
-}
-
-fn read_numbers() -> Numbers {
-    let counts = answer::read_counts();
-    let position = input::read_word(u64::MAX);
-    let region = input::read_half(u64::MAX);
-    let address = input::read_word(u64::MAX);
-    Numbers {
-        counts,
-        position: position.value,
-        region: region.value as u16,
-        address: address.value,
-    }
 }

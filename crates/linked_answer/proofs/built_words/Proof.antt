@@ -1,9 +1,9 @@
 -- `built_words` meets its contract: each arm is the definition's clause. Assumes nothing.
 use mathlib.Core.Path.{sym, ap, _∙_}
 use borrow.Author.Needs.{needs}
-use Rattle.nazgwern.specs.Answer.{builtWords}
-use Rattle.nazgwern.proofs.built_words.Statement.{statement}
-use Rattle.nazgwern.proofs.built_words.Tie as tie
+use Rattle.linked_answer.specs.Words.{builtWords}
+use Rattle.linked_answer.proofs.built_words.Statement.{statement}
+use Rattle.linked_answer.proofs.built_words.Tie as tie
 
 returns : tie.Need-returns
 returns c = c .done-words .ensures ∙ sym (ap builtWords (c .before .before .built .given .1))

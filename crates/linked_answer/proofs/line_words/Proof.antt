@@ -1,9 +1,9 @@
 -- `line_words` meets its contract: each arm is the definition's clause. Assumes nothing.
 use mathlib.Core.Path.{sym, ap, _∙_}
 use borrow.Author.Needs.{needs}
-use Rattle.nazgwern.specs.Answer.{lineWords}
-use Rattle.nazgwern.proofs.line_words.Statement.{statement}
-use Rattle.nazgwern.proofs.line_words.Tie as tie
+use Rattle.linked_answer.specs.Words.{lineWords}
+use Rattle.linked_answer.proofs.line_words.Statement.{statement}
+use Rattle.linked_answer.proofs.line_words.Tie as tie
 
 returns : tie.Need-returns
 returns c = c .done-words .ensures ∙ sym (ap lineWords (c .before .before .answer .given .1))
