@@ -17,7 +17,7 @@ pub record PseudoName : Type 0 where
 abbrev pub called : List ℕ → Pseudo → PseudoName
 called name pseudo = record { name = name; pseudo = pseudo }
 
--- the names behind the first twenty
+-- the names behind the first twenty: neg, negu, not, li, la, move, b, subi, subiu
 abbrev pub lastNames : List PseudoName
 lastNames =
     called (110 ∷ 101 ∷ 103 ∷ []) Neg
@@ -31,7 +31,7 @@ lastNames =
     ∷ called (115 ∷ 117 ∷ 98 ∷ 105 ∷ 117 ∷ []) Subiu
     ∷ []
 
--- the names behind the first ten
+-- the names behind the first ten: sge, sgt, sle, sgeu, sgtu, sleu, beqz, bnez, seq, sne, and those
 abbrev pub laterNames : List PseudoName
 laterNames =
     called (115 ∷ 103 ∷ 101 ∷ []) (SetCustom false false false)
@@ -46,7 +46,7 @@ laterNames =
     ∷ called (115 ∷ 110 ∷ 101 ∷ []) Sne
     ∷ lastNames
 
--- all names
+-- all names: nop, abs, blt, bgt, ble, bge, bltu, bgtu, bleu, bgeu, and those
 abbrev pub pseudoNames : List PseudoName
 pseudoNames =
     called (110 ∷ 111 ∷ 112 ∷ []) Nop
