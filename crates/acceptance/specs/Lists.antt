@@ -2,9 +2,8 @@
 use Prim.Native.Nat.{ℕ, zero, suc, _+_, _/_}
 use mathlib.Core.List.{List, [], _∷_, _++_}
 use Rattle.record.specs.Bytes.{le32}
-use Rattle.stores.specs.Stores.{le16Bytes, le32Bytes, le64Bytes}
-use Rattle.emit_bytes.specs.Appended.{recordBytes}
-use Rattle.emit_outcome.specs.Emit.{Call, Outcome}
+use Rattle.record.specs.Stores.{le16Bytes, le32Bytes, le64Bytes, recordBytes}
+use Rattle.emit_outcome.specs.Call.{Call, EmitOutcome}
 
 -- a location of zeros
 abbrev pub here : List ℕ
@@ -47,13 +46,11 @@ line name descriptors tokens = record {
   token-list = tokens;
   mnemonic = mnemonic name;
   descriptors = descriptors;
-  region-data = zeros 20;
-  pending = [];
-  breakpoints = zeros 32;
-  counts = record { region = 0; pending = 0; breakpoints = 0 };
-  position = 0;
-  region = 0;
-  address = 0x00400000;
+  lent = record { region-data = zeros 20; pending = []; breakpoints = zeros 32 };
+  numbers = record {
+    counts = record { «data_len» = 0; pending = 0; breakpoints = 0 };
+    place = record { position = 0; region = 0; address = 0x00400000 };
+  };
 }
 
 -- n words of a list
@@ -62,8 +59,8 @@ wordsIn zero s at = []
 wordsIn (suc n) s at = le32 s at ∷ wordsIn n s (at + 4)
 
 -- the words in the filled part of the region's data
-abbrev pub emitted : Outcome → List ℕ
-emitted o = wordsIn (o .counts .region / 4) (o .region-data) 0
+abbrev pub emitted : EmitOutcome → List ℕ
+emitted o = wordsIn (o .counts .«data_len» / 4) (o .lent .region-data) 0
 
 -- ---- a build: one region of one word, and one pending at its start that waits for a constant
 abbrev pub region : (address word : ℕ) → List ℕ

@@ -8,7 +8,7 @@ use Rattle.record.specs.Records.{placesF, placesFrom, places, firstBad, firstBa
 use Rattle.refusal.specs.Numbers.{zeroLocation}
 use Rattle.refusal.specs.Verdicts.{firstStop}
 use Rattle.refusal.specs.declared.Refusal.the-variants.{ExpectedLabel, JumpOutOfRange}
-use Rattle.names.specs.Names.{firstNamed, firstRepeat}
+use Rattle.names.specs.Names.{firstNamed, firstLater, firstRepeat}
 use Rattle.loading.specs.Load.{isSmall, wideWords, loadWords}
 use Rattle.lexer.specs.Tokens.{payloadOf, payloadOk, tokenOk, tokenLayout, tokens}
 use Rattle.labels.specs.Labels.{labelOk, labelLayout, resolve}
@@ -16,26 +16,27 @@ use Rattle.regions.specs.Regions.{regionOk, regionRecords, regionLayout}
 use Rattle.address_label.specs.AddressLabels.{addressLabelOk}
 use Rattle.address_label.specs.Entries.{entryOk, entryLayout}
 use Rattle.pending.specs.Pendings.{pendingOk, pendingLayout, kindFrom}
-use Rattle.patch.specs.Patches.{destination, fieldWidth, fieldValue, branchInRange, jumpInRange, inRange, putWord}
-use Rattle.patch.specs.Build.{keep, orderFrom, reachVerdict, pendingVerdict, layoutVerdicts, buildVerdict, writePending, writePatches, buildOutcome}
-use Rattle.patch.specs.declared.Built.the-variants.{Refused}
+use Rattle.patch.specs.Patches.{destination, fieldWidth, fieldValue, branchInRange, jumpInRange, inRange, reachVerdict, pendingVerdict, writePending}
+use Rattle.build_outcome.specs.Build.{keep, orderFrom, layoutVerdicts, buildVerdict, writePatches, buildOutcome}
+use Rattle.build_outcome.specs.declared.Built.the-variants.{Refused}
 use Rattle.cursor.specs.Cursors.{passed, peek, step, nextAdjacent}
 use Rattle.operands.specs.Operands.{getRegister, signed, getInteger, getConstant, getValue}
 use Rattle.assembler_util.specs.LabelOperands.{symbolLabel, toLabel, getLabel, braced, afterLabel, getOffsetOrLabel}
-use Rattle.operand_read.specs.OperandReads.{readOperand}
-use Rattle.operand_list.specs.OperandLists.{readOperands}
+use Rattle.operand_list.specs.OperandLists.{readOperand, readOperands}
 use Rattle.descriptors.specs.Mnemonics.{mnemonicOk, oneMnemonic, mnemonicLayout, mnemonicName}
 use Rattle.descriptors.specs.Descriptors.{fieldsOk, descriptorOk, descriptorLayout}
 use Rattle.breakpoints.specs.Breakpoints.{breakpointOk, filledLayout, pendingBufferLayout, breakpointBufferLayout, dataBufferLayout}
-use Rattle.emit_pairs.specs.Pairs.{loadPairs, labelPairs, isImmediate}
-use Rattle.emit_lines.specs.Encodings.{registerLine, shamLine, offsetLine, encodingLine}
+use Rattle.emit_pairs.specs.Pairs.{loadPairs, labelPairs, isImmediate, immediatePairs}
 use Rattle.pseudo_names.specs.PseudoNames.{pseudoIn}
-use Rattle.emit_pseudo.specs.Pseudos.{pseudoLine}
-use Rattle.stores.specs.Stores.{append}
-use Rattle.emit_bytes.specs.Appended.{wordBytes, pendingsBytes, pcsBytes}
+use Rattle.emit_dispatch.specs.Lines.{encodingLine, pseudoLine}
+use Rattle.record.specs.Stores.{append}
+use Rattle.breakpoints.specs.BreakpointBytes.{pcsBytes}
+use Rattle.emit_bytes.specs.Appended.{wordBytes, pendingsBytes}
 use Rattle.emit_outcome.specs.declared.EmitAnswer.the-variants.{Refused as LineRefused}
 use Rattle.emit_outcome.specs.Dispatch.{meaning, tableLine}
-use Rattle.emit_outcome.specs.Emit.{layoutStop, listStop, edgeStop, roomStop, lineOutcome, emitOutcome}
+use Rattle.emit_outcome.specs.Checks.{layoutStop, listStop}
+use Rattle.emit_outcome.specs.Room.{edgeStop, roomStop}
+use Rattle.emit_outcome.specs.Emit.{lineOutcome, emitOutcome}
 use Rattle.acceptance.specs.Lists.{register, integer, minus, comma, leftBrace, rightBrace, descriptor, line, wordsIn, emitted, region, patch}
 
 pub record MarkedTable : Type 0 where
@@ -73,7 +74,7 @@ pub record MarkedTable : Type 0 where
   pub j-other-page : buildOutcome [] [] (region 0x0ffffffc 0x08000000) (patch 1 0x0ffffff8) .answer ≡ Refused (JumpOutOfRange zeroLocation 0x0ffffff8 0x0ffffffc)
 
 pub marked : MarkedTable
-unfolding emitOutcome lineOutcome tableLine listStop layoutStop roomStop edgeStop meaning wordBytes pendingsBytes pcsBytes append pseudoIn pseudoLine registerLine shamLine offsetLine encodingLine loadPairs labelPairs isImmediate breakpointOk filledLayout pendingBufferLayout breakpointBufferLayout dataBufferLayout fieldsOk descriptorOk descriptorLayout mnemonicOk oneMnemonic mnemonicLayout mnemonicName readOperand readOperands symbolLabel toLabel getLabel braced afterLabel getOffsetOrLabel getRegister signed getInteger getConstant getValue passed peek step nextAdjacent pendingOk addressLabelOk payloadOf payloadOk tokenOk tokenLayout tokens isSmall wideWords loadWords firstNamed firstRepeat firstStop placesF placesFrom places firstBad firstBadOf withinLimit all sameBytes wordsIn buildOutcome buildVerdict layoutVerdicts writePatches writePending pendingVerdict reachVerdict orderFrom keep putWord inRange jumpInRange branchInRange fieldValue fieldWidth destination kindFrom pendingLayout entryLayout entryOk regionLayout regionRecords regionOk resolve labelLayout labelOk setField
+unfolding emitOutcome lineOutcome tableLine listStop layoutStop roomStop edgeStop meaning wordBytes pendingsBytes pcsBytes append pseudoIn pseudoLine encodingLine loadPairs labelPairs isImmediate immediatePairs breakpointOk filledLayout pendingBufferLayout breakpointBufferLayout dataBufferLayout fieldsOk descriptorOk descriptorLayout mnemonicOk oneMnemonic mnemonicLayout mnemonicName readOperand readOperands symbolLabel toLabel getLabel braced afterLabel getOffsetOrLabel getRegister signed getInteger getConstant getValue passed peek step nextAdjacent pendingOk addressLabelOk payloadOf payloadOk tokenOk tokenLayout tokens isSmall wideWords loadWords firstNamed firstLater firstRepeat firstStop placesF placesFrom places firstBad firstBadOf withinLimit all sameBytes wordsIn buildOutcome buildVerdict layoutVerdicts writePatches writePending pendingVerdict reachVerdict orderFrom keep inRange jumpInRange branchInRange fieldValue fieldWidth destination kindFrom pendingLayout entryLayout entryOk regionLayout regionRecords regionOk resolve labelLayout labelOk setField
 marked = record {
   addu = refl;
   li-least = refl;

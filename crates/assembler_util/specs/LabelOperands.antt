@@ -17,87 +17,81 @@ use Rattle.address_label.specs.declared.AddressLabel.the-variants.{Constant, La
 use Rattle.cursor.specs.declared.Seen.{Seen}
 use Rattle.cursor.specs.declared.Seen.the-variants.{Met, End}
 use Rattle.cursor.specs.Cursors.{At, seek, peek, nextAdjacent}
-use Rattle.operands.specs.declared.Miss.the-variants.{EndOfFile, ExpectedLabel, ExpectedRightBrace}
-use Rattle.operands.specs.declared.RegisterAnswer.{RegisterAnswer}
-use Rattle.operands.specs.declared.RegisterAnswer.the-variants.{Got as GotRegister, Missed as MissedRegister}
-use Rattle.operands.specs.declared.ConstantAnswer.{ConstantAnswer}
-use Rattle.operands.specs.declared.ConstantAnswer.the-variants.{Got as GotConstant, Missed as MissedConstant}
-use Rattle.operands.specs.Operands.{here, isKind, getRegister, getInteger, getConstant}
-use Rattle.assembler_util.specs.declared.OffsetOrLabel.the-variants.{Label as LabelOperand, Offset}
-use Rattle.assembler_util.specs.declared.LabelAnswer.{LabelAnswer}
-use Rattle.assembler_util.specs.declared.LabelAnswer.the-variants.{Got as GotLabel, Missed as MissedLabel}
-use Rattle.assembler_util.specs.declared.OffsetAnswer.{OffsetAnswer}
-use Rattle.assembler_util.specs.declared.OffsetAnswer.the-variants.{Got as GotOffset, Missed as MissedOffset}
+use Rattle.operand.specs.declared.Miss.the-variants.{EndOfFile, ExpectedLabel, ExpectedRightBrace}
+use Rattle.operands.specs.Operands.{isKind, getRegister, getInteger, getConstant}
+use Rattle.operand.specs.declared.OffsetOrLabel.{OffsetOrLabel}
+use Rattle.operand.specs.declared.OffsetOrLabel.the-variants.{Label as LabelAlone, Offset}
+use Rattle.operand.specs.Answers.{Answer, Got, Missed, here}
 
 -- ---- a label: "a number, or a Symbol with an optional Plus and constant"
 
 abbrev pub named : Text → Location → ℕ → AddressLabel
 named x l offset = Label (record { «name_at» = x .start; «name_len» = x .len; location = l; offset = offset })
 
-abbrev pub plusConstant : Text → Location → ConstantAnswer → LabelAnswer
-plusConstant x l (GotConstant n) = GotLabel (named x l n)
-plusConstant x l (MissedConstant m) = MissedLabel m
+abbrev pub plusConstant : Text → Location → Answer ℕ → Answer AddressLabel
+plusConstant x l (Got n) = Got (named x l n)
+plusConstant x l (Missed m) = Missed m
 
 -- the Symbol x at l, with i the index behind it and j that of the next token that is not passed over
-abbrev pub plusSeen : Text → Location → List Token → ℕ → ℕ → Seen → At LabelAnswer
-plusSeen x l ts i j End = here (GotLabel (named x l 0)) i
+abbrev pub plusSeen : Text → Location → List Token → ℕ → ℕ → Seen → At (Answer AddressLabel)
+plusSeen x l ts i j End = here (Got (named x l 0)) i
 plusSeen x l ts i j (Met t) =
     elim (isKind 9 t) [
       | true ↦ here (plusConstant x l (getConstant ts (j + 1) .answer)) (getConstant ts (j + 1) .index)
-      | false ↦ here (GotLabel (named x l 0)) i
+      | false ↦ here (Got (named x l 0)) i
     ]
 
-unfoldable pub symbolLabel : Text → Location → List Token → ℕ → At LabelAnswer
+unfoldable pub symbolLabel : Text → Location → List Token → ℕ → At (Answer AddressLabel)
 unfolding getConstant peek
 symbolLabel x l ts i = plusSeen x l ts i (seek ts i) (peek ts (seek ts i))
 
 -- "7. A label was due (a: kind met)."
-abbrev pub symbolIn : Token → List Token → ℕ → MaybeText → At LabelAnswer
-symbolIn t ts i (SomeText x) = symbolLabel x (t .location) ts i
-symbolIn t ts i NoText = here (MissedLabel (ExpectedLabel (strip (t .kind)) (t .location))) i
+abbrev pub symbolMet : Token → List Token → ℕ → MaybeText → At (Answer AddressLabel)
+symbolMet t ts i (SomeText x) = symbolLabel x (t .location) ts i
+symbolMet t ts i NoText = here (Missed (ExpectedLabel (strip (t .kind)) (t .location))) i
 
-abbrev pub labelIn : Token → List Token → ℕ → MaybeInteger → At LabelAnswer
-labelIn t ts i (SomeInteger n) = here (GotLabel (Constant n)) i
-labelIn t ts i NoInteger = symbolIn t ts i (asSymbol (t .kind))
+abbrev pub labelMet : Token → List Token → ℕ → MaybeInteger → At (Answer AddressLabel)
+labelMet t ts i (SomeInteger n) = here (Got (Constant n)) i
+labelMet t ts i NoInteger = symbolMet t ts i (asSymbol (t .kind))
 
 -- the label whose first token is t, with i the index behind it
-unfoldable pub toLabel : Token → List Token → ℕ → At LabelAnswer
+unfoldable pub toLabel : Token → List Token → ℕ → At (Answer AddressLabel)
 unfolding getInteger symbolLabel
-toLabel t ts i = labelIn t ts (getInteger t ts i .index) (getInteger t ts i .answer)
+toLabel t ts i = labelMet t ts (getInteger t ts i .index) (getInteger t ts i .answer)
 
-abbrev pub labelSeen : List Token → ℕ → Seen → At LabelAnswer
-labelSeen ts i End = here (MissedLabel EndOfFile) i
+abbrev pub labelSeen : List Token → ℕ → Seen → At (Answer AddressLabel)
+labelSeen ts i End = here (Missed EndOfFile) i
 labelSeen ts i (Met t) = toLabel t ts i
 
-unfoldable pub getLabel : List Token → ℕ → At LabelAnswer
+unfoldable pub getLabel : List Token → ℕ → At (Answer AddressLabel)
 unfolding nextAdjacent toLabel
 getLabel ts i = labelSeen ts (nextAdjacent ts i .index) (nextAdjacent ts i .answer)
 
 -- ---- an offset with a register in braces, or a label
 
 -- "8. A right brace was due (a: kind met)."
-abbrev pub closedSeen : AddressLabel → RegisterSlot → Seen → OffsetAnswer
-closedSeen label r End = MissedOffset EndOfFile
-closedSeen label r (Met t) = elim (isKind 15 t) [ true ↦ GotOffset (Offset label r) | false ↦ MissedOffset (ExpectedRightBrace (strip (t .kind)) (t .location)) ]
+abbrev pub closedSeen : AddressLabel → RegisterSlot → Seen → Answer OffsetOrLabel
+closedSeen label r End = Missed EndOfFile
+closedSeen label r (Met t) = elim (isKind 15 t) [ true ↦ Got (Offset label r) | false ↦ Missed (ExpectedRightBrace (strip (t .kind)) (t .location)) ]
 
-abbrev pub bracedIn : AddressLabel → List Token → ℕ → RegisterAnswer → At OffsetAnswer
-bracedIn label ts i (GotRegister r) = here (closedSeen label r (nextAdjacent ts i .answer)) (nextAdjacent ts i .index)
-bracedIn label ts i (MissedRegister m) = here (MissedOffset m) i
+abbrev pub bracedBy : AddressLabel → List Token → ℕ → Answer RegisterSlot → At (Answer OffsetOrLabel)
+bracedBy label ts i (Got r) = here (closedSeen label r (nextAdjacent ts i .answer)) (nextAdjacent ts i .index)
+bracedBy label ts i (Missed m) = here (Missed m) i
 
-unfoldable pub braced : AddressLabel → List Token → ℕ → At OffsetAnswer
+unfoldable pub braced : AddressLabel → List Token → ℕ → At (Answer OffsetOrLabel)
 unfolding getRegister nextAdjacent
-braced label ts i = bracedIn label ts (getRegister ts i .index) (getRegister ts i .answer)
+braced label ts i = bracedBy label ts (getRegister ts i .index) (getRegister ts i .answer)
 
 -- "In `get_offset_or_label` a label error is dropped when the next token is LeftBrace, and the offset is then 0."
-abbrev pub orZero : LabelAnswer → AddressLabel
-orZero (GotLabel label) = label
-orZero (MissedLabel m) = Constant 0
+abbrev pub orZero : Answer AddressLabel → AddressLabel
+orZero (Got label) = label
+orZero (Missed m) = Constant 0
 
-abbrev pub unbraced : LabelAnswer → OffsetAnswer
-unbraced (GotLabel label) = GotOffset (LabelOperand label)
-unbraced (MissedLabel m) = MissedOffset m
+abbrev pub unbraced : Answer AddressLabel → Answer OffsetOrLabel
+unbraced (Got label) = Got (LabelAlone label)
+unbraced (Missed m) = Missed m
 
-abbrev pub braceSeen : LabelAnswer → List Token → ℕ → Seen → At OffsetAnswer
+abbrev pub braceSeen : Answer AddressLabel → List Token → ℕ → Seen → At (Answer OffsetOrLabel)
 braceSeen label ts j End = here (unbraced label) j
 braceSeen label ts j (Met t) =
     elim (isKind 14 t) [
@@ -105,14 +99,14 @@ braceSeen label ts j (Met t) =
       | false ↦ here (unbraced label) j
     ]
 
-unfoldable pub afterLabel : LabelAnswer → List Token → ℕ → At OffsetAnswer
+unfoldable pub afterLabel : Answer AddressLabel → List Token → ℕ → At (Answer OffsetOrLabel)
 unfolding peek braced
 afterLabel label ts i = braceSeen label ts (seek ts i) (peek ts (seek ts i))
 
-abbrev pub offsetSeen : List Token → ℕ → Seen → At OffsetAnswer
-offsetSeen ts i End = here (MissedOffset EndOfFile) i
+abbrev pub offsetSeen : List Token → ℕ → Seen → At (Answer OffsetOrLabel)
+offsetSeen ts i End = here (Missed EndOfFile) i
 offsetSeen ts i (Met t) = afterLabel (toLabel t ts i .answer) ts (toLabel t ts i .index)
 
-unfoldable pub getOffsetOrLabel : List Token → ℕ → At OffsetAnswer
+unfoldable pub getOffsetOrLabel : List Token → ℕ → At (Answer OffsetOrLabel)
 unfolding nextAdjacent toLabel afterLabel
 getOffsetOrLabel ts i = offsetSeen ts (nextAdjacent ts i .index) (nextAdjacent ts i .answer)

@@ -2,7 +2,10 @@
 ghost use mathlib.Core.Path.{_≡_};
 ghost use Rattle.lexer.specs.Tokens.{tokens};
 ghost use Rattle.cursor.specs.Reads.{Placed, ReadAs};
-ghost use Rattle.assembler_util.specs.LabelOperands.{named, plusConstant, symbolLabel, orZero, unbraced, closedSeen, braced, toLabel, getLabel, afterLabel, getOffsetOrLabel};
+ghost use Rattle.operand.specs.Answers.{answerOf, given};
+ghost use Rattle.operand.specs.Held.{heldAnswer};
+ghost use Rattle.assembler_util.specs.LabelOperands.{named, plusConstant, symbolLabel, toLabel, getLabel};
+ghost use Rattle.assembler_util.specs.LabelOperands.{orZero, unbraced, closedSeen, braced, afterLabel, getOffsetOrLabel};
 use address_label::AddressLabel;
 use address_label::NamedLabel;
 use cursor::Cursor;
@@ -11,36 +14,13 @@ use lexer::MaybeInteger;
 use lexer::MaybeText;
 use lexer::Text;
 use lexer::Token;
-use operands::ConstantAnswer;
-use operands::Miss;
-use operands::RegisterAnswer;
+use operand::Miss;
+use operand::Operand;
+use operand::OperandAnswer;
+use operand::OperandRead;
+use operand::Want;
 use record::Location;
 use registers::RegisterSlot;
-
-pub enum OffsetOrLabel {
-    Label(AddressLabel),
-    Offset(AddressLabel, RegisterSlot),
-}
-
-pub enum LabelAnswer {
-    Got(AddressLabel),
-    Missed(Miss),
-}
-
-pub struct LabelRead {
-    pub answer: LabelAnswer,
-    pub cursor: Cursor,
-}
-
-pub enum OffsetAnswer {
-    Got(OffsetOrLabel),
-    Missed(Miss),
-}
-
-pub struct OffsetRead {
-    pub answer: OffsetAnswer,
-    pub cursor: Cursor,
-}
 
 fn named(text: Text, location: Location, offset: u64) -> AddressLabel
     ensures { λ r. ⌜ r ≡ named text location offset ⌝ }
@@ -54,118 +34,131 @@ fn named(text: Text, location: Location, offset: u64) -> AddressLabel
 }
 
 // The Symbol `text` at `location`, with the position behind it: an optional Plus and constant follow.
-fn symbol_label(text: Text, location: Location, s: &[u8], c: Cursor) -> LabelRead
-    requires { ⌜ Placed (now s) c ⌝ }
-    ensures { λ r. ⌜ ReadAs (now (s .entry)) (symbolLabel text location (tokens (now (s .entry))) (c .index)) (r .answer) (r .cursor) ⌝ }
+fn symbol_label(text: Text, location: Location, list: &[u8], from: Cursor) -> OperandRead
+    requires { ⌜ Placed (now list) from ⌝ }
+    ensures { λ r. ⌜ ReadAs (now (list .entry))
+        (given Want.Label (symbolLabel text location (tokens (now (list .entry))) (from .index)))
+        (r .answer) (r .cursor) ⌝ }
 {
-    let found = cursor::seek_without(s, c);
-    let plain = LabelRead {
-        answer: LabelAnswer::Got(named(text, location, 0)),
-        cursor: c,
+    let found = cursor::seek_without(list, from);
+    let plain = OperandRead {
+        answer: OperandAnswer::Got(Operand::Label(named(text, location, 0))),
+        cursor: from,
     };
-    match cursor::peek(s, found) {
+    match cursor::peek(list, found) {
         Seen::End => plain,
         Seen::Met(t) => {
             let kind = t.kind;
-            if lexer::strip(kind) != 9 {
+            if lexer::strip(kind) != lexer::PLUS {
                 return plain;
             }
-            let read = operands::get_constant(s, cursor::next(s, found));
+            let read = operands::get_constant(list, cursor::next(list, found));
             let constant = read.answer;
             let cursor = read.cursor;
             let answer = plus_constant(text, location, constant);
-            LabelRead { answer, cursor }
+            OperandRead { answer, cursor }
         }
     }
 }
 
-fn plus_constant(text: Text, location: Location, constant: ConstantAnswer) -> LabelAnswer
-    ensures { λ r. ⌜ r ≡ plusConstant text location constant ⌝ }
+fn plus_constant(text: Text, location: Location, constant: OperandAnswer) -> OperandAnswer
+    ensures { λ r. ⌜ r ≡ answerOf Want.Label (plusConstant text location (heldAnswer Want.Constant constant)) ⌝ }
 {
     match constant {
-        ConstantAnswer::Got(n) => LabelAnswer::Got(named(text, location, n)),
-        ConstantAnswer::Missed(miss) => LabelAnswer::Missed(miss),
+        OperandAnswer::Got(operand) => {
+            let offset = operand::constant_in(operand);
+            OperandAnswer::Got(Operand::Label(named(text, location, offset)))
+        }
+        OperandAnswer::Missed(miss) => OperandAnswer::Missed(miss),
     }
 }
 
 // The label whose first token is `first`, with the position behind that token.
-fn to_label(first: Token, s: &[u8], c: Cursor) -> LabelRead
-    requires { ⌜ Placed (now s) c ⌝ }
-    ensures { λ r. ⌜ ReadAs (now (s .entry)) (toLabel first (tokens (now (s .entry))) (c .index)) (r .answer) (r .cursor) ⌝ }
+fn to_label(first: Token, list: &[u8], from: Cursor) -> OperandRead
+    requires { ⌜ Placed (now list) from ⌝ }
+    ensures { λ r. ⌜ ReadAs (now (list .entry))
+        (given Want.Label (toLabel first (tokens (now (list .entry))) (from .index)))
+        (r .answer) (r .cursor) ⌝ }
 {
     let location = first.location;
     let kind = first.kind;
-    let read = operands::get_integer(first, s, c);
+    let read = operands::get_integer(first, list, from);
     let cursor = read.cursor;
     let number = read.answer;
     match number {
-        MaybeInteger::Some(n) => LabelRead {
-            answer: LabelAnswer::Got(AddressLabel::Constant(n)),
+        MaybeInteger::Some(n) => OperandRead {
+            answer: OperandAnswer::Got(Operand::Label(AddressLabel::Constant(n))),
             cursor,
         },
         MaybeInteger::Nothing => match lexer::as_symbol(kind) {
-            MaybeText::Some(text) => symbol_label(text, location, s, cursor),
-            MaybeText::Nothing => LabelRead {
-                answer: LabelAnswer::Missed(Miss::ExpectedLabel(lexer::strip(kind), location)),
+            MaybeText::Some(text) => symbol_label(text, location, list, cursor),
+            MaybeText::Nothing => OperandRead {
+                answer: OperandAnswer::Missed(Miss::ExpectedLabel(lexer::strip(kind), location)),
                 cursor,
             },
         },
     }
 }
 
-pub fn get_label(s: &[u8], c: Cursor) -> LabelRead
-    requires { ⌜ Placed (now s) c ⌝ }
-    ensures { λ r. ⌜ ReadAs (now (s .entry)) (getLabel (tokens (now (s .entry))) (c .index)) (r .answer) (r .cursor) ⌝ }
+pub fn get_label(list: &[u8], from: Cursor) -> OperandRead
+    requires { ⌜ Placed (now list) from ⌝ }
+    ensures { λ r. ⌜ ReadAs (now (list .entry)) (given Want.Label (getLabel (tokens (now (list .entry))) (from .index))) (r .answer) (r .cursor) ⌝ }
 {
-    let read = lexer_cursor::next_adjacent(s, c);
+    let read = cursor::next_adjacent(list, from);
     let seen = read.answer;
     let cursor = read.cursor;
     match seen {
-        Seen::End => LabelRead {
-            answer: LabelAnswer::Missed(Miss::EndOfFile),
+        Seen::End => OperandRead {
+            answer: OperandAnswer::Missed(Miss::EndOfFile),
             cursor,
         },
-        Seen::Met(t) => to_label(t, s, cursor),
+        Seen::Met(t) => to_label(t, list, cursor),
     }
 }
 
-fn or_zero(label: LabelAnswer) -> AddressLabel
-    ensures { λ r. ⌜ r ≡ orZero label ⌝ }
+fn or_zero(label: OperandAnswer) -> AddressLabel
+    ensures { λ r. ⌜ r ≡ orZero (heldAnswer Want.Label label) ⌝ }
 {
     match label {
-        LabelAnswer::Got(l) => l,
-        LabelAnswer::Missed(_) => AddressLabel::Constant(0),
+        OperandAnswer::Got(operand) => operand::label_in(operand),
+        OperandAnswer::Missed(_) => AddressLabel::Constant(0),
     }
 }
 
-fn unbraced(label: LabelAnswer) -> OffsetAnswer
-    ensures { λ r. ⌜ r ≡ unbraced label ⌝ }
+fn unbraced(label: OperandAnswer) -> OperandAnswer
+    ensures { λ r. ⌜ r ≡ answerOf Want.OffsetOrLabel (unbraced (heldAnswer Want.Label label)) ⌝ }
 {
     match label {
-        LabelAnswer::Got(l) => OffsetAnswer::Got(OffsetOrLabel::Label(l)),
-        LabelAnswer::Missed(miss) => OffsetAnswer::Missed(miss),
+        OperandAnswer::Got(operand) => {
+            let alone = operand::label_in(operand);
+            OperandAnswer::Got(Operand::Label(alone))
+        }
+        OperandAnswer::Missed(miss) => OperandAnswer::Missed(miss),
     }
 }
 
 // The register and the right brace behind a left brace.
-fn braced(label: AddressLabel, s: &[u8], c: Cursor) -> OffsetRead
-    requires { ⌜ Placed (now s) c ⌝ }
-    ensures { λ r. ⌜ ReadAs (now (s .entry)) (braced label (tokens (now (s .entry))) (c .index)) (r .answer) (r .cursor) ⌝ }
+fn braced(label: AddressLabel, list: &[u8], from: Cursor) -> OperandRead
+    requires { ⌜ Placed (now list) from ⌝ }
+    ensures { λ r. ⌜ ReadAs (now (list .entry))
+        (given Want.OffsetOrLabel (braced label (tokens (now (list .entry))) (from .index)))
+        (r .answer) (r .cursor) ⌝ }
 {
-    let read = operands::get_register(s, c);
+    let read = operands::get_register(list, from);
     let register = read.answer;
     let cursor = read.cursor;
     match register {
-        RegisterAnswer::Missed(miss) => OffsetRead {
-            answer: OffsetAnswer::Missed(miss),
+        OperandAnswer::Missed(miss) => OperandRead {
+            answer: OperandAnswer::Missed(miss),
             cursor,
         },
-        RegisterAnswer::Got(slot) => {
-            let right = lexer_cursor::next_adjacent(s, cursor);
+        OperandAnswer::Got(operand) => {
+            let slot = operand::slot_in(operand);
+            let right = cursor::next_adjacent(list, cursor);
             let seen = right.answer;
             let behind = right.cursor;
             let answer = closed_seen(label, slot, seen);
-            OffsetRead {
+            OperandRead {
                 answer,
                 cursor: behind,
             }
@@ -173,41 +166,43 @@ fn braced(label: AddressLabel, s: &[u8], c: Cursor) -> OffsetRead
     }
 }
 
-fn closed_seen(label: AddressLabel, slot: RegisterSlot, seen: Seen) -> OffsetAnswer
-    ensures { λ r. ⌜ r ≡ closedSeen label slot seen ⌝ }
+fn closed_seen(label: AddressLabel, slot: RegisterSlot, seen: Seen) -> OperandAnswer
+    ensures { λ r. ⌜ r ≡ answerOf Want.OffsetOrLabel (closedSeen label slot seen) ⌝ }
 {
     match seen {
-        Seen::End => OffsetAnswer::Missed(Miss::EndOfFile),
+        Seen::End => OperandAnswer::Missed(Miss::EndOfFile),
         Seen::Met(t) => {
             let location = t.location;
             let kind = t.kind;
             let number = lexer::strip(kind);
-            if number == 15 {
-                OffsetAnswer::Got(OffsetOrLabel::Offset(label, slot))
+            if number == lexer::RIGHT_BRACE {
+                OperandAnswer::Got(Operand::Offset(label, slot))
             } else {
-                OffsetAnswer::Missed(Miss::ExpectedRightBrace(number, location))
+                OperandAnswer::Missed(Miss::ExpectedRightBrace(number, location))
             }
         }
     }
 }
 
 // What follows a label: a register in braces, or nothing.
-fn after_label(label: LabelAnswer, s: &[u8], c: Cursor) -> OffsetRead
-    requires { ⌜ Placed (now s) c ⌝ }
-    ensures { λ r. ⌜ ReadAs (now (s .entry)) (afterLabel label (tokens (now (s .entry))) (c .index)) (r .answer) (r .cursor) ⌝ }
+fn after_label(label: OperandAnswer, list: &[u8], from: Cursor) -> OperandRead
+    requires { ⌜ Placed (now list) from ⌝ }
+    ensures { λ r. ⌜ ReadAs (now (list .entry))
+        (given Want.OffsetOrLabel (afterLabel (heldAnswer Want.Label label) (tokens (now (list .entry))) (from .index)))
+        (r .answer) (r .cursor) ⌝ }
 {
-    let found = cursor::seek_without(s, c);
-    match cursor::peek(s, found) {
-        Seen::End => OffsetRead {
+    let found = cursor::seek_without(list, from);
+    match cursor::peek(list, found) {
+        Seen::End => OperandRead {
             answer: unbraced(label),
             cursor: found,
         },
         Seen::Met(t) => {
             let kind = t.kind;
-            if lexer::strip(kind) == 14 {
-                braced(or_zero(label), s, cursor::next(s, found))
+            if lexer::strip(kind) == lexer::LEFT_BRACE {
+                braced(or_zero(label), list, cursor::next(list, found))
             } else {
-                OffsetRead {
+                OperandRead {
                     answer: unbraced(label),
                     cursor: found,
                 }
@@ -216,23 +211,25 @@ fn after_label(label: LabelAnswer, s: &[u8], c: Cursor) -> OffsetRead
     }
 }
 
-pub fn get_offset_or_label(s: &[u8], c: Cursor) -> OffsetRead
-    requires { ⌜ Placed (now s) c ⌝ }
-    ensures { λ r. ⌜ ReadAs (now (s .entry)) (getOffsetOrLabel (tokens (now (s .entry))) (c .index)) (r .answer) (r .cursor) ⌝ }
+pub fn get_offset_or_label(list: &[u8], from: Cursor) -> OperandRead
+    requires { ⌜ Placed (now list) from ⌝ }
+    ensures { λ r. ⌜ ReadAs (now (list .entry))
+        (given Want.OffsetOrLabel (getOffsetOrLabel (tokens (now (list .entry))) (from .index)))
+        (r .answer) (r .cursor) ⌝ }
 {
-    let read = lexer_cursor::next_adjacent(s, c);
+    let read = cursor::next_adjacent(list, from);
     let seen = read.answer;
     let cursor = read.cursor;
     match seen {
-        Seen::End => OffsetRead {
-            answer: OffsetAnswer::Missed(Miss::EndOfFile),
+        Seen::End => OperandRead {
+            answer: OperandAnswer::Missed(Miss::EndOfFile),
             cursor,
         },
         Seen::Met(t) => {
-            let read = to_label(t, s, cursor);
+            let read = to_label(t, list, cursor);
             let label = read.answer;
             let behind = read.cursor;
-            after_label(label, s, behind)
+            after_label(label, list, behind)
         }
     }
 }

@@ -21,14 +21,15 @@ use Rattle.address_label.specs.declared.Entry.the-variants.{Default, Stated}
 use Rattle.address_label.specs.AddressLabels.{addressLabelAt}
 use Rattle.address_label.specs.Entries.{entryOk, entryLayout, entryOf}
 use Rattle.address_label.specs.EntriesLaws.{entry-is, entry-good}
-use Rattle.patch.specs.declared.Built.{Built}
-use Rattle.patch.specs.declared.Built.the-variants.{Entry as BuiltEntry, Refused}
-use Rattle.patch.specs.Patches.{destination, nameEnd}
-use Rattle.patch.specs.Build.{nameLocation, addressOr, patchOrder, patchVerdict, reachEntry, entryVerdict, entryAddress, layoutVerdicts, buildVerdict, patchedRegions, buildOutcome}
-use Rattle.patch.specs.BuildLaws.{outcome-accepted, outcome-refused}
+use Rattle.build_outcome.specs.declared.Built.{Built}
+use Rattle.build_outcome.specs.declared.Built.the-variants.{Entry as BuiltEntry, Refused}
+use Rattle.patch.specs.Patches.{destination, nameEnd, nameLocation, addressOr}
+use Rattle.build_outcome.specs.Build.{patchOrder, patchVerdict, reachEntry, entryVerdict, entryAddress, layoutVerdicts, buildVerdict, patchedRegions, buildOutcome}
+use Rattle.build_outcome.specs.BuildLaws.{outcome-accepted, outcome-refused}
 use Rattle.reading.specs.Reading.{imageOf, readings}
 use Rattle.reading.specs.Demand.{reads-back}
-use Rattle.binary_builder.specs.Contract.{reachedEntry, entryAnswer, BuildIs}
+use Rattle.binary_builder.specs.Contract.{BuildIs}
+use Rattle.binary_builder.specs.Steps.{reachedEntry, entryAnswer}
 use Rattle.binary_builder.specs.OrderLaws.{label-end}
 
 -- ---- the entry

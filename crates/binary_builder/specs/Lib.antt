@@ -1,3 +1,4 @@
+pub mod Steps
 pub mod Contract
 pub mod PlacesLaws
 pub mod OrderLaws

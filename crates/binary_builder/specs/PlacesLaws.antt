@@ -5,18 +5,19 @@ use mathlib.Core.List.{List, [], _∷_}
 use mathlib.Core.Path.{_≡_, refl, ap, _∙_}
 use lib.ListN.{length}
 use Rattle.record.specs.Records.{places, firstBad, firstBadOf, limit}
-use Rattle.record.specs.RecordsLaws.{first-place, of-place, limit-bad, limit-good, first-limit}
+use Rattle.record.specs.RecordsLaws.{of-place, limit-bad, limit-good, first-limit}
 use Rattle.record.specs.declared.Layout.{Layout}
 use Rattle.record.specs.declared.Layout.the-variants.{Good, Bad}
 use Rattle.refusal.specs.Verdicts.{andThen, layoutVerdict}
 use Rattle.refusal.specs.VerdictsLaws.{both-pass, layout-pass}
 use Rattle.refusal.specs.declared.Verdict.the-variants.{Pass}
 use Rattle.labels.specs.Labels.{labelOk, labelLayout, labelRepeat}
-use Rattle.names.specs.Names.{isFirst, firstRepeat}
+use Rattle.names.specs.NamesLaws.{later-place}
+use Rattle.names.specs.declared.Repeat.the-variants.{Later}
 use Rattle.regions.specs.Regions.{regionOk, regionRecords, regionLayout, regionCount}
 use Rattle.address_label.specs.Entries.{entryOk, entryLayout}
 use Rattle.pending.specs.Pendings.{pendingOk, pendingLayout}
-use Rattle.patch.specs.Build.{layoutVerdicts}
+use Rattle.build_outcome.specs.Build.{layoutVerdicts}
 
 pub label-place : (s : List ℕ) (p : ℕ) → labelLayout s ≡ Bad p → p ≤ limit
 unfolding labelLayout
@@ -39,11 +40,9 @@ pub pending-place : (count : ℕ) (s : List ℕ) (p : ℕ) → pendingLayout cou
 unfolding pendingLayout
 pending-place count s p e = first-limit (pendingOk count s) s p e
 
-pub repeat-place : (s : List ℕ) (p : ℕ) → labelLayout s ≡ Good → labelRepeat s ≡ Bad p → p ≤ limit
-unfolding labelLayout firstRepeat
-repeat-place s p g e =
-    let l = limit-good s (firstBad (labelOk s) (places s)) g in
-    omega (arith, l .0, first-place (isFirst 4 s) s p e)
+pub repeat-place : (s : List ℕ) (p : ℕ) → labelLayout s ≡ Good → labelRepeat s ≡ Later p → p ≤ limit
+unfolding labelLayout
+repeat-place s p g e = omega (arith, limit-good s (firstBad (labelOk s) (places s)) g .0, later-place 4 s p e)
 
 -- ---- the layouts one after the other
 module _ (labels entry regions pending : List ℕ) where

@@ -1,9 +1,11 @@
 -- Breakpoint records, kind 37, and the filled part of a buffer (document 01, 'Pending 36, breakpoint 37'). Assumes nothing.
-use Prim.Native.Nat.{ℕ, _%_}
-use mathlib.Core.List.{List}
+use Prim.Native.Nat.{ℕ, zero, suc, _+_, _-_, _/_, _%_}
+use mathlib.Core.List.{List, [], _∷_}
 use mathlib.Core.Bool.{Bool, true, false, _&&_}
 use lib.ListN.{length, take}
 use lib.Dec.{leb, eqb}
+use Rattle.record.specs.Bytes.{le32, locationAt}
+use Rattle.record.specs.declared.Location.{Location}
 use Rattle.record.specs.Records.{bodyLen, kindAt, whole, places, firstBad, withinLimit}
 use Rattle.record.specs.declared.Layout.{Layout}
 use Rattle.record.specs.declared.Layout.the-variants.{Good, Bad}
@@ -12,6 +14,18 @@ use Rattle.pending.specs.Pendings.{pendingOk}
 -- "Breakpoint: location, then one 4-byte pc a word": a line has one to five words
 unfoldable pub breakpointOk : List ℕ → ℕ → Bool
 breakpointOk s at = whole s at && (eqb (kindAt s at) 37 && leb 12 (bodyLen s at) && leb (bodyLen s at) 28 && eqb (bodyLen s at % 4) 0)
+
+-- n words from i on
+unfoldable pub wordsAt : (n : ℕ) → List ℕ → (i : ℕ) → List ℕ
+wordsAt zero s i = []
+wordsAt (suc n) s i = le32 s i ∷ wordsAt n s (i + 4)
+
+-- what the breakpoint at `at` holds
+abbrev pub breakpointLocation : List ℕ → ℕ → Location
+breakpointLocation s at = locationAt s (at + 4)
+
+abbrev pub breakpointPcs : List ℕ → ℕ → List ℕ
+breakpointPcs s at = wordsAt ((bodyLen s at - 8) / 4) s (at + 12)
 
 -- "a buffer is over 65,536 bytes, or a fill count over its buffer's length": the limit is then the place, and the records are unread
 unfoldable pub filledLayout : ℕ → List ℕ → Layout → Layout

@@ -47,6 +47,11 @@ unfoldable pub nextAdjacent : List Token → ℕ → At Seen
 unfolding peek step passed
 nextAdjacent ts i = record { answer = peek ts (seek ts i); index = step ts (seek ts i) }
 
+-- the same, and its own index
+unfoldable pub peekAdjacent : List Token → ℕ → At Seen
+unfolding peek passed
+peekAdjacent ts i = record { answer = peek ts (seek ts i); index = seek ts i }
+
 -- the byte place of an index in the list of records
 abbrev pub cursorAt : List ℕ → ℕ → Cursor
 cursorAt s i = record { index = i; at = getD (places s) i (length s) }

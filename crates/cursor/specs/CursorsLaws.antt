@@ -1,11 +1,11 @@
--- Laws of positions: an index and its byte place, what is passed over, and what a reader promises. Assumes nothing.
+-- Laws of positions: an index and its byte place, and what is passed over. Assumes nothing.
 use Prim.Native.Nat.{ℕ, zero, suc, _+_, _≤_, _<_}
 use native.Mathlib.Numerals.{add-one}
 use native.Mathlib.Omega.{arith}
 use mathlib.Core.List.{List, [], _∷_, map}
 use mathlib.Core.Bool.{Bool, true, false}
 use mathlib.Core.Path.{_≡_, refl, sym, ap, _∙_}
-use lib.ListN.{length, getD, drop, length-map, length-drop, drop-of-length-le, List·getD-eq-default}
+use lib.ListN.{length, getD, drop, length-map, drop-of-length-le, List·getD-eq-default}
 use lib.Seq.{drop-cons}
 use lib.Dec.{ltb}
 use borrow.Author.Tests.{lt-ltb, le-ltb, ltb-true, ltb-false}
@@ -17,8 +17,8 @@ use Rattle.lexer.specs.Tokens.{tokenOk, TokenIs, tokenLayout, tokenAt, tokens}
 use Rattle.lexer.specs.TokensLaws.{token-is, token-good}
 use Rattle.cursor.specs.declared.Cursor.{Cursor}
 use Rattle.cursor.specs.declared.Seen.the-variants.{Met, End}
-use Rattle.cursor.specs.Cursors.{At, isAdjacentKind, passed, seek, noToken, peek, step, nextAdjacent, cursorAt}
-use Rattle.cursor.specs.Reads.{Placed, ReadAs}
+use Rattle.cursor.specs.Cursors.{isAdjacentKind, passed, seek, noToken, peek, step, nextAdjacent, cursorAt}
+use Rattle.cursor.specs.Reads.{Placed}
 
 -- ---- the tokens and their places
 
@@ -88,18 +88,6 @@ place-end s i h = List·getD-eq-default (places s) (length s) (omega (arith, tok
 
 -- ---- what is passed over
 
-passed-most : (ts : List Token) → passed ts ≤ length ts
-unfolding passed
-passed-most [] = omega arith
-passed-most (t ∷ ts) = go (isAdjacentKind (t .kind)) refl (passed-most ts)
-  where
-    go : (b : Bool) → isAdjacentKind (t .kind) ≡ b → passed ts ≤ length ts → passed (t ∷ ts) ≤ length (t ∷ ts)
-    go true b h = rw (b, passed) (omega arith)
-    go false b h = rw (b, passed) (omega arith)
-
-pub seek-most : (ts : List Token) (i : ℕ) → i ≤ length ts → seek ts i ≤ length ts
-seek-most ts i h = omega (arith, passed-most (drop i ts), length-drop i ts)
-
 pub seek-end : (ts : List Token) (i : ℕ) → length ts ≤ i → seek ts i ≡ i
 unfolding passed
 seek-end ts i h = rw (drop-of-length-le ts h) (omega arith)
@@ -134,13 +122,6 @@ pub step-end : (ts : List Token) (i : ℕ) → length ts ≤ i → step ts i ≡
 unfolding step
 step-end ts i h = rw (le-ltb i (length ts) h, step)
 
-pub step-most : (ts : List Token) (i : ℕ) → step ts i ≤ length ts
-step-most ts i = go (ltb i (length ts)) refl
-  where
-    go : (b : Bool) → ltb i (length ts) ≡ b → step ts i ≤ length ts
-    go true b = let h = ltb-true i (length ts) b in omega (arith, step-in ts i h)
-    go false b = omega (arith, step-end ts i (ltb-false i (length ts) b))
-
 pub adjacent-answer : (ts : List Token) (i : ℕ) → nextAdjacent ts i .answer ≡ peek ts (seek ts i)
 unfolding nextAdjacent
 adjacent-answer ts i = refl
@@ -149,13 +130,7 @@ pub adjacent-index : (ts : List Token) (i : ℕ) → nextAdjacent ts i .index �
 unfolding nextAdjacent
 adjacent-index ts i = refl
 
-pub adjacent-within : (ts : List Token) (i : ℕ) → nextAdjacent ts i .index ≤ length ts
-adjacent-within ts i = rw (adjacent-index ts i) (step-most ts (seek ts i))
-
 -- ---- cursors
-
-pub placed-at : (s : List ℕ) (i : ℕ) → tokenLayout s ≡ Good → i ≤ length (tokens s) → Placed s (cursorAt s i)
-placed-at s i g h = record { layout-good = g; index-within = h; place-is = refl }
 
 pub cursor-is : (s : List ℕ) (c : Cursor) (i : ℕ) → Placed s c → c .index ≡ i → c ≡ cursorAt s i
 cursor-is s c i p e = ap (λ (n : ℕ). record { index = c .index; at = n }) (p .place-is) ∙ ap (cursorAt s) e
@@ -201,9 +176,3 @@ ended s c p h = go (ltb (c .index) (length (tokens s))) refl
         let f = place-each s (p .layout-good) (c .index) (ltb-true (c .index) (length (tokens s)) b) in
         absurd (omega (arith, p .place-is))
     go false b = omega (arith, ltb-false (c .index) (length (tokens s)) b, p .index-within)
-
--- ---- readers
-
-pub read-as : {A : Type 0} (s : List ℕ) (x : At A) (answer : A) (cursor : Cursor) → tokenLayout s ≡ Good → x .index ≤ length (tokens s) → answer ≡ x .answer
-    → cursor ≡ cursorAt s (x .index) → ReadAs s x answer cursor
-read-as s x answer cursor g h a e = record { answer-is = a; cursor-is = e; placed = rw e (placed-at s (x .index) g h) }

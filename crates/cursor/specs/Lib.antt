@@ -1,3 +1,4 @@
 pub mod Cursors
 pub mod Reads
 pub mod CursorsLaws
+pub mod Position

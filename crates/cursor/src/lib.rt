@@ -1,8 +1,11 @@
 // A position in a token list, by value beside the list (cursor.rs): a read costs the tokens that it passes.
 ghost use mathlib.Core.Path.{_≡_};
 ghost use Rattle.lexer.specs.Tokens.{tokenLayout, tokens};
-ghost use Rattle.cursor.specs.Cursors.{cursorAt, startIndex, isAdjacentKind, peek, step, seek};
-ghost use Rattle.cursor.specs.Reads.{Placed};
+ghost use Rattle.cursor.specs.Cursors.{cursorAt, startIndex, isAdjacentKind, peek, step, seek, nextAdjacent, peekAdjacent};
+ghost use Rattle.cursor.specs.Reads.{Placed, ReadAs};
+
+mod lexer_cursor;
+
 use lexer::Token;
 use lexer::TokenKind;
 use record::Layout;
@@ -26,48 +29,48 @@ pub struct TokenRead {
 }
 
 // The position of a token number, or the list's end.
-pub fn start(s: &[u8], position: usize) -> Cursor
-    requires { ⌜ tokenLayout (now s) ≡ Layout.Good ⌝ }
-    ensures { λ r. ⌜ (r ≡ cursorAt (now (s .entry)) (startIndex (tokens (now (s .entry))) position)) × Placed (now (s .entry)) r ⌝ }
+pub fn start(list: &[u8], position: usize) -> Cursor
+    requires { ⌜ tokenLayout (now list) ≡ Layout.Good ⌝ }
+    ensures { λ r. ⌜ (r ≡ cursorAt (now (list .entry)) (startIndex (tokens (now (list .entry))) position)) × Placed (now (list .entry)) r ⌝ }
 {
     let mut index: usize = 0;
     let mut at: usize = 0;
-    while at < s.len() {
+    while at < list.len() {
         if position <= index {
             return Cursor { index, at };
         }
-        at = at + 4 + record::half_at(s, at);
+        at = record::next(list, at);
         index = index + 1;
     }
     Cursor { index, at }
 }
 
 // What stands at the position.
-pub fn peek(s: &[u8], c: Cursor) -> Seen
-    requires { ⌜ Placed (now s) c ⌝ }
-    ensures { λ r. ⌜ r ≡ peek (tokens (now (s .entry))) (c .index) ⌝ }
+pub fn peek(list: &[u8], position: Cursor) -> Seen
+    requires { ⌜ Placed (now list) position ⌝ }
+    ensures { λ r. ⌜ r ≡ peek (tokens (now (list .entry))) (position .index) ⌝ }
 {
-    let at = c.at;
-    if at < s.len() {
-        Seen::Met(lexer::token_at(s, at))
+    let at = position.at;
+    if at < list.len() {
+        Seen::Met(lexer::token_at(list, at))
     } else {
         Seen::End
     }
 }
 
 // The position behind it; at the list's end it stays.
-pub fn next(s: &[u8], c: Cursor) -> Cursor
-    requires { ⌜ Placed (now s) c ⌝ }
-    ensures { λ r. ⌜ (r ≡ cursorAt (now (s .entry)) (step (tokens (now (s .entry))) (c .index))) × Placed (now (s .entry)) r ⌝ }
+pub fn next(list: &[u8], position: Cursor) -> Cursor
+    requires { ⌜ Placed (now list) position ⌝ }
+    ensures { λ r. ⌜ (r ≡ cursorAt (now (list .entry)) (step (tokens (now (list .entry))) (position .index))) × Placed (now (list .entry)) r ⌝ }
 {
-    let at = c.at;
-    if at < s.len() {
+    let at = position.at;
+    if at < list.len() {
         Cursor {
-            index: c.index + 1,
-            at: at + 4 + record::half_at(s, at),
+            index: position.index + 1,
+            at: record::next(list, at),
         }
     } else {
-        c
+        position
     }
 }
 
@@ -76,24 +79,64 @@ pub fn is_adjacent_kind(kind: TokenKind) -> bool
     ensures { λ r. ⌜ r ≡ isAdjacentKind kind ⌝ }
 {
     let n = lexer::strip(kind);
-    n != 0 && n != 11
+    n != lexer::COMMENT && n != lexer::COMMA
 }
 
 // The position of the next token that is not passed over, or the list's end.
-pub fn seek_without(s: &[u8], c: Cursor) -> Cursor
-    requires { ⌜ Placed (now s) c ⌝ }
-    ensures { λ r. ⌜ (r ≡ cursorAt (now (s .entry)) (seek (tokens (now (s .entry))) (c .index))) × Placed (now (s .entry)) r ⌝ }
+pub fn seek_without(list: &[u8], position: Cursor) -> Cursor
+    requires { ⌜ Placed (now list) position ⌝ }
+    ensures { λ r. ⌜ (r ≡ cursorAt (now (list .entry)) (seek (tokens (now (list .entry))) (position .index))) × Placed (now (list .entry)) r ⌝ }
 {
-    let mut index = c.index;
-    let mut at = c.at;
-    while at < s.len() {
-        let t = lexer::token_at(s, at);
+    let mut index = position.index;
+    let mut at = position.at;
+    while at < list.len() {
+        let t = lexer::token_at(list, at);
         let kind = t.kind;
         if is_adjacent_kind(kind) {
             return Cursor { index, at };
         }
-        at = at + 4 + record::half_at(s, at);
+        at = record::next(list, at);
         index = index + 1;
     }
     Cursor { index, at }
+}
+
+// What stands at a position, and the position behind it.
+pub fn step_at(list: &[u8], position: Cursor) -> TokenRead
+    requires { ⌜ Placed (now list) position ⌝ }
+    ensures { λ r. ⌜ (r .answer ≡ peek (tokens (now (list .entry))) (position .index))
+        × (r .cursor ≡ cursorAt (now (list .entry)) (step (tokens (now (list .entry))) (position .index)))
+        × Placed (now (list .entry)) (r .cursor) ⌝ }
+{
+    let answer = peek(list, position);
+    let cursor = next(list, position);
+    TokenRead { answer, cursor }
+}
+
+// The next token that is not passed over, and the position behind it. Plain parameters: its callers need no proof by hand.
+pub fn next_adjacent(list: &[u8], position: Cursor) -> TokenRead
+    requires { ⌜ Placed (now list) position ⌝ }
+    ensures { λ r. ⌜ ReadAs (now (list .entry)) (nextAdjacent (tokens (now (list .entry))) (position .index)) (r .answer) (r .cursor) ⌝ }
+{
+    let mut found = lexer_cursor::seek_without(lexer_cursor::new(list, position));
+    let answer = lexer_cursor::next(&mut found);
+    let cursor = Cursor {
+        index: found.index,
+        at: found.at,
+    };
+    TokenRead { answer, cursor }
+}
+
+// The next token that is not passed over, and its own position.
+pub fn peek_adjacent(list: &[u8], position: Cursor) -> TokenRead
+    requires { ⌜ Placed (now list) position ⌝ }
+    ensures { λ r. ⌜ ReadAs (now (list .entry)) (peekAdjacent (tokens (now (list .entry))) (position .index)) (r .answer) (r .cursor) ⌝ }
+{
+    let found = lexer_cursor::seek_without(lexer_cursor::new(list, position));
+    let answer = lexer_cursor::peek(found);
+    let cursor = Cursor {
+        index: found.index,
+        at: found.at,
+    };
+    TokenRead { answer, cursor }
 }

@@ -9,6 +9,7 @@ use Rattle.record.specs.Records.{bodyLen, kindAt, whole, places, firstBad, with
 use Rattle.record.specs.declared.Layout.{Layout}
 use Rattle.names.specs.Names.{nameOf, firstNamed, firstRepeat}
 use Rattle.names.specs.declared.Named.{Named}
+use Rattle.names.specs.declared.Repeat.{Repeat}
 use Rattle.instructions.specs.declared.Opcode.{Opcode}
 use Rattle.instructions.specs.declared.Opcode.the-variants.{Op, Func, Special, Algebra, Cop1, Cop1I}
 use Rattle.instructions.specs.declared.Size.{Size}
@@ -73,8 +74,8 @@ unfoldable pub descriptorLayout : List ℕ → Layout
 unfolding descriptorOk firstBad places withinLimit
 descriptorLayout s = withinLimit s (firstBad (descriptorOk s) (places s))
 
--- refusal 2: the first descriptor that repeats a name
-abbrev pub descriptorRepeat : List ℕ → Layout
+-- refusal 2: "Two descriptors ... share a name"
+abbrev pub descriptorRepeat : List ℕ → Repeat
 descriptorRepeat s = firstRepeat 8 s
 
 -- the place of the descriptor of a name

@@ -1,10 +1,11 @@
 -- The mnemonic record, kind 32 (document 01, 'Mnemonic 32, descriptor 33'). Assumes nothing.
-use Prim.Native.Nat.{ℕ, _+_, _-_}
+use Prim.Native.Nat.{ℕ, _+_, _-_, _≤_}
 use mathlib.Core.List.{List, [], _∷_, map}
 use mathlib.Core.Bool.{Bool, true, false, _&&_}
+use mathlib.Core.Path.{_≡_}
 use lib.ListN.{length}
 use lib.Dec.{leb, eqb}
-use Rattle.record.specs.Bytes.{locationAt, part, isText, all}
+use Rattle.record.specs.Bytes.{byteAt, locationAt, part, isText, all}
 use Rattle.record.specs.Records.{bodyLen, kindAt, whole, places, firstBadOf, withinLimit}
 use Rattle.record.specs.declared.Layout.{Layout}
 use Rattle.record.specs.declared.Layout.the-variants.{Bad}
@@ -37,3 +38,7 @@ mnemonicName s = map lower (mnemonicBytes s 0)
 
 abbrev pub mnemonicLocation : List ℕ → Location
 mnemonicLocation s = locationAt s 4
+
+-- from `len` on the bytes are zeros
+abbrev pub ZeroFrom : ℕ → List ℕ → Type 0
+ZeroFrom len bytes = (i : ℕ) → len ≤ i → byteAt bytes i ≡ 0

@@ -1,19 +1,19 @@
 -- What a mnemonic's test says, in facts, what a list of one mnemonic holds, and its name byte by byte. Assumes nothing.
-use Prim.Native.Nat.{ℕ, suc, _+_, _≤_, _<_}
+use Prim.Native.Nat.{ℕ, zero, suc, _+_, _≤_, _<_}
 use native.Mathlib.Numerals.{add-one}
 use native.Mathlib.Omega.{arith}
 use mathlib.Core.List.{List, [], _∷_, _++_, map, map-append}
 use mathlib.Core.Bool.{Bool, true, false, _&&_, and-eq-true-iff}
 use mathlib.Core.Path.{_≡_, refl, sym, ap, ap₂, _∙_}
-use lib.ListN.{length, take, set}
-use lib.Seq.{take-suc, take-suc-set}
+use lib.ListN.{length, take, set, replicate}
+use lib.Seq.{take-suc, take-suc-set, getD-set-other}
 use lib.Dec.{leb, eqb}
 use borrow.Author.Tests.{leb-true, leb-false}
 use Rattle.record.specs.Bytes.{byteAt, isText, all}
 use Rattle.record.specs.Records.{bodyLen, kindAt, next, whole, places, placesFrom, firstBadOf, limit}
 use Rattle.record.specs.RecordsLaws.{places-all, places-step, places-cut, places-end, whole-is, good-ok, of-good, limit-kept, limit-passed, limit-good}
 use Rattle.record.specs.declared.Layout.the-variants.{Good, Bad}
-use Rattle.descriptors.specs.Mnemonics.{mnemonicBytes, mnemonicOk, oneMnemonic, mnemonicLayout, lower}
+use Rattle.descriptors.specs.Mnemonics.{mnemonicBytes, mnemonicOk, oneMnemonic, mnemonicLayout, lower, ZeroFrom}
 
 pub record MnemonicIs (s : List ℕ) (at : ℕ) : Type 0 where
   pub whole-at : whole s at ≡ true
@@ -82,3 +82,12 @@ lowered-next bytes name i b h k e f =
     let r : map lower (take (suc i) name) ≡ map lower (take i name) ++ (lower (byteAt name i) ∷ []) =
     ap (map lower) (take-suc name i 0 k) ∙ map-append lower (take i name) (byteAt name i ∷ []) in
     rw add-one (take-suc-set bytes i b h ∙ ap₂ (λ (u : List ℕ) (v : ℕ). u ++ (v ∷ [])) e f ∙ sym r)
+
+-- a list of zeros, and one more byte before them
+pub zeros : (n i : ℕ) → byteAt (replicate n 0) i ≡ 0
+zeros zero i = refl
+zeros (suc n) zero = refl
+zeros (suc n) (suc i) = zeros n i
+
+pub zero-next : (bytes : List ℕ) (i b : ℕ) → ZeroFrom i bytes → ZeroFrom (i + 1) (set bytes i b)
+zero-next bytes i b h k g = getD-set-other bytes i k b 0 (omega arith) ∙ h k (omega arith)

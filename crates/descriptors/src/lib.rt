@@ -2,15 +2,24 @@
 ghost use mathlib.Core.Path.{_≡_};
 ghost use Prim.Native.Nat.{_+_, _≤_};
 ghost use lib.ListN.{length, take};
-ghost use Rattle.descriptors.specs.Mnemonics.{mnemonicOk, mnemonicLayout, lower, mnemonicName, mnemonicLocation};
+ghost use Rattle.descriptors.specs.Mnemonics.{mnemonicOk, mnemonicLayout, lower, mnemonicName, mnemonicLocation, ZeroFrom};
 ghost use Rattle.descriptors.specs.Descriptors.{mostSize, mostFlag, mostPresent, mostAlternative, fieldsOk, descriptorOk, descriptorLayout, descriptorRepeat, findDescriptor, opcodeFrom, sizeFrom, alternativeAt, instructionAt};
+
+mod numbers;
+
 use instructions::Alternative;
 use instructions::Encoding;
 use instructions::Opcode;
 use instructions::Size;
 use names::Named;
+use names::Repeat;
 use record::Layout;
 use record::Location;
+
+// The kinds of the two records.
+const MNEMONIC: usize = 32;
+
+const DESCRIPTOR: usize = 33;
 
 // A row of the instruction table: how a mnemonic's word starts and is laid out.
 pub struct Instruction {
@@ -18,7 +27,7 @@ pub struct Instruction {
     pub encoding: Encoding,
 }
 
-// The mnemonic in lower case: the first `len` bytes.
+// The mnemonic in lower case: the first `len` bytes, and zeros behind them.
 pub struct Mnemonic {
     pub bytes: [u8; 16],
     pub len: usize,
@@ -26,15 +35,15 @@ pub struct Mnemonic {
 }
 
 // Whether the record at `at` is a mnemonic.
-fn mnemonic_ok(s: &[u8], at: usize) -> bool
-    requires { ⌜ at ≤ length (now s) ⌝ }
-    ensures { λ r. ⌜ r ≡ mnemonicOk (now (s .entry)) at ⌝ }
+fn mnemonic_ok(list: &[u8], at: usize) -> bool
+    requires { ⌜ at ≤ length (now list) ⌝ }
+    ensures { λ r. ⌜ r ≡ mnemonicOk (now (list .entry)) at ⌝ }
 {
-    if !record::whole_at(s, at) {
+    if !record::whole_at(list, at) {
         return false;
     }
-    let n = record::half_at(s, at);
-    if record::half_at(s, at + 2) != 32 {
+    let n = record::half_at(list, at);
+    if record::half_at(list, at + 2) != MNEMONIC {
         return false;
     }
     if n < 8 {
@@ -43,24 +52,24 @@ fn mnemonic_ok(s: &[u8], at: usize) -> bool
     if n > 24 {
         return false;
     }
-    record::all_text(&s[at + 12..at + 4 + n])
+    record::all_text(&list[at + 12..at + 4 + n])
 }
 
 // The place of the first record that breaks the layout, the list's end where there is none, or the limit.
-pub fn first_bad_mnemonic(s: &[u8]) -> Layout
-    ensures { λ r. ⌜ r ≡ mnemonicLayout (now (s .entry)) ⌝ }
+pub fn first_bad_mnemonic(list: &[u8]) -> Layout
+    ensures { λ r. ⌜ r ≡ mnemonicLayout (now (list .entry)) ⌝ }
 {
-    if s.len() > 65536 {
-        return Layout::Bad(65536);
+    if list.len() > record::LIMIT {
+        return Layout::Bad(record::LIMIT);
     }
-    if s.len() == 0 {
+    if list.len() == 0 {
         return Layout::Bad(0);
     }
-    if !mnemonic_ok(s, 0) {
+    if !mnemonic_ok(list, 0) {
         return Layout::Bad(0);
     }
-    let end = 4 + record::half_at(s, 0);
-    if end < s.len() {
+    let end = record::next(list, 0);
+    if end < list.len() {
         return Layout::Bad(end);
     }
     Layout::Good
@@ -79,16 +88,17 @@ fn lower_byte(b: u8) -> u8
 }
 
 // The one mnemonic of a list that keeps its layout.
-pub fn read_mnemonic(s: &[u8]) -> Mnemonic
-    requires { ⌜ mnemonicLayout (now s) ≡ Layout.Good ⌝ }
-    ensures { λ r. ⌜ (take (r .len) (r .bytes) ≡ mnemonicName (now (s .entry))) × (r .len ≤ 16) × (r .location ≡ mnemonicLocation (now (s .entry))) ⌝ }
+pub fn read_mnemonic(list: &[u8]) -> Mnemonic
+    requires { ⌜ mnemonicLayout (now list) ≡ Layout.Good ⌝ }
+    ensures { λ r. ⌜ (take (r .len) (r .bytes) ≡ mnemonicName (now (list .entry))) × (r .len ≤ 16)
+        × (r .location ≡ mnemonicLocation (now (list .entry))) × ZeroFrom (r .len) (r .bytes) ⌝ }
 {
-    let len = record::half_at(s, 0) - 8;
-    let location = record::location_at(s, 4);
+    let len = record::half_at(list, 0) - 8;
+    let location = record::location_at(list, 4);
     let mut bytes = [0u8; 16];
     let mut i: usize = 0;
     while i < len {
-        bytes[i] = lower_byte(s[12 + i]);
+        bytes[i] = lower_byte(list[12 + i]);
         i = i + 1;
     }
     Mnemonic {
@@ -99,58 +109,62 @@ pub fn read_mnemonic(s: &[u8]) -> Mnemonic
 }
 
 // Whether the fixed fields of the record at `at` are those of a descriptor.
-fn fields_ok(s: &[u8], at: usize) -> bool
-    requires { ⌜ at + 12 ≤ length (now s) ⌝ }
-    ensures { λ r. ⌜ r ≡ fieldsOk (now (s .entry)) at ⌝ }
+fn fields_ok(list: &[u8], at: usize) -> bool
+    requires { ⌜ at + 12 ≤ length (now list) ⌝ }
+    ensures { λ r. ⌜ r ≡ fieldsOk (now (list .entry)) at ⌝ }
 {
-    let encoding = s[at + 6];
-    let present = s[at + 9];
-    if s[at + 4] > 5 {
+    let encoding = list[at + 6];
+    let present = list[at + 9];
+    if list[at + 4] > numbers::COP1I {
         return false;
     }
-    if encoding > 20 {
+    if encoding > numbers::FP_BRANCH {
         return false;
     }
-    if s[at + 7] > most_size(encoding) {
+    if list[at + 7] > most_size(encoding) {
         return false;
     }
-    if s[at + 8] > most_flag(encoding) {
+    if list[at + 8] > most_flag(encoding) {
         return false;
     }
     if present > most_present(encoding) {
         return false;
     }
-    if s[at + 10] > most_alternative(present, 5) {
+    if list[at + 10] > most_alternative(present, numbers::COP1I) {
         return false;
     }
-    s[at + 11] <= most_alternative(present, 255)
+    list[at + 11] <= most_alternative(present, 255)
 }
 
 fn most_size(encoding: u8) -> u8
     ensures { λ r. ⌜ r ≡ mostSize encoding ⌝ }
 {
-    if encoding < 15 {
+    if encoding < numbers::FP_3REGISTER {
         return 0;
     }
-    if encoding > 18 {
+    if encoding > numbers::FP_COND {
         return 0;
     }
-    2
+    numbers::WORD
 }
 
 fn most_flag(encoding: u8) -> u8
     ensures { λ r. ⌜ r ≡ mostFlag encoding ⌝ }
 {
-    if encoding == 17 {
+    if encoding == numbers::FP_MOVE {
         return 1;
     }
-    if encoding >= 19 { 1 } else { 0 }
+    if encoding >= numbers::FP_CROSS_MOVE {
+        1
+    } else {
+        0
+    }
 }
 
 fn most_present(encoding: u8) -> u8
     ensures { λ r. ⌜ r ≡ mostPresent encoding ⌝ }
 {
-    if encoding == 7 { 1 } else { 0 }
+    if encoding == numbers::IMMEDIATE { 1 } else { 0 }
 }
 
 // What the alternative's fields may hold at most: `most` where it is present, else 0.
@@ -161,15 +175,15 @@ fn most_alternative(present: u8, most: u8) -> u8
 }
 
 // Whether the record at `at` is a descriptor.
-fn descriptor_ok(s: &[u8], at: usize) -> bool
-    requires { ⌜ at ≤ length (now s) ⌝ }
-    ensures { λ r. ⌜ r ≡ descriptorOk (now (s .entry)) at ⌝ }
+fn descriptor_ok(list: &[u8], at: usize) -> bool
+    requires { ⌜ at ≤ length (now list) ⌝ }
+    ensures { λ r. ⌜ r ≡ descriptorOk (now (list .entry)) at ⌝ }
 {
-    if !record::whole_at(s, at) {
+    if !record::whole_at(list, at) {
         return false;
     }
-    let n = record::half_at(s, at);
-    if record::half_at(s, at + 2) != 33 {
+    let n = record::half_at(list, at);
+    if record::half_at(list, at + 2) != DESCRIPTOR {
         return false;
     }
     if n < 9 {
@@ -178,54 +192,54 @@ fn descriptor_ok(s: &[u8], at: usize) -> bool
     if n > 24 {
         return false;
     }
-    if !fields_ok(s, at) {
+    if !fields_ok(list, at) {
         return false;
     }
-    record::all_text(&s[at + 12..at + 4 + n])
+    record::all_text(&list[at + 12..at + 4 + n])
 }
 
 // The place of the first record that is no descriptor, or the limit.
-pub fn first_bad_descriptor(s: &[u8]) -> Layout
-    ensures { λ r. ⌜ r ≡ descriptorLayout (now (s .entry)) ⌝ }
+pub fn first_bad_descriptor(list: &[u8]) -> Layout
+    ensures { λ r. ⌜ r ≡ descriptorLayout (now (list .entry)) ⌝ }
 {
-    if s.len() > 65536 {
-        return Layout::Bad(65536);
+    if list.len() > record::LIMIT {
+        return Layout::Bad(record::LIMIT);
     }
     let mut at: usize = 0;
-    while at < s.len() {
-        if !descriptor_ok(s, at) {
+    while at < list.len() {
+        if !descriptor_ok(list, at) {
             return Layout::Bad(at);
         }
-        at = at + 4 + record::half_at(s, at);
+        at = record::next(list, at);
     }
     Layout::Good
 }
 
-// The place of the first descriptor that repeats a name.
-pub fn first_repeat(s: &[u8]) -> Layout
-    requires { ⌜ descriptorLayout (now s) ≡ Layout.Good ⌝ }
-    ensures { λ r. ⌜ r ≡ descriptorRepeat (now (s .entry)) ⌝ }
+// The first descriptor that shares its name with an earlier one.
+pub fn first_repeat(list: &[u8]) -> Repeat
+    requires { ⌜ descriptorLayout (now list) ≡ Layout.Good ⌝ }
+    ensures { λ r. ⌜ r ≡ descriptorRepeat (now (list .entry)) ⌝ }
 {
-    names::first_repeat(s, 8)
+    names::first_repeat(list, 8)
 }
 
 // The place of the descriptor of that name.
-pub fn find(s: &[u8], name: &[u8]) -> Named
-    requires { ⌜ descriptorLayout (now s) ≡ Layout.Good ⌝ }
-    ensures { λ r. ⌜ r ≡ findDescriptor (now (s .entry)) (now (name .entry)) ⌝ }
+pub fn find(list: &[u8], name: &[u8]) -> Named
+    requires { ⌜ descriptorLayout (now list) ≡ Layout.Good ⌝ }
+    ensures { λ r. ⌜ r ≡ findDescriptor (now (list .entry)) (now (name .entry)) ⌝ }
 {
-    names::find_named(s, 8, name)
+    names::find_named(list, 8, name)
 }
 
 fn opcode_from(class: u8, key: u8) -> Opcode
     ensures { λ r. ⌜ r ≡ opcodeFrom class key ⌝ }
 {
     match class {
-        0 => Opcode::Op(key),
-        1 => Opcode::Func(key),
-        2 => Opcode::Special(key),
-        3 => Opcode::Algebra(key),
-        4 => Opcode::Cop1(key),
+        numbers::OP => Opcode::Op(key),
+        numbers::FUNC => Opcode::Func(key),
+        numbers::SPECIAL => Opcode::Special(key),
+        numbers::ALGEBRA => Opcode::Algebra(key),
+        numbers::COP1 => Opcode::Cop1(key),
         _ => Opcode::Cop1I(key),
     }
 }
@@ -234,63 +248,63 @@ fn size_from(n: u8) -> Size
     ensures { λ r. ⌜ r ≡ sizeFrom n ⌝ }
 {
     match n {
-        0 => Size::Single,
-        1 => Size::Double,
+        numbers::SINGLE => Size::Single,
+        numbers::DOUBLE => Size::Double,
         _ => Size::Word,
     }
 }
 
-fn alternative_at(s: &[u8], at: usize) -> Alternative
-    requires { ⌜ at + 12 ≤ length (now s) ⌝ }
-    ensures { λ r. ⌜ r ≡ alternativeAt (now (s .entry)) at ⌝ }
+fn alternative_at(list: &[u8], at: usize) -> Alternative
+    requires { ⌜ at + 12 ≤ length (now list) ⌝ }
+    ensures { λ r. ⌜ r ≡ alternativeAt (now (list .entry)) at ⌝ }
 {
-    if s[at + 9] == 1 {
-        Alternative::Some(opcode_from(s[at + 10], s[at + 11]))
+    if list[at + 9] == 1 {
+        Alternative::Some(opcode_from(list[at + 10], list[at + 11]))
     } else {
         Alternative::Nothing
     }
 }
 
 // The encoding of the descriptor at `at`, with what it carries.
-fn encoding_at(s: &[u8], at: usize) -> Encoding
-    requires { ⌜ at + 12 ≤ length (now s) ⌝ }
-    ensures { λ r. ⌜ r ≡ instructionAt (now (s .entry)) at .encoding ⌝ }
+fn encoding_at(list: &[u8], at: usize) -> Encoding
+    requires { ⌜ at + 12 ≤ length (now list) ⌝ }
+    ensures { λ r. ⌜ r ≡ instructionAt (now (list .entry)) at .encoding ⌝ }
 {
-    let size = size_from(s[at + 7]);
-    let flag = s[at + 8] == 1;
-    let alternative = alternative_at(s, at);
-    let encoding = s[at + 6];
+    let size = size_from(list[at + 7]);
+    let flag = list[at + 8] == 1;
+    let alternative = alternative_at(list, at);
+    let encoding = list[at + 6];
     match encoding {
-        0 => Encoding::Register,
-        1 => Encoding::RegisterShift,
-        2 => Encoding::Source,
-        3 => Encoding::Destination,
-        4 => Encoding::Inputs,
-        5 => Encoding::Sham,
-        6 => Encoding::SpecialBranch,
-        7 => Encoding::Immediate(alternative),
-        8 => Encoding::LoadImmediate,
-        9 => Encoding::Jump,
-        10 => Encoding::Branch,
-        11 => Encoding::BranchZero,
-        12 => Encoding::Parameterless,
-        13 => Encoding::Offset,
-        14 => Encoding::FPOffset,
-        15 => Encoding::FP3Register(size),
-        16 => Encoding::FP2Register(size),
-        17 => Encoding::FPMove(size, flag),
-        18 => Encoding::FPCond(size),
-        19 => Encoding::FPCrossMove(flag),
-        _ => Encoding::FPBranch(flag),
+        numbers::REGISTER => Encoding::Register,
+        numbers::REGISTER_SHIFT => Encoding::RegisterShift,
+        numbers::SOURCE => Encoding::Source,
+        numbers::DESTINATION => Encoding::Destination,
+        numbers::INPUTS => Encoding::Inputs,
+        numbers::SHAM => Encoding::Sham,
+        numbers::SPECIAL_BRANCH => Encoding::SpecialBranch,
+        numbers::IMMEDIATE => Encoding::Immediate(alternative),
+        numbers::LOAD_IMMEDIATE => Encoding::LoadImmediate,
+        numbers::JUMP => Encoding::Jump,
+        numbers::BRANCH => Encoding::Branch,
+        numbers::BRANCH_ZERO => Encoding::BranchZero,
+        numbers::PARAMETERLESS => Encoding::Parameterless,
+        numbers::OFFSET => Encoding::Offset,
+        numbers::FP_OFFSET => Encoding::FPOffset,
+        numbers::FP_3REGISTER => Encoding::FP3Register(size),
+        numbers::FP_2REGISTER => Encoding::FP2Register(size),
+        numbers::FP_MOVE => Encoding::FPMove { size, flag },
+        numbers::FP_COND => Encoding::FPCond(size),
+        numbers::FP_CROSS_MOVE => Encoding::FPCrossMove { flag },
+        _ => Encoding::FPBranch { flag },
     }
 }
 
 // The descriptor at `at`, of a list that keeps its layout.
-pub fn instruction_at(s: &[u8], at: usize) -> Instruction
-    requires { ⌜ at + 12 ≤ length (now s) ⌝ }
-    ensures { λ r. ⌜ r ≡ instructionAt (now (s .entry)) at ⌝ }
+pub fn instruction_at(list: &[u8], at: usize) -> Instruction
+    requires { ⌜ at + 12 ≤ length (now list) ⌝ }
+    ensures { λ r. ⌜ r ≡ instructionAt (now (list .entry)) at ⌝ }
 {
-    let opcode = opcode_from(s[at + 4], s[at + 5]);
-    let encoding = encoding_at(s, at);
+    let opcode = opcode_from(list[at + 4], list[at + 5]);
+    let encoding = encoding_at(list, at);
     Instruction { opcode, encoding }
 }

@@ -1,9 +1,10 @@
 // The entry of an emit call: the caller's fill counts are lent, and the work is done by value below.
+ghost use mathlib.Core.Path.{_≡_};
+ghost use Rattle.emit_outcome.specs.Call.{lentOf, callOf, outcomeOf};
 ghost use Rattle.emit_outcome.specs.Emit.{emitOutcome};
-ghost use Rattle.emit_outcome.specs.Contract.{callOf};
-ghost use Rattle.emit.specs.Contract.{EntryIs};
 use emit_outcome::EmitAnswer;
 use emit_outcome::FillCounts;
+use emit_outcome::LinePlace;
 
 // "three fill counts, which the emitter updates in the caller's record"
 pub fn do_instruction(
@@ -14,23 +15,21 @@ pub fn do_instruction(
     data: &mut [u8],
     pending: &mut [u8],
     breakpoints: &mut [u8],
-    position: u32,
-    region: u16,
-    address: u32,
+    place: LinePlace,
 ) -> EmitAnswer
-    ensures { λ r. ⌜ EntryIs (emitOutcome (callOf (now (tokens .entry)) (now (mnemonic .entry)) (now (descriptors .entry)) (now («data» .entry)) (now (pending .entry)) (now (breakpoints .entry)) position region address (now (counts .entry)))) r (now (counts .exit)) (now («data» .exit)) (now (pending .exit)) (now (breakpoints .exit)) ⌝ }
+    ensures { λ r. ⌜ emitOutcome (callOf (now (tokens .entry)) (now (mnemonic .entry)) (now (descriptors .entry))
+        (lentOf (now («data» .entry)) (now (pending .entry)) (now (breakpoints .entry))) (now (counts .entry)) place)
+        ≡ outcomeOf r (now (counts .exit)) (lentOf (now («data» .exit)) (now (pending .exit)) (now (breakpoints .exit))) ⌝ }
 {
     let out = emit_core::do_instruction(
+        *counts,
         tokens,
         mnemonic,
         descriptors,
         data,
         pending,
         breakpoints,
-        position,
-        region,
-        address,
-        *counts,
+        place,
     );
     *counts = out.counts;
     out.answer

@@ -1,32 +1,19 @@
 -- Laws of what a line appends: one word or one record more, and the lengths. Assumes nothing.
-use Prim.Native.Nat.{ℕ, zero, suc, _+_, _-_, _*_, _%_, _≤_, _<_}
+use Prim.Native.Nat.{ℕ, zero, suc, _+_, _*_, _≤_, _<_}
 use native.Mathlib.Nat.{not-suc-le-zero}
 use native.Mathlib.Numerals.{add-one}
 use native.Mathlib.Omega.{arith}
-use mathlib.Core.Path.{_≡_, refl, sym, ap, ap₂, _∙_}
+use mathlib.Core.Path.{_≡_, refl, sym, ap, _∙_}
 use mathlib.Core.List.{List, [], _∷_, _++_, map, append-assoc, append-nil}
-use lib.ListN.{length, take, drop, getD, length-append, length-take, length-drop, drop-of-length-le}
-use lib.Seq.{take-nil, take-all, length-take-le}
-use Rattle.record.specs.Bytes.{part}
-use Rattle.record.specs.declared.Location.{Location}
-use Rattle.address_label.specs.declared.AddressLabel.{AddressLabel}
-use Rattle.address_label.specs.declared.AddressLabel.the-variants.{Constant, Label}
-use Rattle.emit_pairs.specs.declared.InstructionLabel.{InstructionLabel}
+use lib.ListN.{length, take, getD, length-append}
+use lib.Seq.{length-take-le}
+use Rattle.record.specs.Stores.{le32Bytes}
+use Rattle.pending.specs.PendingBytesLaws.{pending-length}
+use Rattle.pending.specs.declared.Origin.{Origin}
 use Rattle.emit_pairs.specs.declared.InstructionPair.{InstructionPair}
 use Rattle.emit_pairs.specs.declared.PairLabel.{PairLabel}
 use Rattle.emit_pairs.specs.declared.PairLabel.the-variants.{Nothing, Some}
-use Rattle.stores.specs.Stores.{le16Bytes, le32Bytes}
-use Rattle.emit_bytes.specs.Appended.{wordBytes, labelBytes, pendingBytes, pairBytes, pendingsBytes, pcsBytes, breakpointBytes, nameBytes, pairLen, pendingsLen}
-
--- ---- parts that run past the list
-
-pub past : (s : List ℕ) (i n : ℕ) → length s ≤ i → [] ≡ part s i n
-past s i n h = rw (drop-of-length-le s h) (sym (take-nil n))
-
-pub rest : (s : List ℕ) (i n : ℕ) → length s - i ≤ n → part s i (length s - i) ≡ part s i n
-rest s i n h =
-    let m : length (drop i s) ≡ length s - i = length-drop i s in
-    take-all (length s - i) (drop i s) (omega arith) ∙ sym (take-all n (drop i s) (omega arith))
+use Rattle.emit_bytes.specs.Appended.{wordBytes, onward, pairBytes, pendingsBytes, pairLen, pendingsLen}
 
 -- ---- words
 
@@ -63,47 +50,52 @@ words-next ps i h = rw add-one (words-suc ps i h)
 
 -- ---- pending records
 
-pub name-length : (tokens : List ℕ) (label : AddressLabel) → length (nameBytes tokens label) ≤ length tokens
-name-length tokens (Constant value) = omega arith
-name-length tokens (Label name) = simp (length-take, length-drop) (omega arith)
+pair-length : (tokens : List ℕ) (origin : Origin) (waits : PairLabel) → length (pairBytes tokens origin waits) ≡ pairLen tokens waits
+pair-length tokens origin Nothing = refl
+pair-length tokens origin (Some waits) = pending-length tokens origin waits
 
-pub label-length : (tokens : List ℕ) (label : AddressLabel) → length (labelBytes tokens label) ≡ 17 + length (nameBytes tokens label)
-label-length tokens (Constant value) = refl
-label-length tokens (Label name) = omega arith
-
-pub pending-length : (tokens : List ℕ) (region offset : ℕ) (location : Location) (label : InstructionLabel)
-    → length (pendingBytes tokens region offset location label) ≡ 36 + length (nameBytes tokens (label .label))
-pending-length tokens region offset location label = omega (arith, label-length tokens (label .label))
-
-pair-length : (tokens : List ℕ) (region offset : ℕ) (location : Location) (waits : PairLabel)
-    → length (pairBytes tokens region offset location waits) ≡ pairLen tokens waits
-pair-length tokens region offset location Nothing = refl
-pair-length tokens region offset location (Some label) = pending-length tokens region offset location label
-
-pub pendings-length : (tokens : List ℕ) (region offset : ℕ) (location : Location) (ps : List InstructionPair)
-    → length (pendingsBytes tokens region offset location ps) ≡ pendingsLen tokens ps
+pub pendings-length : (tokens : List ℕ) (origin : Origin) (ps : List InstructionPair) → length (pendingsBytes tokens origin ps) ≡ pendingsLen tokens ps
 unfolding pendingsBytes pendingsLen
-pendings-length tokens region offset location [] = refl
-pendings-length tokens region offset location (p ∷ ps) =
-    simp length-append (omega (arith, pair-length tokens region offset location (p .label), pendings-length tokens region (offset + 4) location ps))
+pendings-length tokens origin [] = refl
+pendings-length tokens origin (p ∷ ps) =
+    simp length-append (omega (arith, pair-length tokens origin (p .label), pendings-length tokens (onward origin) ps))
+
+-- the origin of a line's word with index i
+unfoldable pub wordAt : ℕ → Origin → Origin
+wordAt zero origin = origin
+wordAt (suc i) origin = wordAt i (onward origin)
+
+pub word-first : (origin : Origin) → origin ≡ wordAt 0 origin
+unfolding wordAt
+word-first origin = refl
+
+word-suc : (i : ℕ) (origin : Origin) → onward (wordAt i origin) ≡ wordAt (suc i) origin
+unfolding wordAt
+word-suc zero origin = refl
+word-suc (suc i) origin = word-suc i (onward origin)
+
+pub word-next : (i : ℕ) (origin : Origin) → onward (wordAt i origin) ≡ wordAt (i + 1) origin
+word-next i origin = rw add-one (word-suc i origin)
+
+pub word-offset : (i : ℕ) (origin : Origin) → wordAt i origin .offset ≡ origin .offset + 4 * i
+unfolding wordAt
+word-offset zero origin = omega arith
+word-offset (suc i) origin = omega (arith, word-offset i (onward origin))
 
 module _ (tokens : List ℕ) (d : InstructionPair) (w : PairLabel) where
-  pendings-suc : (region offset : ℕ) (location : Location) (ps : List InstructionPair) (i o : ℕ) → i < length ps → getD ps i d .label ≡ w → o ≡ offset + 4 * i
-      → pendingsBytes tokens region offset location (take (suc i) ps) ≡ pendingsBytes tokens region offset location (take i ps) ++ pairBytes tokens region o location w
-  unfolding pendingsBytes
-  pendings-suc region offset location [] i o h g e = absurd (not-suc-le-zero h)
-  pendings-suc region offset location (p ∷ ps) zero o h g e =
-      let z : offset ≡ o = omega arith in
-      append-nil (pairBytes tokens region offset location (p .label))
-      ∙ ap₂ (λ (k : ℕ) (v : PairLabel). pairBytes tokens region k location v) z g
-  pendings-suc region offset location (p ∷ ps) (suc i) o h g e =
-      ap (λ (r : List ℕ). pairBytes tokens region offset location (p .label) ++ r) (pendings-suc region (offset + 4) location ps i o (omega arith) g (omega arith))
-      ∙ sym (append-assoc (pairBytes tokens region offset location (p .label)) (pendingsBytes tokens region (offset + 4) location (take i ps)) (pairBytes tokens region o location w))
+  pendings-suc : (origin : Origin) (ps : List InstructionPair) (i : ℕ) → i < length ps → getD ps i d .label ≡ w
+      → pendingsBytes tokens origin (take (suc i) ps) ≡ pendingsBytes tokens origin (take i ps) ++ pairBytes tokens (wordAt i origin) w
+  unfolding pendingsBytes wordAt
+  pendings-suc origin [] i h g = absurd (not-suc-le-zero h)
+  pendings-suc origin (p ∷ ps) zero h g = append-nil (pairBytes tokens origin (p .label)) ∙ ap (pairBytes tokens origin) g
+  pendings-suc origin (p ∷ ps) (suc i) h g =
+      ap (λ (r : List ℕ). pairBytes tokens origin (p .label) ++ r) (pendings-suc (onward origin) ps i (omega arith) g)
+      ∙ sym (append-assoc (pairBytes tokens origin (p .label)) (pendingsBytes tokens (onward origin) (take i ps)) (pairBytes tokens (wordAt i (onward origin)) w))
 
-  -- one pair more: its record has the word's offset
-  pub pendings-next : (region offset : ℕ) (location : Location) (ps : List InstructionPair) (i o : ℕ) → i < length ps → getD ps i d .label ≡ w → o ≡ offset + 4 * i
-      → pendingsBytes tokens region offset location (take (i + 1) ps) ≡ pendingsBytes tokens region offset location (take i ps) ++ pairBytes tokens region o location w
-  pendings-next region offset location ps i o h g e = rw add-one (pendings-suc region offset location ps i o h g e)
+  -- one pair more: its record has the word's origin
+  pub pendings-next : (origin : Origin) (ps : List InstructionPair) (i : ℕ) → i < length ps → getD ps i d .label ≡ w
+      → pendingsBytes tokens origin (take (i + 1) ps) ≡ pendingsBytes tokens origin (take i ps) ++ pairBytes tokens (wordAt i origin) w
+  pendings-next origin ps i h g = rw add-one (pendings-suc origin ps i h g)
 
   sizes-suc : (ps : List InstructionPair) (i : ℕ) → i < length ps → getD ps i d .label ≡ w
       → pendingsLen tokens (take (suc i) ps) ≡ pendingsLen tokens (take i ps) + pairLen tokens w
@@ -128,28 +120,3 @@ sizes-within tokens (p ∷ ps) (suc m) (suc n) h = omega (arith, sizes-within to
 pub sizes-room : (tokens : List ℕ) (d : InstructionPair) (w : PairLabel) (ps : List InstructionPair) (i n : ℕ) → i < n → n ≤ length ps → getD ps i d .label ≡ w
     → pendingsLen tokens (take i ps) + pairLen tokens w ≤ pendingsLen tokens (take n ps)
 sizes-room tokens d w ps i n h k g = omega (arith, sizes-next tokens d w ps i (omega arith) g, sizes-within tokens ps (i + 1) n (omega arith))
-
--- a length field holds the length's two lowest bytes
-pub low-bytes : (n : ℕ) → le16Bytes (n % 65536) ≡ le16Bytes n
-low-bytes n = ap₂ (λ (a b : ℕ). a ∷ b ∷ []) (omega arith) (omega arith)
-
--- ---- breakpoint records
-
-pub pcs-length : (n pc : ℕ) → length (pcsBytes n pc) ≡ 4 * n
-unfolding pcsBytes
-pcs-length zero pc = refl
-pcs-length (suc n) pc = omega (arith, pcs-length n (pc + 4))
-
-pub breakpoint-length : (location : Location) (pc n : ℕ) → length (breakpointBytes location pc n) ≡ 12 + 4 * n
-breakpoint-length location pc n = omega (arith, pcs-length n pc)
-
-pcs-suc : (i pc o : ℕ) → o ≡ pc + 4 * i → pcsBytes (suc i) pc ≡ pcsBytes i pc ++ le32Bytes o
-unfolding pcsBytes
-pcs-suc zero pc o e =
-    let z : pc ≡ o = omega arith in
-    ap le32Bytes z
-pcs-suc (suc i) pc o e = ap (λ (r : List ℕ). le32Bytes pc ++ r) (pcs-suc i (pc + 4) o (omega arith))
-
--- one pc more
-pub pcs-next : (i pc o : ℕ) → o ≡ pc + 4 * i → pcsBytes (i + 1) pc ≡ pcsBytes i pc ++ le32Bytes o
-pcs-next i pc o e = rw add-one (pcs-suc i pc o e)

@@ -1,2 +1,4 @@
-pub mod Room
-pub mod ChecksLaws
+pub mod Made
+pub mod PlacesLaws
+pub mod ListsLaws
+pub mod RoomLaws

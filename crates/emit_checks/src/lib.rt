@@ -1,11 +1,18 @@
-// The checks of an emit call, over unchanged bytes: the lists (1, 2) and the room for a line (10 to 12).
+// The checks of an emit call, over unchanged bytes: the lists (1, 2), and a line that was made (4 to 12).
 ghost use mathlib.Core.Path.{_≡_};
 ghost use Prim.Native.Nat.{_≤_};
-ghost use Rattle.emit_outcome.specs.Emit.{layoutStop, listStop, metLocation, missRefusal, edgeStop};
-ghost use Rattle.emit_outcome.specs.Contract.{callOf};
-ghost use Rattle.emit_checks.specs.Room.{roomBy};
+ghost use Rattle.emit_outcome.specs.Call.{lentOf};
+ghost use Rattle.emit_outcome.specs.Checks.{layoutStop, listStop, metLocation, missRefusal};
+ghost use Rattle.emit_outcome.specs.Room.{edgeStop, roomStop};
+ghost use Rattle.emit_outcome.specs.Emit.{lineStop};
+ghost use Rattle.emit_checks.specs.Made.{pairsOf, lineMade, Filled, MadeGood};
+use emit_dispatch::LineAnswer;
+use emit_dispatch::LineEmit;
 use emit_outcome::FillCounts;
-use operands::Miss;
+use emit_outcome::LineNumbers;
+use emit_pairs::EmitInstruction;
+use names::Repeat;
+use operand::Miss;
 use record::Layout;
 use record::Location;
 use refusal::Refusal;
@@ -22,7 +29,8 @@ fn check_layouts(
     region: u16,
     counts: FillCounts,
 ) -> Verdict
-    ensures { λ r. ⌜ r ≡ layoutStop (callOf (now (tokens .entry)) (now (mnemonic .entry)) (now (descriptors .entry)) (now («data» .entry)) (now (pending .entry)) (now (breakpoints .entry)) 0 region 0 counts) ⌝ }
+    ensures { λ r. ⌜ r ≡ layoutStop (now (tokens .entry)) (now (mnemonic .entry)) (now (descriptors .entry))
+        (lentOf (now («data» .entry)) (now (pending .entry)) (now (breakpoints .entry))) region counts ⌝ }
 {
     if let Layout::Bad(place) = lexer::first_bad_token(tokens) {
         return Verdict::Stop(Refusal::BadLayout(0, place as u32));
@@ -35,7 +43,7 @@ fn check_layouts(
     }
     if let Layout::Bad(place) = breakpoints::check_data_buffer(
         data,
-        counts.region as usize,
+        counts.data_len as usize,
         region,
     ) {
         return Verdict::Stop(Refusal::BadLayout(3, place as u32));
@@ -64,7 +72,8 @@ pub fn check_lists(
     region: u16,
     counts: FillCounts,
 ) -> Verdict
-    ensures { λ r. ⌜ r ≡ listStop (callOf (now (tokens .entry)) (now (mnemonic .entry)) (now (descriptors .entry)) (now («data» .entry)) (now (pending .entry)) (now (breakpoints .entry)) 0 region 0 counts) ⌝ }
+    ensures { λ r. ⌜ r ≡ listStop (now (tokens .entry)) (now (mnemonic .entry)) (now (descriptors .entry))
+        (lentOf (now («data» .entry)) (now (pending .entry)) (now (breakpoints .entry))) region counts ⌝ }
 {
     match check_layouts(
         tokens,
@@ -78,14 +87,14 @@ pub fn check_lists(
     ) {
         Verdict::Stop(refusal) => Verdict::Stop(refusal),
         Verdict::Pass => match descriptors::first_repeat(descriptors) {
-            Layout::Good => Verdict::Pass,
-            Layout::Bad(place) => Verdict::Stop(Refusal::DuplicateName(2, place as u32)),
+            Repeat::None => Verdict::Pass,
+            Repeat::Later(place) => Verdict::Stop(Refusal::DuplicateName(2, place as u32)),
         },
     }
 }
 
 // The refusal of an operand that was missed, on a line whose mnemonic stands at `line`.
-pub fn miss_refusal(line: Location, miss: Miss) -> Refusal
+fn miss_refusal(line: Location, miss: Miss) -> Refusal
     ensures { λ r. ⌜ r ≡ missRefusal line miss ⌝ }
 {
     match miss {
@@ -113,16 +122,17 @@ pub fn miss_refusal(line: Location, miss: Miss) -> Refusal
 fn met_location(line: Location, kind: u8, met: Location) -> Location
     ensures { λ r. ⌜ r ≡ metLocation line kind met ⌝ }
 {
-    if kind == 13 { line } else { met }
+    if kind == lexer::NEW_LINE { line } else { met }
 }
 
-// Refusal 11: the first of n words, from `size` bytes of data on, whose pc does not fit 32 bits.
-fn check_edge(line: Location, address: u32, n: usize, size: u32) -> Verdict
-    requires { ⌜ (n ≤ 5) × (size ≤ 65536) ⌝ }
-    ensures { λ r. ⌜ r ≡ edgeStop line address n size ⌝ }
+// Refusal 11: the first of n words whose pc does not fit 32 bits.
+fn check_edge(numbers: LineNumbers, line: Location, n: usize) -> Verdict
+    requires { ⌜ (n ≤ 5) × (numbers .counts .«data_len» ≤ 65536) ⌝ }
+    ensures { λ r. ⌜ r ≡ edgeStop line (numbers .place .address) n (numbers .counts .«data_len») ⌝ }
 {
+    let address = numbers.place.address;
     let mut left = n;
-    let mut at = size;
+    let mut at = numbers.counts.data_len;
     while 0 < left {
         if address > 0xFFFF_FFFF - at {
             return Verdict::Stop(Refusal::OverwriteEdge(line, address, at));
@@ -133,41 +143,66 @@ fn check_edge(line: Location, address: u32, n: usize, size: u32) -> Verdict
     Verdict::Pass
 }
 
-// Refusals 10, 11 and 12, for n words and `size` bytes of pending records.
-pub fn check_room(
+// Refusals 10, 11 and 12.
+fn check_room(
+    tokens: &[u8],
+    data: &[u8],
+    pending: &[u8],
+    breakpoints: &[u8],
+    numbers: LineNumbers,
     line: Location,
-    region: u16,
-    address: u32,
-    counts: FillCounts,
-    data_len: usize,
-    pending_len: usize,
-    breakpoint_len: usize,
-    n: usize,
-    size: usize,
+    e: EmitInstruction,
 ) -> Verdict
-    requires { ⌜ (n ≤ 5) × (size ≤ 327860) × (counts .region ≤ 65536) × (counts .pending ≤ 65536) × (counts .breakpoints ≤ 65536) ⌝ }
-    ensures { λ r. ⌜ r ≡ roomBy line region address counts «data_len» «pending_len» «breakpoint_len» n size ⌝ }
+    requires { ⌜ Filled (now tokens) (lentOf (now «data») (now pending) (now breakpoints)) (numbers .counts) × (e .count ≤ 5) ⌝ }
+    ensures { λ r. ⌜ r ≡ roomStop (now (tokens .entry)) line numbers
+        (lentOf (now («data» .entry)) (now (pending .entry)) (now (breakpoints .entry))) (pairsOf e) ⌝ }
 {
-    if region == 65535 {
+    let counts = numbers.counts;
+    let n = emit_bytes::count_of(e);
+    let size = emit_bytes::pendings_size(tokens, e);
+    if numbers.place.region == emit_outcome::NO_REGION {
         return Verdict::Stop(Refusal::MissingRegion(line));
     }
-    match check_edge(line, address, n, counts.region) {
+    match check_edge(numbers, line, n) {
         Verdict::Stop(refusal) => Verdict::Stop(refusal),
         Verdict::Pass => {
-            let filled = counts.region as usize + 4 * n;
-            if filled > data_len {
+            let filled = counts.data_len as usize + 4 * n;
+            if filled > data.len() {
                 return Verdict::Stop(Refusal::NoSpace(line, 0));
             }
-            if filled > 65528 {
+            if filled > emit_outcome::MOST_DATA {
                 return Verdict::Stop(Refusal::NoSpace(line, 0));
             }
-            if counts.pending as usize + size > pending_len {
+            if counts.pending as usize + size > pending.len() {
                 return Verdict::Stop(Refusal::NoSpace(line, 1));
             }
-            if counts.breakpoints as usize + (12 + 4 * n) > breakpoint_len {
+            if counts.breakpoints as usize + (12 + 4 * n) > breakpoints.len() {
                 return Verdict::Stop(Refusal::NoSpace(line, 2));
             }
             Verdict::Pass
         }
+    }
+}
+
+// Refusals 4 to 12 of a line whose mnemonic stands at `line`.
+pub fn check_line(
+    tokens: &[u8],
+    data: &[u8],
+    pending: &[u8],
+    breakpoints: &[u8],
+    numbers: LineNumbers,
+    line: Location,
+    made: LineEmit,
+) -> Verdict
+    requires { ⌜ Filled (now tokens) (lentOf (now «data») (now pending) (now breakpoints)) (numbers .counts) × MadeGood (now tokens) made ⌝ }
+    ensures { λ r. ⌜ r ≡ lineStop (now (tokens .entry)) line numbers
+        (lentOf (now («data» .entry)) (now (pending .entry)) (now (breakpoints .entry))) (lineMade made) ⌝ }
+{
+    let answer = made.answer;
+    let e = made.emit;
+    match answer {
+        LineAnswer::Missed(miss) => Verdict::Stop(miss_refusal(line, miss)),
+        LineAnswer::OutOfRange => Verdict::Stop(Refusal::ConstantOutOfRange(line)),
+        LineAnswer::Made => check_room(tokens, data, pending, breakpoints, numbers, line, e),
     }
 }

@@ -6,14 +6,17 @@ ghost use Rattle.refusal.specs.declared.Verdict.the-variants.{Pass};
 ghost use Rattle.lexer.specs.Tokens.{tokens as tokensOf};
 ghost use Rattle.cursor.specs.Reads.{Placed};
 ghost use Rattle.descriptors.specs.Descriptors.{descriptorLayout};
-ghost use Rattle.emit_lines.specs.Contract.{LineAs};
+ghost use Rattle.emit_dispatch.specs.Contract.{LineAs};
 ghost use Rattle.emit_outcome.specs.Dispatch.{meaning, tableLine};
-ghost use Rattle.emit_outcome.specs.Emit.{listStop, emitOutcome};
-ghost use Rattle.emit_outcome.specs.Contract.{callOf, EmittedIs};
+ghost use Rattle.emit_outcome.specs.Call.{lentOf, callOf, outcomeOf};
+ghost use Rattle.emit_outcome.specs.Checks.{listStop};
+ghost use Rattle.emit_outcome.specs.Emit.{emitOutcome};
 use cursor::Cursor;
-use emit_lines::LineEmit;
+use emit_dispatch::LineEmit;
 use emit_outcome::Emitted;
 use emit_outcome::FillCounts;
+use emit_outcome::LineNumbers;
+use emit_outcome::LinePlace;
 use emit_outcome::Meaning;
 use names::Named;
 use pseudo_names::MaybePseudo;
@@ -36,15 +39,16 @@ fn find_meaning(descriptors: &[u8], name: &[u8]) -> Meaning
 }
 
 // The line of the descriptor at a place.
-fn dispatch_instruction(descriptors: &[u8], place: usize, s: &[u8], c: Cursor) -> LineEmit
+fn dispatch_instruction(descriptors: &[u8], tokens: &[u8], place: usize, at: Cursor) -> LineEmit
     requires { ⌜ place + 12 ≤ length (now descriptors) ⌝ }
-    requires { ⌜ Placed (now s) c ⌝ }
-    ensures { λ r. ⌜ LineAs (now (s .entry)) (tableLine (now (descriptors .entry)) place (tokensOf (now (s .entry))) (c .index)) (r .answer) (r .emit) (r .cursor) ⌝ }
+    requires { ⌜ Placed (now tokens) at ⌝ }
+    ensures { λ r. ⌜ LineAs (now (tokens .entry)) (tableLine (now (descriptors .entry)) place (tokensOf (now (tokens .entry))) (at .index))
+        (r .answer) (r .emit) (r .cursor) ⌝ }
 {
     let instruction = descriptors::instruction_at(descriptors, place);
     let encoding = instruction.encoding;
     let opcode = instruction.opcode;
-    emit_dispatch::dispatch_encoding(encoding, opcode, s, c)
+    emit_dispatch::dispatch_encoding(encoding, opcode, tokens, at)
 }
 
 // Refusals 3 to 12 of lists that keep their layouts, or the line appended.
@@ -55,66 +59,53 @@ fn emit_named(
     data: &mut [u8],
     pending: &mut [u8],
     breakpoints: &mut [u8],
-    position: u32,
-    region: u16,
-    address: u32,
-    counts: FillCounts,
+    numbers: LineNumbers,
 ) -> Emitted
-    requires { ⌜ listStop (callOf (now tokens) (now mnemonic) (now descriptors) (now «data») (now pending) (now breakpoints) position region address counts) ≡ Pass ⌝ }
-    ensures { λ r. ⌜ EmittedIs (emitOutcome (callOf (now (tokens .entry)) (now (mnemonic .entry)) (now (descriptors .entry)) (now («data» .entry)) (now (pending .entry)) (now (breakpoints .entry)) position region address counts)) r (now («data» .exit)) (now (pending .exit)) (now (breakpoints .exit)) ⌝ }
+    requires { ⌜ listStop (now tokens) (now mnemonic) (now descriptors) (lentOf (now «data») (now pending) (now breakpoints))
+        (numbers .place .region) (numbers .counts) ≡ Pass ⌝ }
+    ensures { λ r. ⌜ emitOutcome (callOf (now (tokens .entry)) (now (mnemonic .entry)) (now (descriptors .entry))
+        (lentOf (now («data» .entry)) (now (pending .entry)) (now (breakpoints .entry))) (numbers .counts) (numbers .place))
+        ≡ outcomeOf (r .answer) (r .counts) (lentOf (now («data» .exit)) (now (pending .exit)) (now (breakpoints .exit))) ⌝ }
 {
-    let m = descriptors::read_mnemonic(mnemonic);
-    let bytes = m.bytes;
-    let len = m.len;
-    let line = m.location;
-    let c = cursor::start(tokens, position as usize);
+    let named = descriptors::read_mnemonic(mnemonic);
+    let bytes = named.bytes;
+    let len = named.len;
+    let line = named.location;
+    let start = cursor::start(tokens, numbers.place.position as usize);
     match find_meaning(descriptors, &bytes[..len]) {
-        Meaning::Neither => emit_made::refused(Refusal::UnknownInstruction(line), position, counts),
-        Meaning::Table(place) => {
-            let made = dispatch_instruction(descriptors, place, tokens, c);
-            emit_made::emit_made(
-                tokens,
-                data,
-                pending,
-                breakpoints,
-                region,
-                address,
+        Meaning::Neither => {
+            let counts = numbers.counts;
+            emit_made::refused(
+                Refusal::UnknownInstruction(line),
+                numbers.place.position,
                 counts,
-                line,
-                made,
             )
         }
+        Meaning::Table(place) => {
+            let made = dispatch_instruction(descriptors, tokens, place, start);
+            emit_made::append_or_refuse(tokens, data, pending, breakpoints, numbers, line, made)
+        }
         Meaning::Builtin(pseudo) => {
-            let made = emit_dispatch::dispatch_pseudo(pseudo, tokens, c);
-            emit_made::emit_made(
-                tokens,
-                data,
-                pending,
-                breakpoints,
-                region,
-                address,
-                counts,
-                line,
-                made,
-            )
+            let made = emit_dispatch::dispatch_pseudo(pseudo, tokens, start);
+            emit_made::append_or_refuse(tokens, data, pending, breakpoints, numbers, line, made)
         }
     }
 }
 
 // Emits the line of one mnemonic, or refuses it and leaves every lent byte and count as it was.
 pub fn do_instruction(
+    counts: FillCounts,
     tokens: &[u8],
     mnemonic: &[u8],
     descriptors: &[u8],
     data: &mut [u8],
     pending: &mut [u8],
     breakpoints: &mut [u8],
-    position: u32,
-    region: u16,
-    address: u32,
-    counts: FillCounts,
+    place: LinePlace,
 ) -> Emitted
-    ensures { λ r. ⌜ EmittedIs (emitOutcome (callOf (now (tokens .entry)) (now (mnemonic .entry)) (now (descriptors .entry)) (now («data» .entry)) (now (pending .entry)) (now (breakpoints .entry)) position region address counts)) r (now («data» .exit)) (now (pending .exit)) (now (breakpoints .exit)) ⌝ }
+    ensures { λ r. ⌜ emitOutcome (callOf (now (tokens .entry)) (now (mnemonic .entry)) (now (descriptors .entry))
+        (lentOf (now («data» .entry)) (now (pending .entry)) (now (breakpoints .entry))) counts place)
+        ≡ outcomeOf (r .answer) (r .counts) (lentOf (now («data» .exit)) (now (pending .exit)) (now (breakpoints .exit))) ⌝ }
 {
     match emit_checks::check_lists(
         tokens,
@@ -123,10 +114,10 @@ pub fn do_instruction(
         &*data,
         &*pending,
         &*breakpoints,
-        region,
+        place.region,
         counts,
     ) {
-        Verdict::Stop(refusal) => emit_made::refused(refusal, position, counts),
+        Verdict::Stop(refusal) => emit_made::refused(refusal, place.position, counts),
         Verdict::Pass => emit_named(
             tokens,
             mnemonic,
@@ -134,10 +125,7 @@ pub fn do_instruction(
             data,
             pending,
             breakpoints,
-            position,
-            region,
-            address,
-            counts,
+            LineNumbers { counts, place },
         ),
     }
 }

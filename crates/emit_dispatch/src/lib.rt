@@ -1,74 +1,305 @@
-// The line of an instruction by its encoding, and of a pseudo-instruction by its name (emit.rs).
+// A line by its encoding or its pseudo-instruction (emit.rs): what it asks for, its operands read once, and the words made of them.
+ghost use mathlib.Core.Path.{_≡_};
 ghost use Rattle.lexer.specs.Tokens.{tokens};
 ghost use Rattle.cursor.specs.Reads.{Placed};
-ghost use Rattle.emit_lines.specs.Encodings.{encodingLine};
-ghost use Rattle.emit_lines.specs.Contract.{LineAs};
-ghost use Rattle.emit_pseudo.specs.Pseudos.{pseudoLine};
+ghost use Rattle.operand_list.specs.HeldOperands.{heldAll};
+ghost use Rattle.emit_pairs.specs.Pairs.{EmitIs};
+ghost use Rattle.emit_dispatch.specs.Wants.{encodingWants, pseudoWants};
+ghost use Rattle.emit_dispatch.specs.Lines.{encodingRange, encodingPairs, pseudoPairs, rangeAnswer, encodingLine, pseudoLine};
+ghost use Rattle.emit_dispatch.specs.Contract.{LineAs};
 use cursor::Cursor;
-use emit_lines::LineEmit;
+use emit_float::MoveForm;
+use emit_pairs::EmitInstruction;
+use emit_pairs::Range;
+use emit_pseudo::Comparison;
+use emit_pseudo::ImmediateOpcodes;
 use instructions::Encoding;
 use instructions::Opcode;
+use operand::Miss;
+use operand::Want;
+use operand_list::Operands;
+use operand_list::OperandsAnswer;
+use operand_list::Wants;
 use pseudo_names::Pseudo;
 
-// The line of an instruction of the table, by its encoding.
-pub fn dispatch_encoding(encoding: Encoding, op: Opcode, s: &[u8], c: Cursor) -> LineEmit
-    requires { ⌜ Placed (now s) c ⌝ }
-    ensures { λ r. ⌜ LineAs (now (s .entry)) (encodingLine encoding op (tokens (now (s .entry))) (c .index)) (r .answer) (r .emit) (r .cursor) ⌝ }
+// Whether a line's operands were read and its words made.
+pub enum LineAnswer {
+    Made,
+    Missed(Miss),
+    OutOfRange,
+}
+
+// A line's words, and the position behind its operands.
+pub struct LineEmit {
+    pub answer: LineAnswer,
+    pub emit: EmitInstruction,
+    pub cursor: Cursor,
+}
+
+fn three(first: Want, second: Want, third: Want) -> Wants
+    ensures { λ r. ⌜ r ≡ (record { first = first; second = second; third = third }) ⌝ }
+{
+    Wants {
+        first,
+        second,
+        third,
+    }
+}
+
+fn encoding_wants(encoding: Encoding) -> Wants
+    ensures { λ r. ⌜ r ≡ encodingWants encoding ⌝ }
 {
     match encoding {
-        Encoding::Register => emit_encodings::do_register_instruction(op, s, c),
-        Encoding::RegisterShift => emit_encodings::do_register_shift_instruction(op, s, c),
-        Encoding::Source => emit_encodings::do_source_instruction(op, s, c),
-        Encoding::Destination => emit_encodings::do_destination_instruction(op, s, c),
-        Encoding::Inputs => emit_encodings::do_inputs_instruction(op, s, c),
-        Encoding::Sham => emit_encodings::do_sham_instruction(op, s, c),
-        Encoding::SpecialBranch => emit_immediates::do_special_branch_instruction(op, s, c),
-        Encoding::Immediate(alt) => emit_immediates::do_immediate_instruction(op, alt, s, c),
-        Encoding::LoadImmediate => emit_immediates::do_load_immediate_instruction(op, s, c),
-        Encoding::Jump => emit_immediates::do_jump_instruction(op, s, c),
-        Encoding::Branch => emit_immediates::do_branch_instruction(op, s, c),
-        Encoding::BranchZero => emit_immediates::do_branch_zero_instruction(op, s, c),
-        Encoding::Parameterless => emit_encodings::do_parameterless_instruction(op, s, c),
-        Encoding::Offset => emit_immediates::do_offset_instruction(op, s, c),
-        Encoding::FPOffset => emit_fp::do_fp_offset_instruction(op, s, c),
-        Encoding::FP3Register(fmt) => emit_fp::do_fp_three_register_instruction(op, fmt, s, c),
-        Encoding::FP2Register(fmt) => emit_fp::do_fp_2register_instruction(op, fmt, s, c),
-        Encoding::FPMove(fmt, flag) => emit_codes::do_fp_move_instruction(op, fmt, flag, s, c),
-        Encoding::FPCond(fmt) => emit_codes::do_fp_cond_instruction(op, fmt, s, c),
-        Encoding::FPCrossMove(reg) => emit_fp::do_fp_cross_move_instruction(op, reg, s, c),
-        Encoding::FPBranch(flag) => emit_codes::do_fp_branch_instruction(op, flag, s, c),
+        Encoding::Register => three(Want::Register, Want::Register, Want::Value),
+        Encoding::RegisterShift => three(Want::Register, Want::Register, Want::Register),
+        Encoding::Source => three(Want::Register, Want::Nothing, Want::Nothing),
+        Encoding::Destination => three(Want::Register, Want::Nothing, Want::Nothing),
+        Encoding::Inputs => three(Want::Register, Want::Register, Want::MaybeValue),
+        Encoding::Sham => three(Want::Register, Want::Register, Want::Constant),
+        Encoding::SpecialBranch => three(Want::Register, Want::Label, Want::Nothing),
+        Encoding::Immediate(_) => three(Want::Register, Want::Register, Want::Constant),
+        Encoding::LoadImmediate => three(Want::Register, Want::Constant, Want::Nothing),
+        Encoding::Jump => three(Want::Label, Want::Nothing, Want::Nothing),
+        Encoding::Branch => three(Want::Register, Want::Value, Want::Label),
+        Encoding::BranchZero => three(Want::Register, Want::Label, Want::Nothing),
+        Encoding::Parameterless => three(Want::Nothing, Want::Nothing, Want::Nothing),
+        Encoding::Offset => three(Want::Register, Want::OffsetOrLabel, Want::Nothing),
+        Encoding::FPOffset => three(Want::FPRegister, Want::OffsetOrLabel, Want::Nothing),
+        Encoding::FP3Register(_) => three(Want::FPRegister, Want::FPRegister, Want::FPRegister),
+        Encoding::FP2Register(_) => three(Want::FPRegister, Want::FPRegister, Want::Nothing),
+        Encoding::FPMove { size: _, flag: _ } => three(
+            Want::FPRegister,
+            Want::FPRegister,
+            Want::Code,
+        ),
+        Encoding::FPCond(_) => three(Want::Code, Want::FPRegister, Want::FPRegister),
+        Encoding::FPCrossMove { flag } => {
+            if flag {
+                three(Want::FPRegister, Want::Register, Want::Nothing)
+            } else {
+                three(Want::Register, Want::FPRegister, Want::Nothing)
+            }
+        }
+        Encoding::FPBranch { flag: _ } => three(Want::Code, Want::Label, Want::Nothing),
+    }
+}
+
+fn pseudo_wants(pseudo: Pseudo) -> Wants
+    ensures { λ r. ⌜ r ≡ pseudoWants pseudo ⌝ }
+{
+    match pseudo {
+        Pseudo::Nop => three(Want::Nothing, Want::Nothing, Want::Nothing),
+        Pseudo::Abs => three(Want::Register, Want::Register, Want::Nothing),
+        Pseudo::BranchCustom {
+            greater_than: _,
+            result_true: _,
+            unsigned: _,
+        } => three(Want::Register, Want::Value, Want::Label),
+        Pseudo::SetCustom {
+            greater_than: _,
+            result_true: _,
+            unsigned: _,
+        } => three(Want::Register, Want::Register, Want::Value),
+        Pseudo::Beqz => three(Want::Register, Want::Label, Want::Nothing),
+        Pseudo::Bnez => three(Want::Register, Want::Label, Want::Nothing),
+        Pseudo::Seq => three(Want::Register, Want::Register, Want::Value),
+        Pseudo::Sne => three(Want::Register, Want::Register, Want::Value),
+        Pseudo::Neg => three(Want::Register, Want::Register, Want::Nothing),
+        Pseudo::Negu => three(Want::Register, Want::Register, Want::Nothing),
+        Pseudo::Not => three(Want::Register, Want::Register, Want::Nothing),
+        Pseudo::Li => three(Want::Register, Want::Constant, Want::Nothing),
+        Pseudo::La => three(Want::Register, Want::Label, Want::Nothing),
+        Pseudo::Move => three(Want::Register, Want::Register, Want::Nothing),
+        Pseudo::B => three(Want::Label, Want::Nothing, Want::Nothing),
+        Pseudo::Subi => three(Want::Register, Want::Register, Want::Constant),
+        Pseudo::Subiu => three(Want::Register, Want::Register, Want::Constant),
+    }
+}
+
+// The words of an encoding. Where the immediate is out of range there are none.
+fn encoding_pairs(encoding: Encoding, op: Opcode, operands: Operands) -> EmitInstruction
+    ensures { λ r. ⌜ EmitIs r (encodingPairs encoding op (heldAll (encodingWants encoding) operands)) ⌝ }
+{
+    match encoding {
+        Encoding::Register => emit_integer::do_register_instruction(op, operands),
+        Encoding::RegisterShift => emit_integer::do_register_shift_instruction(op, operands),
+        Encoding::Source => emit_integer::do_source_instruction(op, operands),
+        Encoding::Destination => emit_integer::do_destination_instruction(op, operands),
+        Encoding::Inputs => emit_integer::do_inputs_instruction(op, operands),
+        Encoding::Sham => emit_integer::do_sham_instruction(op, operands),
+        Encoding::SpecialBranch => emit_integer::do_branch_zero_instruction(op, operands),
+        Encoding::Immediate(alt) => emit_integer::do_immediate_instruction(op, alt, operands),
+        Encoding::LoadImmediate => emit_integer::do_load_immediate_instruction(op, operands),
+        Encoding::Jump => emit_integer::do_jump_instruction(op, operands),
+        Encoding::Branch => emit_integer::do_branch_instruction(op, operands),
+        Encoding::BranchZero => emit_integer::do_branch_zero_instruction(op, operands),
+        Encoding::Parameterless => emit_integer::do_parameterless_instruction(op),
+        Encoding::Offset => emit_integer::do_offset_instruction(op, operands),
+        Encoding::FPOffset => emit_float::do_fp_offset_instruction(op, operands),
+        Encoding::FP3Register(fmt) => emit_float::do_fp_three_register_instruction(
+            op,
+            fmt,
+            operands,
+        ),
+        Encoding::FP2Register(fmt) => emit_float::do_fp_2register_instruction(op, fmt, operands),
+        Encoding::FPMove { size, flag } => emit_float::do_fp_move_instruction(
+            op,
+            MoveForm { size, flag },
+            operands,
+        ),
+        Encoding::FPCond(fmt) => emit_float::do_fp_cond_instruction(op, fmt, operands),
+        Encoding::FPCrossMove { flag } => {
+            if flag {
+                emit_float::do_fp_first_move_instruction(op, operands)
+            } else {
+                emit_float::do_fp_last_move_instruction(op, operands)
+            }
+        }
+        Encoding::FPBranch { flag } => emit_float::do_fp_branch_instruction(op, flag, operands),
+    }
+}
+
+// Whether an immediate operand is within its range.
+fn encoding_range(encoding: Encoding, operands: Operands) -> Range
+    ensures { λ r. ⌜ r ≡ encodingRange encoding (heldAll (encodingWants encoding) operands) ⌝ }
+{
+    let third = operands.third;
+    match encoding {
+        Encoding::Register => Range::Within,
+        Encoding::RegisterShift => Range::Within,
+        Encoding::Source => Range::Within,
+        Encoding::Destination => Range::Within,
+        Encoding::Inputs => Range::Within,
+        Encoding::Sham => Range::Within,
+        Encoding::SpecialBranch => Range::Within,
+        Encoding::Immediate(alt) => emit_pairs::immediate_range(alt, operand::constant_in(third)),
+        Encoding::LoadImmediate => Range::Within,
+        Encoding::Jump => Range::Within,
+        Encoding::Branch => Range::Within,
+        Encoding::BranchZero => Range::Within,
+        Encoding::Parameterless => Range::Within,
+        Encoding::Offset => Range::Within,
+        Encoding::FPOffset => Range::Within,
+        Encoding::FP3Register(_) => Range::Within,
+        Encoding::FP2Register(_) => Range::Within,
+        Encoding::FPMove { size: _, flag: _ } => Range::Within,
+        Encoding::FPCond(_) => Range::Within,
+        Encoding::FPCrossMove { flag: _ } => Range::Within,
+        Encoding::FPBranch { flag: _ } => Range::Within,
+    }
+}
+
+fn pseudo_pairs(pseudo: Pseudo, operands: Operands) -> EmitInstruction
+    ensures { λ r. ⌜ EmitIs r (pseudoPairs pseudo (heldAll (pseudoWants pseudo) operands)) ⌝ }
+{
+    match pseudo {
+        Pseudo::Nop => emit_pseudo::do_nop_instruction(),
+        Pseudo::Abs => emit_pseudo::do_abs_instruction(operands),
+        Pseudo::BranchCustom {
+            greater_than,
+            result_true,
+            unsigned,
+        } => {
+            let how = Comparison {
+                greater_than,
+                result_true,
+                unsigned,
+            };
+            emit_pseudo::do_branch_custom_instruction(how, operands)
+        }
+        Pseudo::SetCustom {
+            greater_than,
+            result_true,
+            unsigned,
+        } => {
+            let how = Comparison {
+                greater_than,
+                result_true,
+                unsigned,
+            };
+            emit_pseudo::do_set_custom_instruction(how, operands)
+        }
+        Pseudo::Beqz => emit_integer::do_branch_zero_instruction(Opcode::Op(4), operands),
+        Pseudo::Bnez => emit_integer::do_branch_zero_instruction(Opcode::Op(5), operands),
+        Pseudo::Seq => emit_pseudo::do_seq_instruction(operands),
+        Pseudo::Sne => emit_pseudo::do_sne_instruction(operands),
+        Pseudo::Neg => emit_pseudo::do_neg_instruction(Opcode::Func(34), operands),
+        Pseudo::Negu => emit_pseudo::do_neg_instruction(Opcode::Func(35), operands),
+        Pseudo::Not => emit_pseudo::do_move_instruction(Opcode::Func(39), operands),
+        Pseudo::Li => emit_pseudo::do_li_instruction(operands),
+        Pseudo::La => emit_pseudo::do_la_instruction(operands),
+        Pseudo::Move => emit_pseudo::do_move_instruction(Opcode::Func(33), operands),
+        Pseudo::B => emit_pseudo::do_b_instruction(operands),
+        Pseudo::Subi => emit_pseudo::do_subi_instruction(subi_opcodes(8, 32), operands),
+        Pseudo::Subiu => emit_pseudo::do_subi_instruction(subi_opcodes(9, 33), operands),
+    }
+}
+
+fn subi_opcodes(op: u8, alternative: u8) -> ImmediateOpcodes
+    ensures { λ r. ⌜ r ≡ (record { op = Opcode.Op op; alternative = Opcode.Func alternative }) ⌝ }
+{
+    ImmediateOpcodes {
+        op: Opcode::Op(op),
+        alternative: Opcode::Func(alternative),
+    }
+}
+
+fn range_answer(range: Range) -> LineAnswer
+    ensures { λ r. ⌜ r ≡ rangeAnswer range ⌝ }
+{
+    match range {
+        Range::Within => LineAnswer::Made,
+        Range::Outside => LineAnswer::OutOfRange,
+    }
+}
+
+// The line of an instruction of the table, by its encoding.
+pub fn dispatch_encoding(encoding: Encoding, op: Opcode, list: &[u8], from: Cursor) -> LineEmit
+    requires { ⌜ Placed (now list) from ⌝ }
+    ensures { λ r. ⌜ LineAs (now (list .entry)) (encodingLine encoding op (tokens (now (list .entry))) (from .index)) (r .answer) (r .emit) (r .cursor) ⌝ }
+{
+    let read = operand_list::read_operands(encoding_wants(encoding), list, from);
+    let given = read.answer;
+    let cursor = read.cursor;
+    match given {
+        OperandsAnswer::Missed(miss) => LineEmit {
+            answer: LineAnswer::Missed(miss),
+            emit: emit_pairs::none(),
+            cursor,
+        },
+        OperandsAnswer::Got(operands) => {
+            let answer = range_answer(encoding_range(encoding, operands));
+            let emit = encoding_pairs(encoding, op, operands);
+            LineEmit {
+                answer,
+                emit,
+                cursor,
+            }
+        }
     }
 }
 
 // The line of a pseudo-instruction.
-pub fn dispatch_pseudo(pseudo: Pseudo, s: &[u8], c: Cursor) -> LineEmit
-    requires { ⌜ Placed (now s) c ⌝ }
-    ensures { λ r. ⌜ LineAs (now (s .entry)) (pseudoLine pseudo (tokens (now (s .entry))) (c .index)) (r .answer) (r .emit) (r .cursor) ⌝ }
+pub fn dispatch_pseudo(pseudo: Pseudo, list: &[u8], from: Cursor) -> LineEmit
+    requires { ⌜ Placed (now list) from ⌝ }
+    ensures { λ r. ⌜ LineAs (now (list .entry)) (pseudoLine pseudo (tokens (now (list .entry))) (from .index)) (r .answer) (r .emit) (r .cursor) ⌝ }
 {
-    match pseudo {
-        Pseudo::Nop => emit_aliases::do_nop_instruction(s, c),
-        Pseudo::Abs => emit_pseudo::do_abs_instruction(s, c),
-        Pseudo::BranchCustom(greater, result, unsigned) =>
-            emit_pseudo::do_branch_custom_instruction(greater, result, unsigned, s, c),
-        Pseudo::SetCustom(greater, result, unsigned) => emit_pseudo::do_set_custom_instruction(
-            greater,
-            result,
-            unsigned,
-            s,
-            c,
-        ),
-        Pseudo::Beqz => emit_immediates::do_branch_zero_instruction(Opcode::Op(4), s, c),
-        Pseudo::Bnez => emit_immediates::do_branch_zero_instruction(Opcode::Op(5), s, c),
-        Pseudo::Seq => emit_pseudo::do_seq_instruction(s, c),
-        Pseudo::Sne => emit_pseudo::do_sne_instruction(s, c),
-        Pseudo::Neg => emit_aliases::do_neg_instruction(s, c),
-        Pseudo::Negu => emit_aliases::do_negu_instruction(s, c),
-        Pseudo::Not => emit_aliases::do_not_instruction(s, c),
-        Pseudo::Li => emit_aliases::do_li_instruction(s, c),
-        Pseudo::La => emit_aliases::do_la_instruction(s, c),
-        Pseudo::Move => emit_aliases::do_move_instruction(s, c),
-        Pseudo::B => emit_aliases::do_b_instruction(s, c),
-        Pseudo::Subi => emit_pseudo::do_subi_instruction(s, c),
-        Pseudo::Subiu => emit_pseudo::do_subiu_instruction(s, c),
+    let read = operand_list::read_operands(pseudo_wants(pseudo), list, from);
+    let given = read.answer;
+    let cursor = read.cursor;
+    match given {
+        OperandsAnswer::Missed(miss) => LineEmit {
+            answer: LineAnswer::Missed(miss),
+            emit: emit_pairs::none(),
+            cursor,
+        },
+        OperandsAnswer::Got(operands) => {
+            let emit = pseudo_pairs(pseudo, operands);
+            LineEmit {
+                answer: LineAnswer::Made,
+                emit,
+                cursor,
+            }
+        }
     }
 }

@@ -6,8 +6,8 @@ use Rattle.names.specs.declared.Named.{Named}
 use Rattle.names.specs.declared.Named.the-variants.{At, Missing}
 use Rattle.names.specs.Names.{firstNamed}
 use Rattle.descriptors.specs.Descriptors.{findDescriptor, instructionAt}
-use Rattle.emit_lines.specs.Lines.{Line}
-use Rattle.emit_lines.specs.Encodings.{encodingLine}
+use Rattle.emit_dispatch.specs.Lines.{Line}
+use Rattle.emit_dispatch.specs.Lines.{encodingLine}
 use Rattle.pseudo_names.specs.declared.MaybePseudo.{MaybePseudo}
 use Rattle.pseudo_names.specs.declared.MaybePseudo.the-variants.{Some, Nothing}
 use Rattle.pseudo_names.specs.PseudoNames.{pseudoIn, pseudoOf}

@@ -1,4 +1,6 @@
 pub mod Dispatch
+pub mod Call
+pub mod Checks
+pub mod Room
 pub mod Emit
-pub mod Contract
-pub mod RefusedLaws
+pub mod Refused

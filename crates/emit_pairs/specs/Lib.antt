@@ -1,2 +1,4 @@
 pub mod Pairs
+pub mod Values
 pub mod PairsLaws
+pub mod ValuesLaws

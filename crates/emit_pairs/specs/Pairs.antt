@@ -17,8 +17,8 @@ use Rattle.pending.specs.declared.InstructionLabelKind.the-variants.{Lower, Upp
 use Rattle.emit_pairs.specs.declared.PairLabel.the-variants.{Nothing as Unlabelled, Some as Labelled}
 use Rattle.emit_pairs.specs.declared.InstructionPair.{InstructionPair}
 use Rattle.emit_pairs.specs.declared.EmitInstruction.{EmitInstruction}
-use Rattle.emit_pairs.specs.declared.Immediate.{Immediate}
-use Rattle.emit_pairs.specs.declared.Immediate.the-variants.{Emitted, OutOfRange}
+use Rattle.emit_pairs.specs.declared.Range.{Range}
+use Rattle.emit_pairs.specs.declared.Range.the-variants.{Within, Outside}
 use Rattle.emit_words.specs.Words.{registerWord, immediateWord}
 
 -- a word, and one that waits for a label
@@ -53,9 +53,9 @@ unfoldable pub isImmediate : ℕ → Bool
 isImmediate c = ltb c 32768 || leb (2 ^ 64 - 32768) c
 
 -- "9. An immediate without alternative lies outside -32,768 to 32,767"
-abbrev pub immediateAnswer : Alternative → ℕ → Immediate
-immediateAnswer Nothing c = elim (isImmediate c) [ true ↦ Emitted | false ↦ OutOfRange ]
-immediateAnswer (Some alt) c = Emitted
+abbrev pub immediateRange : Alternative → ℕ → Range
+immediateRange Nothing c = elim (isImmediate c) [ true ↦ Within | false ↦ Outside ]
+immediateRange (Some alt) c = Within
 
 -- one word, or the constant loaded into $at and the alternative's word; none where it is refused
 abbrev pub fallbackPairs : Alternative → (rt rs c : ℕ) → List InstructionPair

@@ -22,9 +22,9 @@ use Rattle.address_label.specs.declared.NamedLabel.{NamedLabel}
 use Rattle.pending.specs.declared.InstructionLabelKind.the-variants.{Lower, Upper}
 use Rattle.emit_pairs.specs.declared.InstructionPair.{InstructionPair}
 use Rattle.emit_pairs.specs.declared.EmitInstruction.{EmitInstruction}
-use Rattle.emit_pairs.specs.declared.Immediate.the-variants.{Emitted, OutOfRange}
+use Rattle.emit_pairs.specs.declared.Range.the-variants.{Within, Outside}
 use Rattle.emit_words.specs.Words.{registerWord, immediateWord}
-use Rattle.emit_pairs.specs.Pairs.{plain, waiting, EmitIs, atNumber, loadPairs, labelPairs, isImmediate, immediateAnswer, immediatePairs}
+use Rattle.emit_pairs.specs.Pairs.{plain, waiting, EmitIs, atNumber, loadPairs, labelPairs, isImmediate, immediateRange, immediatePairs}
 
 -- ---- the array and its count
 
@@ -120,9 +120,9 @@ pub pairs-taken : (op : Opcode) (alt : Alternative) (rt rs c : ℕ) {w : ℕ} �
 unfolding immediatePairs
 pairs-taken op alt rt rs c e h = rw (e, h, immediatePairs)
 
-pub answer-taken : (alt : Alternative) (c : ℕ) → isImmediate c ≡ true → Emitted ≡ immediateAnswer alt c
-answer-taken Nothing c e = rw (e, immediateAnswer)
-answer-taken (Some alt) c e = refl
+pub range-taken : (alt : Alternative) (c : ℕ) → isImmediate c ≡ true → Within ≡ immediateRange alt c
+range-taken Nothing c e = rw (e, immediateRange)
+range-taken (Some alt) c e = refl
 
 -- out of range: refused, or the alternative
 module _ (op : Opcode) {alt : Alternative} (rt rs c : ℕ) (e : isImmediate c ≡ false) where
@@ -135,8 +135,5 @@ module _ (op : Opcode) {alt : Alternative} (rt rs c : ℕ) (e : isImmediate c �
   unfolding immediatePairs
   pairs-alternative n h = rw (e, n, h, immediatePairs)
 
-pub answer-refused : {alt : Alternative} (c : ℕ) → isImmediate c ≡ false → alt ≡ Nothing → OutOfRange ≡ immediateAnswer alt c
-answer-refused c e n = rw (n, e, immediateAnswer)
-
-pub answer-alternative : {alt : Alternative} {other : Opcode} (c : ℕ) → alt ≡ Some other → Emitted ≡ immediateAnswer alt c
-answer-alternative c n = rw (n, immediateAnswer)
+pub range-refused : {alt : Alternative} (c : ℕ) → isImmediate c ≡ false → alt ≡ Nothing → Outside ≡ immediateRange alt c
+range-refused c e n = rw (n, e, immediateRange)

@@ -4,17 +4,18 @@ ghost use mathlib.Core.List.{[], _∷_, _++_};
 ghost use Prim.Native.Nat.{_<_};
 ghost use lib.ListN.{take};
 ghost use Rattle.registers.specs.Numbers.{registerNumber};
-ghost use Rattle.emit_pairs.specs.Pairs.{EmitIs, plain, waiting, loadPairs, labelPairs, isImmediate, immediateAnswer, immediatePairs};
+ghost use Rattle.emit_pairs.specs.Values.{branchTo, valuePairs, valueNumber, addedPairs, offsetPairs, offsetNumber, offsetImmediate};
+ghost use Rattle.emit_pairs.specs.Pairs.{EmitIs, plain, waiting, atNumber, loadPairs, labelPairs, isImmediate, immediateRange, immediatePairs};
 use address_label::AddressLabel;
+use emit_words::ImmediateFields;
+use emit_words::RegisterFields;
 use instructions::Alternative;
 use instructions::Opcode;
+use operand::InstructionValue;
+use operand::OffsetOrLabel;
+use pending::InstructionLabel;
 use pending::InstructionLabelKind;
 use registers::RegisterSlot;
-
-pub struct InstructionLabel {
-    pub kind: InstructionLabelKind,
-    pub label: AddressLabel,
-}
 
 pub enum PairLabel {
     Nothing,
@@ -32,14 +33,29 @@ pub struct EmitInstruction {
     pub count: usize,
 }
 
-// Whether an immediate operand is taken.
-pub enum Immediate {
-    Emitted,
-    OutOfRange,
+// Whether an immediate operand that has no alternative lies within its range.
+pub enum Range {
+    Within,
+    Outside,
 }
 
-pub struct ImmediateEmit {
-    pub answer: Immediate,
+// rt, rs and the immediate operand.
+pub struct ImmediateOperands {
+    pub temp: RegisterSlot,
+    pub source: RegisterSlot,
+    pub constant: u64,
+}
+
+// A register, and the words that load it.
+pub struct Unpacked {
+    pub slot: RegisterSlot,
+    pub emit: EmitInstruction,
+}
+
+// An offset's immediate, its base register, and the words before.
+pub struct OffsetParts {
+    pub immediate: u16,
+    pub register: RegisterSlot,
     pub emit: EmitInstruction,
 }
 
@@ -105,8 +121,18 @@ pub fn make_label(label: AddressLabel, dest: RegisterSlot) -> EmitInstruction
     match label {
         AddressLabel::Constant(constant) => load_pairs(constant, dest),
         AddressLabel::Label(_) => {
-            let lui = emit_words::immediate_word(Opcode::Op(15), RegisterSlot::Zero, dest, 0);
-            let ori = emit_words::immediate_word(Opcode::Op(13), dest, dest, 0);
+            let upper_fields = ImmediateFields {
+                source: RegisterSlot::Zero,
+                temp: dest,
+                immediate: 0,
+            };
+            let lower_fields = ImmediateFields {
+                source: dest,
+                temp: dest,
+                immediate: 0,
+            };
+            let lui = emit_words::immediate_word(Opcode::Op(15), upper_fields);
+            let ori = emit_words::immediate_word(Opcode::Op(13), lower_fields);
             let upper = InstructionLabel {
                 kind: InstructionLabelKind::Upper,
                 label,
@@ -131,35 +157,125 @@ pub fn is_immediate(constant: u64) -> bool
     0xFFFF_FFFF_FFFF_8000 <= constant
 }
 
-// One word, the alternative with the constant in $at, or refusal 9.
-pub fn emit_immediate_instruction(
-    op: Opcode,
-    alt: Alternative,
-    temp: RegisterSlot,
-    source: RegisterSlot,
-    constant: u64,
-) -> ImmediateEmit
-    ensures { λ r. ⌜ (r .answer ≡ immediateAnswer alt constant) × EmitIs (r .emit) (immediatePairs op alt (registerNumber temp) (registerNumber source) constant) ⌝ }
+// Refusal 9: an immediate out of range without an alternative.
+pub fn immediate_range(alt: Alternative, constant: u64) -> Range
+    ensures { λ r. ⌜ r ≡ immediateRange alt constant ⌝ }
 {
-    if is_immediate(constant) {
-        let imm = (constant % 0x1_0000) as u16;
-        return ImmediateEmit {
-            answer: Immediate::Emitted,
-            emit: with(emit_words::immediate_word(op, source, temp, imm)),
-        };
-    }
     match alt {
-        Alternative::Nothing => ImmediateEmit {
-            answer: Immediate::OutOfRange,
-            emit: none(),
-        },
-        Alternative::Some(other) => {
-            let at = RegisterSlot::AssemblerTemporary;
-            let word = emit_words::register_word(other, temp, source, at);
-            ImmediateEmit {
-                answer: Immediate::Emitted,
-                emit: load_pairs(constant, at).push(word, PairLabel::Nothing),
+        Alternative::Some(_) => Range::Within,
+        Alternative::Nothing => {
+            if is_immediate(constant) {
+                Range::Within
+            } else {
+                Range::Outside
             }
         }
     }
+}
+
+// One word, or the alternative with the constant in $at; no word where neither serves.
+pub fn emit_immediate_instruction(
+    op: Opcode,
+    alt: Alternative,
+    operands: ImmediateOperands,
+) -> EmitInstruction
+    ensures { λ r. ⌜ EmitIs r (immediatePairs op alt (registerNumber (operands .temp)) (registerNumber (operands .source)) (operands .constant)) ⌝ }
+{
+    let temp = operands.temp;
+    let source = operands.source;
+    let constant = operands.constant;
+    if is_immediate(constant) {
+        let immediate = (constant % 0x1_0000) as u16;
+        let fields = ImmediateFields {
+            source,
+            temp,
+            immediate,
+        };
+        return with(emit_words::immediate_word(op, fields));
+    }
+    match alt {
+        Alternative::Nothing => none(),
+        Alternative::Some(other) => {
+            let at = RegisterSlot::AssemblerTemporary;
+            let fields = RegisterFields {
+                dest: temp,
+                source,
+                temp: at,
+            };
+            let word = emit_words::register_word(other, fields);
+            load_pairs(constant, at).push(word, PairLabel::Nothing)
+        }
+    }
+}
+
+// A number is loaded into $at.
+pub fn unpack_value(value: InstructionValue) -> Unpacked
+    ensures { λ r. ⌜ (registerNumber (r .slot) ≡ valueNumber value) × EmitIs (r .emit) (valuePairs value) ⌝ }
+{
+    match value {
+        InstructionValue::Slot(slot) => Unpacked { slot, emit: none() },
+        InstructionValue::Literal(constant) => {
+            let slot = RegisterSlot::AssemblerTemporary;
+            Unpacked {
+                slot,
+                emit: load_pairs(constant, slot),
+            }
+        }
+    }
+}
+
+// The label into $at, then the register added to it.
+fn added(label: AddressLabel, register: RegisterSlot) -> OffsetParts
+    ensures { λ r. ⌜ (r .immediate ≡ 0) × (registerNumber (r .register) ≡ atNumber) × EmitIs (r .emit) (addedPairs label register) ⌝ }
+{
+    let at = RegisterSlot::AssemblerTemporary;
+    let fields = RegisterFields {
+        dest: at,
+        source: at,
+        temp: register,
+    };
+    let add = emit_words::register_word(Opcode::Func(32), fields);
+    OffsetParts {
+        immediate: 0,
+        register: at,
+        emit: make_label(label, at).push(add, PairLabel::Nothing),
+    }
+}
+
+pub fn make_offset_or_label(offset: OffsetOrLabel) -> OffsetParts
+    ensures { λ r. ⌜ (r .immediate ≡ offsetImmediate offset) × (registerNumber (r .register) ≡ offsetNumber offset) × EmitIs (r .emit) (offsetPairs offset) ⌝ }
+{
+    match offset {
+        OffsetOrLabel::Offset(label, register) => match label {
+            AddressLabel::Constant(constant) => {
+                if is_immediate(constant) {
+                    OffsetParts {
+                        immediate: (constant % 0x1_0000) as u16,
+                        register,
+                        emit: none(),
+                    }
+                } else {
+                    added(label, register)
+                }
+            }
+            AddressLabel::Label(_) => added(label, register),
+        },
+        OffsetOrLabel::Label(label) => {
+            let at = RegisterSlot::AssemblerTemporary;
+            OffsetParts {
+                immediate: 0,
+                register: at,
+                emit: make_label(label, at),
+            }
+        }
+    }
+}
+
+pub fn branch_to(label: AddressLabel) -> PairLabel
+    ensures { λ r. ⌜ r ≡ branchTo label ⌝ }
+{
+    PairLabel::Some(InstructionLabel {
+        kind: InstructionLabelKind::Branch,
+        label,
+    })
 }

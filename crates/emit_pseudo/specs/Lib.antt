@@ -1,2 +1,2 @@
-pub mod Pseudos
-pub mod PseudosLaws
+pub mod PseudoWords
+pub mod PseudoWordsLaws

@@ -9,6 +9,62 @@ use registers::FPRegisterSlot;
 use registers::RegisterSlot;
 use word::InstructionBuilder;
 
+// What is written into a word besides its opcode: rd, rs and rt of the register format.
+pub struct RegisterFields {
+    pub dest: RegisterSlot,
+    pub source: RegisterSlot,
+    pub temp: RegisterSlot,
+}
+
+// rd, rt and the shift amount.
+pub struct ShamFields {
+    pub dest: RegisterSlot,
+    pub temp: RegisterSlot,
+    pub sham: u8,
+}
+
+// rs, rt and immediate of the immediate format.
+pub struct ImmediateFields {
+    pub source: RegisterSlot,
+    pub temp: RegisterSlot,
+    pub immediate: u16,
+}
+
+// base, ft and offset of a float load or store.
+pub struct FPImmediateFields {
+    pub source: RegisterSlot,
+    pub temp: FPRegisterSlot,
+    pub immediate: u16,
+}
+
+// fd, fs and ft.
+pub struct FP3Fields {
+    pub dest: FPRegisterSlot,
+    pub source: FPRegisterSlot,
+    pub temp: FPRegisterSlot,
+}
+
+// fd and fs.
+pub struct FP2Fields {
+    pub dest: FPRegisterSlot,
+    pub source: FPRegisterSlot,
+}
+
+// fd, fs, cc and tf of a conditional move.
+pub struct FPMoveFields {
+    pub dest: FPRegisterSlot,
+    pub source: FPRegisterSlot,
+    pub code: u8,
+    pub flag: bool,
+}
+
+// cc, fs and ft of a comparison.
+pub struct FPCondFields {
+    pub code: u8,
+    pub source: FPRegisterSlot,
+    pub target: FPRegisterSlot,
+}
+
 pub fn base_word(op: Opcode) -> u32
     ensures { λ r. ⌜ r ≡ baseWord op ⌝ }
 {
@@ -34,14 +90,12 @@ pub fn inputs_word(op: Opcode, source: RegisterSlot, temp: RegisterSlot) -> u32
     base.with_source(source).with_temp(temp).finish()
 }
 
-pub fn register_word(
-    op: Opcode,
-    dest: RegisterSlot,
-    source: RegisterSlot,
-    temp: RegisterSlot,
-) -> u32
-    ensures { λ r. ⌜ r ≡ registerWord op (registerNumber dest) (registerNumber source) (registerNumber temp) ⌝ }
+pub fn register_word(op: Opcode, fields: RegisterFields) -> u32
+    ensures { λ r. ⌜ r ≡ registerWord op (registerNumber (fields .dest)) (registerNumber (fields .source)) (registerNumber (fields .temp)) ⌝ }
 {
+    let dest = fields.dest;
+    let source = fields.source;
+    let temp = fields.temp;
     InstructionBuilder::from_op(op)
         .with_dest(dest)
         .with_source(source)
@@ -49,33 +103,39 @@ pub fn register_word(
         .finish()
 }
 
-pub fn sham_word(op: Opcode, dest: RegisterSlot, temp: RegisterSlot, sham: u8) -> u32
-    ensures { λ r. ⌜ r ≡ shamWord op (registerNumber dest) (registerNumber temp) sham ⌝ }
+pub fn sham_word(op: Opcode, fields: ShamFields) -> u32
+    ensures { λ r. ⌜ r ≡ shamWord op (registerNumber (fields .dest)) (registerNumber (fields .temp)) (fields .sham) ⌝ }
 {
+    let dest = fields.dest;
+    let temp = fields.temp;
     InstructionBuilder::from_op(op)
         .with_dest(dest)
         .with_temp(temp)
-        .with_sham(sham)
+        .with_sham(fields.sham)
         .finish()
 }
 
-pub fn immediate_word(op: Opcode, source: RegisterSlot, temp: RegisterSlot, imm: u16) -> u32
-    ensures { λ r. ⌜ r ≡ immediateWord op (registerNumber source) (registerNumber temp) imm ⌝ }
+pub fn immediate_word(op: Opcode, fields: ImmediateFields) -> u32
+    ensures { λ r. ⌜ r ≡ immediateWord op (registerNumber (fields .source)) (registerNumber (fields .temp)) (fields .immediate) ⌝ }
 {
+    let source = fields.source;
+    let temp = fields.temp;
     InstructionBuilder::from_op(op)
         .with_source(source)
         .with_temp(temp)
-        .with_immediate(imm)
+        .with_immediate(fields.immediate)
         .finish()
 }
 
-pub fn fp_immediate_word(op: Opcode, source: RegisterSlot, temp: FPRegisterSlot, imm: u16) -> u32
-    ensures { λ r. ⌜ r ≡ immediateWord op (registerNumber source) (fpRegisterNumber temp) imm ⌝ }
+pub fn fp_immediate_word(op: Opcode, fields: FPImmediateFields) -> u32
+    ensures { λ r. ⌜ r ≡ immediateWord op (registerNumber (fields .source)) (fpRegisterNumber (fields .temp)) (fields .immediate) ⌝ }
 {
+    let source = fields.source;
+    let temp = fields.temp;
     InstructionBuilder::from_op(op)
         .with_source(source)
         .with_fp_temp(temp)
-        .with_immediate(imm)
+        .with_immediate(fields.immediate)
         .finish()
 }
 
@@ -88,15 +148,12 @@ pub fn load_immediate_word(op: Opcode, temp: RegisterSlot, imm: u16) -> u32
         .finish()
 }
 
-pub fn fp_3_register_word(
-    op: Opcode,
-    fmt: Size,
-    dest: FPRegisterSlot,
-    source: FPRegisterSlot,
-    temp: FPRegisterSlot,
-) -> u32
-    ensures { λ r. ⌜ r ≡ fp3Word op fmt (fpRegisterNumber dest) (fpRegisterNumber source) (fpRegisterNumber temp) ⌝ }
+pub fn fp_3_register_word(op: Opcode, fmt: Size, fields: FP3Fields) -> u32
+    ensures { λ r. ⌜ r ≡ fp3Word op fmt (fpRegisterNumber (fields .dest)) (fpRegisterNumber (fields .source)) (fpRegisterNumber (fields .temp)) ⌝ }
 {
+    let dest = fields.dest;
+    let source = fields.source;
+    let temp = fields.temp;
     InstructionBuilder::from_op(op)
         .with_fp_dest(dest)
         .with_fp_source(source)
@@ -105,14 +162,11 @@ pub fn fp_3_register_word(
         .finish()
 }
 
-pub fn fp_2_register_word(
-    op: Opcode,
-    fmt: Size,
-    dest: FPRegisterSlot,
-    source: FPRegisterSlot,
-) -> u32
-    ensures { λ r. ⌜ r ≡ fp2Word op fmt (fpRegisterNumber dest) (fpRegisterNumber source) ⌝ }
+pub fn fp_2_register_word(op: Opcode, fmt: Size, fields: FP2Fields) -> u32
+    ensures { λ r. ⌜ r ≡ fp2Word op fmt (fpRegisterNumber (fields .dest)) (fpRegisterNumber (fields .source)) ⌝ }
 {
+    let dest = fields.dest;
+    let source = fields.source;
     InstructionBuilder::from_op(op)
         .with_fp_dest(dest)
         .with_fp_source(source)
@@ -121,41 +175,38 @@ pub fn fp_2_register_word(
 }
 
 // A condition code above two bits, the lower of which is the flag; bits past the byte are lost.
-fn code_bits(cc: u8, flag: bool) -> u8
-    ensures { λ r. ⌜ r ≡ codeBits cc flag ⌝ }
+fn code_bits(code: u8, flag: bool) -> u8
+    ensures { λ r. ⌜ r ≡ codeBits code flag ⌝ }
 {
-    if flag { cc % 64 * 4 + 1 } else { cc % 64 * 4 }
+    if flag {
+        code % 64 * 4 + 1
+    } else {
+        code % 64 * 4
+    }
 }
 
-pub fn fp_move_word(
-    op: Opcode,
-    fmt: Size,
-    dest: FPRegisterSlot,
-    source: FPRegisterSlot,
-    cc: u8,
-    flag: bool,
-) -> u32
-    ensures { λ r. ⌜ r ≡ fpMoveWord op fmt (fpRegisterNumber dest) (fpRegisterNumber source) cc flag ⌝ }
+pub fn fp_move_word(op: Opcode, fmt: Size, fields: FPMoveFields) -> u32
+    ensures { λ r. ⌜ r ≡ fpMoveWord op fmt (fpRegisterNumber (fields .dest)) (fpRegisterNumber (fields .source)) (fields .code) (fields .flag) ⌝ }
 {
+    let dest = fields.dest;
+    let source = fields.source;
+    let bits = code_bits(fields.code, fields.flag);
     InstructionBuilder::from_op(op)
         .with_fp_dest(dest)
         .with_fp_source(source)
-        .with_fp_temp_value(code_bits(cc, flag))
+        .with_fp_temp_value(bits)
         .with_fp_fmt(fmt)
         .finish()
 }
 
-pub fn fp_cond_word(
-    op: Opcode,
-    fmt: Size,
-    cc: u8,
-    source: FPRegisterSlot,
-    target: FPRegisterSlot,
-) -> u32
-    ensures { λ r. ⌜ r ≡ fpCondWord op fmt cc (fpRegisterNumber source) (fpRegisterNumber target) ⌝ }
+pub fn fp_cond_word(op: Opcode, fmt: Size, fields: FPCondFields) -> u32
+    ensures { λ r. ⌜ r ≡ fpCondWord op fmt (fields .code) (fpRegisterNumber (fields .source)) (fpRegisterNumber (fields .target)) ⌝ }
 {
+    let source = fields.source;
+    let target = fields.target;
+    let bits = code_bits(fields.code, false);
     InstructionBuilder::from_op(op)
-        .with_fp_dest_value(code_bits(cc, false))
+        .with_fp_dest_value(bits)
         .with_fp_source(source)
         .with_fp_temp(target)
         .with_fp_fmt(fmt)
@@ -173,11 +224,11 @@ pub fn fp_cross_move_word(op: Opcode, first: u8, second: u8) -> u32
         .finish()
 }
 
-pub fn fp_branch_word(op: Opcode, cc: u8, flag: bool) -> u32
-    ensures { λ r. ⌜ r ≡ fpBranchWord op cc flag ⌝ }
+pub fn fp_branch_word(op: Opcode, code: u8, flag: bool) -> u32
+    ensures { λ r. ⌜ r ≡ fpBranchWord op code flag ⌝ }
 {
     InstructionBuilder::from_op(op)
-        .with_fp_temp_value(code_bits(cc, flag))
+        .with_fp_temp_value(code_bits(code, flag))
         .finish()
 }
 

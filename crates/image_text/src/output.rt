@@ -4,8 +4,8 @@ ghost use Prim.Native.Nat.{_+_, _≤_};
 ghost use lib.ListN.{length};
 ghost use Rattle.regions.specs.Regions.{regionLayout};
 use crate::lines;
+use build_outcome::Built;
 use libc::STDOUT_FILENO;
-use patch::Built;
 use record::Layout;
 
 // The image of the patched regions, or the refusal alone.

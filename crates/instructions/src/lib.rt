@@ -43,10 +43,10 @@ pub enum Encoding {
     FPOffset,
     FP3Register(Size),
     FP2Register(Size),
-    FPMove(Size, bool),
+    FPMove { size: Size, flag: bool },
     FPCond(Size),
-    FPCrossMove(bool),
-    FPBranch(bool),
+    FPCrossMove { flag: bool },
+    FPBranch { flag: bool },
 }
 
 // The word that an opcode starts from: its opcode and function fields, for any key.

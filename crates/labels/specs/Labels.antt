@@ -9,6 +9,7 @@ use Rattle.record.specs.declared.Layout.{Layout}
 use Rattle.names.specs.Names.{nameOf, firstNamed, firstRepeat}
 use Rattle.names.specs.declared.Named.{Named}
 use Rattle.names.specs.declared.Named.the-variants.{At, Missing}
+use Rattle.names.specs.declared.Repeat.{Repeat}
 use Rattle.labels.specs.declared.Address.{Address}
 use Rattle.labels.specs.declared.Address.the-variants.{Known, Unknown}
 
@@ -24,8 +25,8 @@ unfoldable pub labelLayout : List ℕ → Layout
 unfolding labelOk firstBad places withinLimit
 labelLayout s = withinLimit s (firstBad (labelOk s) (places s))
 
--- refusal 2: the first label that repeats a name
-abbrev pub labelRepeat : List ℕ → Layout
+-- refusal 2: "two labels share a name"
+abbrev pub labelRepeat : List ℕ → Repeat
 labelRepeat s = firstRepeat 4 s
 
 abbrev pub addressOf : List ℕ → Named → Address

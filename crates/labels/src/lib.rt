@@ -4,6 +4,7 @@ ghost use Prim.Native.Nat.{_≤_};
 ghost use lib.ListN.{length};
 ghost use Rattle.labels.specs.Labels.{labelOk, labelLayout, labelRepeat, resolve};
 use names::Named;
+use names::Repeat;
 use record::Layout;
 
 // What a name stands for.
@@ -12,50 +13,54 @@ pub enum Address {
     Unknown,
 }
 
+// The record kind.
+const LABEL: usize = 34;
+
 // Whether the record at `at` is a label.
-fn label_ok(s: &[u8], at: usize) -> bool
-    requires { ⌜ at ≤ length (now s) ⌝ }
-    ensures { λ r. ⌜ r ≡ labelOk (now (s .entry)) at ⌝ }
+fn label_ok(labels: &[u8], at: usize) -> bool
+    requires { ⌜ at ≤ length (now labels) ⌝ }
+    ensures { λ r. ⌜ r ≡ labelOk (now (labels .entry)) at ⌝ }
 {
-    if !record::whole_at(s, at) {
+    if !record::whole_at(labels, at) {
         return false;
     }
-    let n = record::half_at(s, at);
-    if record::half_at(s, at + 2) != 34 {
+    let body = record::half_at(labels, at);
+    if record::half_at(labels, at + 2) != LABEL {
         return false;
     }
-    if n < 5 {
+    if body < 5 {
         return false;
     }
-    if n > 68 {
+    if body > 68 {
         return false;
     }
-    record::all_text(&s[at + 8..at + 4 + n])
+    let end = record::next(labels, at);
+    record::all_text(&labels[at + 8..end])
 }
 
 // The place of the first record that is no label, or the limit.
-pub fn first_bad_label(s: &[u8]) -> Layout
-    ensures { λ r. ⌜ r ≡ labelLayout (now (s .entry)) ⌝ }
+pub fn first_bad_label(labels: &[u8]) -> Layout
+    ensures { λ r. ⌜ r ≡ labelLayout (now (labels .entry)) ⌝ }
 {
-    if s.len() > 65536 {
-        return Layout::Bad(65536);
+    if labels.len() > record::LIMIT {
+        return Layout::Bad(record::LIMIT);
     }
     let mut at: usize = 0;
-    while at < s.len() {
-        if !label_ok(s, at) {
+    while at < labels.len() {
+        if !label_ok(labels, at) {
             return Layout::Bad(at);
         }
-        at = at + 4 + record::half_at(s, at);
+        at = record::next(labels, at);
     }
     Layout::Good
 }
 
-// The place of the first label that repeats a name.
-pub fn first_repeat(s: &[u8]) -> Layout
-    requires { ⌜ labelLayout (now s) ≡ Layout.Good ⌝ }
-    ensures { λ r. ⌜ r ≡ labelRepeat (now (s .entry)) ⌝ }
+// The first label that shares its name with an earlier one.
+pub fn first_repeat(labels: &[u8]) -> Repeat
+    requires { ⌜ labelLayout (now labels) ≡ Layout.Good ⌝ }
+    ensures { λ r. ⌜ r ≡ labelRepeat (now (labels .entry)) ⌝ }
 {
-    names::first_repeat(s, 4)
+    names::first_repeat(labels, 4)
 }
 
 // The address of the label of that name.
@@ -64,7 +69,7 @@ pub fn get(labels: &[u8], name: &[u8]) -> Address
     ensures { λ r. ⌜ r ≡ resolve (now (labels .entry)) (now (name .entry)) ⌝ }
 {
     match names::find_named(labels, 4, name) {
-        Named::At(p) => Address::Known(record::word_at(labels, p + 4)),
+        Named::At(at) => Address::Known(record::word_at(labels, at + 4)),
         Named::Missing => Address::Unknown,
     }
 }

@@ -19,19 +19,11 @@ use Rattle.lexer.specs.declared.TokenKind.the-variants.{Comment, Directi
 
 -- "Kinds 0 to 15 follow `StrippedKind`": Comment, Directive, Parameter; Register, FPRegister; IntegerLiteral, FloatLiteral; StringLiteral;
 -- Symbol; and seven with nothing
+abbrev pub payloads : List Payload
+payloads = Text ∷ Text ∷ Text ∷ Slot ∷ Slot ∷ Number ∷ Number ∷ Text ∷ Name ∷ Nothing ∷ Nothing ∷ Nothing ∷ Nothing ∷ Nothing ∷ Nothing ∷ Nothing ∷ []
+
 unfoldable pub payloadOf : ℕ → Payload
-payloadOf kind =
-    elim (leb kind 2) [
-      | true ↦ Text
-      | false ↦ elim (leb kind 4) [
-        | true ↦ Slot
-        | false ↦ elim (leb kind 6) [
-          | true ↦ Number
-          | false ↦
-              elim (eqb kind 7) [ true ↦ Text | false ↦ elim (eqb kind 8) [ true ↦ Name | false ↦ elim (leb kind 15) [ true ↦ Nothing | false ↦ Unknown ] ] ]
-        ]
-      ]
-    ]
+payloadOf kind = getD payloads kind Unknown
 
 -- "The body is a location, then a payload."
 abbrev pub payloadLen : List ℕ → ℕ → ℕ

@@ -1,18 +1,51 @@
 // Token records into tokens by value (the token types of lexer.rs).
 ghost use mathlib.Core.Path.{_≡_};
-ghost use Prim.Native.Nat.{_+_, _≤_, _<_};
+ghost use Prim.Native.Nat.{_+_, _≤_, _<_, min};
 ghost use mathlib.Core.Bool.{_&&_};
 ghost use lib.ListN.{length};
 ghost use lib.Dec.{leb};
 ghost use lib.Ieee.{ofBits, binary64};
 ghost use Rattle.record.specs.Bytes.{part, isText, all};
-ghost use Rattle.record.specs.Records.{bodyLen, next};
+ghost use Rattle.record.specs.Records.{bodyLen, kindAt, next};
 ghost use Rattle.lexer.specs.Tokens.{payloadOf, payloadOk, tokenOk, TokenIs, tokenLayout, tokenAt, strip};
 ghost use Rattle.lexer.specs.Views.{asRegister, asFPRegister, asInteger, asSymbol};
 use record::Layout;
 use record::Location;
 use registers::FPRegisterSlot;
 use registers::RegisterSlot;
+
+// The kinds of tokens, numbered as StrippedKind has them.
+pub const COMMENT: u8 = 0;
+
+pub const DIRECTIVE: u8 = 1;
+
+pub const PARAMETER: u8 = 2;
+
+pub const REGISTER: u8 = 3;
+
+pub const FP_REGISTER: u8 = 4;
+
+pub const INTEGER_LITERAL: u8 = 5;
+
+pub const FLOAT_LITERAL: u8 = 6;
+
+pub const STRING_LITERAL: u8 = 7;
+
+pub const SYMBOL: u8 = 8;
+
+pub const PLUS: u8 = 9;
+
+pub const MINUS: u8 = 10;
+
+pub const COMMA: u8 = 11;
+
+pub const COLON: u8 = 12;
+
+pub const NEW_LINE: u8 = 13;
+
+pub const LEFT_BRACE: u8 = 14;
+
+pub const RIGHT_BRACE: u8 = 15;
 
 // A text's place in the token list.
 pub struct Text {
@@ -85,113 +118,122 @@ fn float_of(bits: u64) -> f64
     }
 }
 
-fn payload_of(kind: usize) -> Payload
+// The kind of the record at `at`; one that no byte holds is no token's, and is 255 here.
+fn kind_at(list: &[u8], at: usize) -> u8
+    requires { ⌜ at + 4 ≤ length (now list) ⌝ }
+    ensures { λ r. ⌜ r ≡ min (kindAt (now (list .entry)) at) 255 ⌝ }
+{
+    let kind = record::half_at(list, at + 2);
+    if kind < 255 { kind as u8 } else { 255 }
+}
+
+fn payload_of(kind: u8) -> Payload
     ensures { λ r. ⌜ r ≡ payloadOf kind ⌝ }
 {
-    if kind <= 2 {
-        return Payload::Text;
+    match kind {
+        COMMENT => Payload::Text,
+        DIRECTIVE => Payload::Text,
+        PARAMETER => Payload::Text,
+        REGISTER => Payload::Slot,
+        FP_REGISTER => Payload::Slot,
+        INTEGER_LITERAL => Payload::Number,
+        FLOAT_LITERAL => Payload::Number,
+        STRING_LITERAL => Payload::Text,
+        SYMBOL => Payload::Name,
+        PLUS => Payload::Nothing,
+        MINUS => Payload::Nothing,
+        COMMA => Payload::Nothing,
+        COLON => Payload::Nothing,
+        NEW_LINE => Payload::Nothing,
+        LEFT_BRACE => Payload::Nothing,
+        RIGHT_BRACE => Payload::Nothing,
+        _ => Payload::Unknown,
     }
-    if kind <= 4 {
-        return Payload::Slot;
-    }
-    if kind <= 6 {
-        return Payload::Number;
-    }
-    if kind == 7 {
-        return Payload::Text;
-    }
-    if kind == 8 {
-        return Payload::Name;
-    }
-    if kind <= 15 {
-        return Payload::Nothing;
-    }
-    Payload::Unknown
 }
 
 // Whether the n bytes of the payload of the record at `at` are a text.
-fn text_ok(s: &[u8], at: usize, n: usize) -> bool
-    requires { ⌜ at + 12 + n ≤ length (now s) ⌝ }
-    ensures { λ r. ⌜ r ≡ (leb n 64 && all isText (part (now (s .entry)) (at + 12) n)) ⌝ }
+fn text_ok(list: &[u8], at: usize, n: usize) -> bool
+    requires { ⌜ at + 12 + n ≤ length (now list) ⌝ }
+    ensures { λ r. ⌜ r ≡ (leb n 64 && all isText (part (now (list .entry)) (at + 12) n)) ⌝ }
 {
-    n <= 64 && record::all_text(&s[at + 12..at + 12 + n])
+    n <= 64 && record::all_text(&list[at + 12..at + 12 + n])
 }
 
 // Whether the payload of the record at `at`, of n bytes, is one of that sort.
-fn payload_ok(payload: Payload, s: &[u8], at: usize, n: usize) -> bool
-    requires { ⌜ (n + 8 ≡ bodyLen (now s) at) × (next (now s) at ≤ length (now s)) ⌝ }
-    ensures { λ r. ⌜ r ≡ payloadOk payload (now (s .entry)) at ⌝ }
+fn payload_ok(payload: Payload, list: &[u8], at: usize, n: usize) -> bool
+    requires { ⌜ (n + 8 ≡ bodyLen (now list) at) × (next (now list) at ≤ length (now list)) ⌝ }
+    ensures { λ r. ⌜ r ≡ payloadOk payload (now (list .entry)) at ⌝ }
 {
     match payload {
-        Payload::Text => text_ok(s, at, n),
-        Payload::Slot => n == 1 && s[at + 12] <= 31,
+        Payload::Text => text_ok(list, at, n),
+        Payload::Slot => n == 1 && list[at + 12] <= 31,
         Payload::Number => n == 8,
-        Payload::Name => 1 <= n && text_ok(s, at, n),
+        Payload::Name => 1 <= n && text_ok(list, at, n),
         Payload::Nothing => n == 0,
         Payload::Unknown => false,
     }
 }
 
 // Whether the record at `at` is a token.
-fn token_ok(s: &[u8], at: usize) -> bool
-    requires { ⌜ at ≤ length (now s) ⌝ }
-    ensures { λ r. ⌜ r ≡ tokenOk (now (s .entry)) at ⌝ }
+fn token_ok(list: &[u8], at: usize) -> bool
+    requires { ⌜ at ≤ length (now list) ⌝ }
+    ensures { λ r. ⌜ r ≡ tokenOk (now (list .entry)) at ⌝ }
 {
-    if !record::whole_at(s, at) {
+    if !record::whole_at(list, at) {
         return false;
     }
-    let n = record::half_at(s, at);
+    let n = record::half_at(list, at);
     if n < 8 {
         return false;
     }
-    let payload = payload_of(record::half_at(s, at + 2));
-    payload_ok(payload, s, at, n - 8)
+    let payload = payload_of(kind_at(list, at));
+    payload_ok(payload, list, at, n - 8)
 }
 
 // The place of the first record that is no token, or the limit.
-pub fn first_bad_token(s: &[u8]) -> Layout
-    ensures { λ r. ⌜ r ≡ tokenLayout (now (s .entry)) ⌝ }
+pub fn first_bad_token(list: &[u8]) -> Layout
+    ensures { λ r. ⌜ r ≡ tokenLayout (now (list .entry)) ⌝ }
 {
-    if s.len() > 65536 {
-        return Layout::Bad(65536);
+    if list.len() > record::LIMIT {
+        return Layout::Bad(record::LIMIT);
     }
     let mut at: usize = 0;
-    while at < s.len() {
-        if !token_ok(s, at) {
+    while at < list.len() {
+        if !token_ok(list, at) {
             return Layout::Bad(at);
         }
-        at = at + 4 + record::half_at(s, at);
+        at = record::next(list, at);
     }
     Layout::Good
 }
 
 // The token at `at`, of a list that keeps its layout.
-pub fn token_at(s: &[u8], at: usize) -> Token
-    requires { ⌜ TokenIs (now s) at ⌝ }
-    ensures { λ r. ⌜ r ≡ tokenAt (now (s .entry)) at ⌝ }
+pub fn token_at(list: &[u8], at: usize) -> Token
+    requires { ⌜ TokenIs (now list) at ⌝ }
+    ensures { λ r. ⌜ r ≡ tokenAt (now (list .entry)) at ⌝ }
 {
-    let location = record::location_at(s, at + 4);
+    let location = record::location_at(list, at + 4);
     let text = Text {
         start: at + 12,
-        len: record::half_at(s, at) - 8,
+        len: record::half_at(list, at) - 8,
     };
-    let kind = match record::half_at(s, at + 2) {
-        0 => TokenKind::Comment(text),
-        1 => TokenKind::Directive(text),
-        2 => TokenKind::Parameter(text),
-        3 => TokenKind::Register(registers::register_of(s[at + 12])),
-        4 => TokenKind::FPRegister(registers::fp_register_of(s[at + 12])),
-        5 => TokenKind::IntegerLiteral(record::long_at(s, at + 12)),
-        6 => TokenKind::FloatLiteral(float_of(record::long_at(s, at + 12))),
-        7 => TokenKind::StringLiteral(text),
-        8 => TokenKind::Symbol(text),
-        9 => TokenKind::Plus,
-        10 => TokenKind::Minus,
-        11 => TokenKind::Comma,
-        12 => TokenKind::Colon,
-        13 => TokenKind::NewLine,
-        14 => TokenKind::LeftBrace,
-        15 => TokenKind::RightBrace,
+    let kind = match kind_at(list, at) {
+        COMMENT => TokenKind::Comment(text),
+        DIRECTIVE => TokenKind::Directive(text),
+        PARAMETER => TokenKind::Parameter(text),
+        REGISTER => TokenKind::Register(registers::register_of(list[at + 12])),
+        FP_REGISTER => TokenKind::FPRegister(registers::fp_register_of(list[at + 12])),
+        INTEGER_LITERAL => TokenKind::IntegerLiteral(record::long_at(list, at + 12)),
+        FLOAT_LITERAL => TokenKind::FloatLiteral(float_of(record::long_at(list, at + 12))),
+        STRING_LITERAL => TokenKind::StringLiteral(text),
+        SYMBOL => TokenKind::Symbol(text),
+        PLUS => TokenKind::Plus,
+        MINUS => TokenKind::Minus,
+        COMMA => TokenKind::Comma,
+        COLON => TokenKind::Colon,
+        NEW_LINE => TokenKind::NewLine,
+        LEFT_BRACE => TokenKind::LeftBrace,
+        RIGHT_BRACE => TokenKind::RightBrace,
         _ => TokenKind::NewLine,
     };
     Token { location, kind }
@@ -202,22 +244,22 @@ pub fn strip(kind: TokenKind) -> u8
     ensures { λ r. ⌜ r ≡ strip kind ⌝ }
 {
     match kind {
-        TokenKind::Comment(_) => 0,
-        TokenKind::Directive(_) => 1,
-        TokenKind::Parameter(_) => 2,
-        TokenKind::Register(_) => 3,
-        TokenKind::FPRegister(_) => 4,
-        TokenKind::IntegerLiteral(_) => 5,
-        TokenKind::FloatLiteral(_) => 6,
-        TokenKind::StringLiteral(_) => 7,
-        TokenKind::Symbol(_) => 8,
-        TokenKind::Plus => 9,
-        TokenKind::Minus => 10,
-        TokenKind::Comma => 11,
-        TokenKind::Colon => 12,
-        TokenKind::NewLine => 13,
-        TokenKind::LeftBrace => 14,
-        TokenKind::RightBrace => 15,
+        TokenKind::Comment(_) => COMMENT,
+        TokenKind::Directive(_) => DIRECTIVE,
+        TokenKind::Parameter(_) => PARAMETER,
+        TokenKind::Register(_) => REGISTER,
+        TokenKind::FPRegister(_) => FP_REGISTER,
+        TokenKind::IntegerLiteral(_) => INTEGER_LITERAL,
+        TokenKind::FloatLiteral(_) => FLOAT_LITERAL,
+        TokenKind::StringLiteral(_) => STRING_LITERAL,
+        TokenKind::Symbol(_) => SYMBOL,
+        TokenKind::Plus => PLUS,
+        TokenKind::Minus => MINUS,
+        TokenKind::Comma => COMMA,
+        TokenKind::Colon => COLON,
+        TokenKind::NewLine => NEW_LINE,
+        TokenKind::LeftBrace => LEFT_BRACE,
+        TokenKind::RightBrace => RIGHT_BRACE,
     }
 }
 

@@ -9,4 +9,4 @@ positionLine n = (112 ∷ 111 ∷ 115 ∷ 105 ∷ 116 ∷ 105 ∷ 111 ∷ 110 �
 
 -- the data's count, the pending list's, the breakpoints'
 abbrev pub fillsLine : FillCounts → List ℕ
-fillsLine c = (102 ∷ 105 ∷ 108 ∷ 108 ∷ 115 ∷ []) ++ field (c .region) ++ field (c .pending) ++ lastField (c .breakpoints)
+fillsLine c = (102 ∷ 105 ∷ 108 ∷ 108 ∷ 115 ∷ []) ++ field (c .«data_len») ++ field (c .pending) ++ lastField (c .breakpoints)

@@ -1,16 +1,15 @@
 // What `emit_line` does: reads an emit call's six buffers and its numbers from standard input, emits the line, and prints what the call leaves.
 ghost use Prim.Native.Nat.{_≤_};
 use emit_outcome::FillCounts;
+use emit_outcome::LineNumbers;
+use emit_outcome::LinePlace;
 use text::input;
 
 mod output;
 
 // The numbers behind the buffers, and how many bytes of the input are left.
-pub struct Numbers {
-    pub counts: FillCounts,
-    pub position: u32,
-    pub region: u16,
-    pub address: u32,
+pub struct NumbersRead {
+    pub numbers: LineNumbers,
     pub left: u64,
 }
 
@@ -42,7 +41,8 @@ fn emit_into(tokens: &[u8], mnemonic: &[u8], descriptors: &[u8], left: u64) -> u
     let d = input::read_list(&mut data, left);
     let p = input::read_list(&mut pending, d.left);
     let b = input::read_list(&mut breakpoints, p.left);
-    let numbers = read_numbers(b.left);
+    let read = read_numbers(b.left);
+    let numbers = read.numbers;
     print_line(
         tokens,
         mnemonic,
@@ -52,11 +52,11 @@ fn emit_into(tokens: &[u8], mnemonic: &[u8], descriptors: &[u8], left: u64) -> u
         &mut breakpoints[..b.length],
         numbers,
     );
-    numbers.left
+    read.left
 }
 
 // Reads the numbers, of at most `left` bytes. A missing one is 0.
-pub fn read_numbers(left: u64) -> Numbers
+pub fn read_numbers(left: u64) -> NumbersRead
     ensures { λ r. ⌜ r .left ≤ left ⌝ }
 {
     let data = input::read_word(left);
@@ -66,15 +66,18 @@ pub fn read_numbers(left: u64) -> Numbers
     let region = input::read_half(position.left);
     let address = input::read_word(region.left);
     let counts = FillCounts {
-        region: data.value,
+        data_len: data.value,
         pending: pending.value,
         breakpoints: breakpoints.value,
     };
-    Numbers {
-        counts,
+    let place = LinePlace {
         position: position.value,
         region: region.value as u16,
         address: address.value,
+    };
+    let numbers = LineNumbers { counts, place };
+    NumbersRead {
+        numbers,
         left: address.left,
     }
 }
@@ -86,20 +89,19 @@ fn print_line(
     data: &mut [u8],
     pending: &mut [u8],
     breakpoints: &mut [u8],
-    numbers: Numbers,
+    numbers: LineNumbers,
 ) {
     let counts = numbers.counts;
+    let place = numbers.place;
     let emitted = emit_core::do_instruction(
+        counts,
         tokens,
         mnemonic,
         descriptors,
         &mut *data,
         &mut *pending,
         &mut *breakpoints,
-        numbers.position,
-        numbers.region,
-        numbers.address,
-        counts,
+        place,
     );
     output::print(emitted, &*data, &*pending, &*breakpoints);
 }

@@ -49,7 +49,7 @@ fn put_fills(out: &mut [u8], at: usize, counts: FillCounts) -> usize
     ensures { λ r. ⌜ r ≤ at + 128 ⌝ }
 {
     let data_at = text::put_text(&mut *out, at, b"fills");
-    let pending_at = text::put_field(&mut *out, data_at, counts.region as u64);
+    let pending_at = text::put_field(&mut *out, data_at, counts.data_len as u64);
     let breakpoints_at = text::put_field(&mut *out, pending_at, counts.pending as u64);
     text::put_last_field(out, breakpoints_at, counts.breakpoints as u64)
 }

@@ -2,18 +2,18 @@
 ghost use mathlib.Core.Path.{_≡_};
 ghost use Prim.Native.Nat.{_*_, _≤_};
 ghost use lib.ListN.{length};
-ghost use Rattle.stores.specs.Stores.{append};
+ghost use Rattle.record.specs.Stores.{append};
 ghost use Rattle.refusal.specs.Numbers.{numbered};
-ghost use Rattle.linked_answer.specs.Words.{low32, doneWords, refusalWords, builtWords, lineWords, wordBytes};
+ghost use Rattle.linked_answer.specs.Words.{lowWord, doneWords, refusalWords, builtWords, emittedWords, wordsAsBytes};
+use build_outcome::Built;
 use emit_outcome::EmitAnswer;
-use patch::Built;
 use refusal::Refusal;
 
 // The number's low 32 bits.
 fn low_word(a: i64) -> u32
-    ensures { λ r. ⌜ r ≡ low32 a ⌝ }
+    ensures { λ r. ⌜ r ≡ lowWord a ⌝ }
 {
-    let parts = signed::split(a);
+    let parts = refusal::split(a);
     let low = (parts.size % 0x1_0000_0000) as u32;
     if parts.negative {
         0xFFFF_FFFF - low
@@ -49,8 +49,8 @@ pub fn built_words(built: Built) -> [u32; 6]
 }
 
 // A line has a position, refused or not.
-pub fn line_words(answer: EmitAnswer) -> [u32; 6]
-    ensures { λ r. ⌜ r ≡ lineWords answer ⌝ }
+pub fn emitted_words(answer: EmitAnswer) -> [u32; 6]
+    ensures { λ r. ⌜ r ≡ emittedWords answer ⌝ }
 {
     match answer {
         EmitAnswer::Done(position) => done_words(position),
@@ -61,11 +61,11 @@ pub fn line_words(answer: EmitAnswer) -> [u32; 6]
 // The words' bytes from the start on.
 pub fn put_words(d: &mut [u8], words: &[u32])
     requires { ⌜ 4 * length (now words) ≤ length (now d) ⌝ }
-    ensures { λ _. ⌜ now (d .exit) ≡ append (now (d .entry)) 0 (wordBytes (now (words .entry))) ⌝ }
+    ensures { λ _. ⌜ now (d .exit) ≡ append (now (d .entry)) 0 (wordsAsBytes (now (words .entry))) ⌝ }
 {
     let mut i: usize = 0;
     while i < words.len() {
-        stores::put32(&mut *d, 4 * i, words[i]);
+        record::put32(&mut *d, 4 * i, words[i]);
         i += 1;
     }
 }

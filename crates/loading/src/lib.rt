@@ -23,19 +23,19 @@ pub fn load_immediate(constant: u64, into: RegisterSlot) -> Loaded
     let top = (low / 0x1_0000) as u16;
     let bottom = (low % 0x1_0000) as u16;
     if low < 0x8000 {
-        return one(immediate_word(9, RegisterSlot::Zero, into, bottom));
+        return one(from_zero(9, into, bottom));
     }
     if 0xFFFF_8000 <= low {
-        return one(immediate_word(9, RegisterSlot::Zero, into, bottom));
+        return one(from_zero(9, into, bottom));
     }
     if top == 0 {
-        return one(immediate_word(13, RegisterSlot::Zero, into, bottom));
+        return one(from_zero(13, into, bottom));
     }
-    let lui = immediate_word(15, RegisterSlot::Zero, into, top);
+    let lui = from_zero(15, into, top);
     if bottom == 0 {
         return one(lui);
     }
-    let ori = immediate_word(13, into, into, bottom);
+    let ori = ori_after_lui(into, bottom);
     Loaded {
         words: [lui, ori],
         count: 2,
@@ -51,13 +51,24 @@ fn one(word: u32) -> Loaded
     }
 }
 
-// addiu, ori or lui, by its opcode.
-fn immediate_word(opcode: u8, source: RegisterSlot, temp: RegisterSlot, imm: u16) -> u32
-    ensures { λ r. ⌜ r ≡ immediateLayout (opcode % 64) (registerNumber source) (registerNumber temp) imm ⌝ }
+// addiu, ori or lui, by its opcode, with $zero as rs.
+fn from_zero(opcode: u8, temp: RegisterSlot, imm: u16) -> u32
+    ensures { λ r. ⌜ r ≡ immediateLayout (opcode % 64) 0 (registerNumber temp) imm ⌝ }
 {
     InstructionBuilder::from_op(Opcode::Op(opcode))
         .with_temp(temp)
-        .with_source(source)
+        .with_source(RegisterSlot::Zero)
+        .with_immediate(imm)
+        .finish()
+}
+
+// ori onto the register that lui has set.
+fn ori_after_lui(temp: RegisterSlot, imm: u16) -> u32
+    ensures { λ r. ⌜ r ≡ immediateLayout 13 (registerNumber temp) (registerNumber temp) imm ⌝ }
+{
+    InstructionBuilder::from_op(Opcode::Op(13))
+        .with_temp(temp)
+        .with_source(temp)
         .with_immediate(imm)
         .finish()
 }

@@ -2,9 +2,11 @@
 ghost use mathlib.Core.Path.{_≡_};
 ghost use Prim.Native.Nat.{_≤_};
 ghost use lib.ListN.{length};
-ghost use Rattle.nazgwern.specs.Answer.{countsAt, countsAfter, linkedBuild, linkedLine};
+ghost use Rattle.emit_outcome.specs.Call.{lentOf};
+ghost use Rattle.nazgwern.specs.Answer.{countsBytes, countsAt, countsAfter, linkedBuild, linkedLine};
 use emit_outcome::EmitAnswer;
 use emit_outcome::FillCounts;
+use emit_outcome::LinePlace;
 
 // Number, source, index, a, b and the last, each four bytes.
 const ANSWER_BYTES: usize = 24;
@@ -22,7 +24,8 @@ pub extern "C" fn nazgwern_build(
     pending: &[u8],
     answer: &mut [u8],
 ) -> u32
-    ensures { λ r. ⌜ linkedBuild (now (labels .entry)) (now (entry .entry)) (now (regions .entry)) (now (pending .entry)) (now (answer .entry)) ≡ (record { number = r; regions = now (regions .exit); answer = now (answer .exit) }) ⌝ }
+    ensures { λ r. ⌜ linkedBuild (now (labels .entry)) (now (entry .entry)) (now (regions .entry)) (now (pending .entry)) (now (answer .entry))
+        ≡ (record { number = r; regions = now (regions .exit); answer = now (answer .exit) }) ⌝ }
 {
     if answer.len() < ANSWER_BYTES {
         return 1;
@@ -33,29 +36,29 @@ pub extern "C" fn nazgwern_build(
     words[0]
 }
 
-fn counts_at(s: &[u8]) -> FillCounts
-    requires { ⌜ 12 ≤ length (now s) ⌝ }
-    ensures { λ r. ⌜ r ≡ countsAt (now (s .entry)) ⌝ }
+fn counts_at(counts: &[u8]) -> FillCounts
+    requires { ⌜ countsBytes ≤ length (now counts) ⌝ }
+    ensures { λ r. ⌜ r ≡ countsAt (now (counts .entry)) ⌝ }
 {
-    let region = record::word_at(s, 0);
-    let pending = record::word_at(s, 4);
-    let breakpoints = record::word_at(s, 8);
+    let data_len = record::word_at(counts, 0);
+    let pending = record::word_at(counts, 4);
+    let breakpoints = record::word_at(counts, 8);
     FillCounts {
-        region,
+        data_len,
         pending,
         breakpoints,
     }
 }
 
 // The counts of an accepted line; a refused line leaves those that stand there.
-fn put_counts(d: &mut [u8], answer: EmitAnswer, c: FillCounts)
-    requires { ⌜ 12 ≤ length (now d) ⌝ }
-    ensures { λ _. ⌜ now (d .exit) ≡ countsAfter answer c (now (d .entry)) ⌝ }
+fn put_counts(counts: &mut [u8], answer: EmitAnswer, filled: FillCounts)
+    requires { ⌜ countsBytes ≤ length (now counts) ⌝ }
+    ensures { λ _. ⌜ now (counts .exit) ≡ countsAfter answer filled (now (counts .entry)) ⌝ }
 {
     match answer {
         EmitAnswer::Done(_) => {
-            let words = [c.region, c.pending, c.breakpoints];
-            linked_answer::put_words(d, &words[..]);
+            let words = [filled.data_len, filled.pending, filled.breakpoints];
+            linked_answer::put_words(counts, &words[..]);
         }
         EmitAnswer::Refused(_, _) => {}
     }
@@ -77,7 +80,15 @@ pub extern "C" fn nazgwern_do_instruction(
     address: u32,
     answer: &mut [u8],
 ) -> u32
-    ensures { λ r. ⌜ linkedLine (now (tokens .entry)) (now (mnemonic .entry)) (now (descriptors .entry)) (now («data» .entry)) (now (pending .entry)) (now (breakpoints .entry)) (now (counts .entry)) position region address (now (answer .entry)) ≡ (record { number = r; region-data = now («data» .exit); pending = now (pending .exit); breakpoints = now (breakpoints .exit); counts = now (counts .exit); answer = now (answer .exit) }) ⌝ }
+    ensures { λ r. ⌜ linkedLine (now (tokens .entry)) (now (mnemonic .entry)) (now (descriptors .entry))
+        (lentOf (now («data» .entry)) (now (pending .entry)) (now (breakpoints .entry))) (now (counts .entry))
+        (record { position = position; region = region; address = address }) (now (answer .entry))
+        ≡ (record {
+          number = r;
+          lent = lentOf (now («data» .exit)) (now (pending .exit)) (now (breakpoints .exit));
+          counts = now (counts .exit);
+          answer = now (answer .exit);
+        }) ⌝ }
 {
     if answer.len() < ANSWER_BYTES {
         return 1;
@@ -85,22 +96,24 @@ pub extern "C" fn nazgwern_do_instruction(
     if counts.len() < COUNTS_BYTES {
         return 1;
     }
-    let c = counts_at(&*counts);
+    let held = counts_at(&*counts);
     let emitted = emit_core::do_instruction(
+        held,
         tokens,
         mnemonic,
         descriptors,
         data,
         pending,
         breakpoints,
-        position,
-        region,
-        address,
-        c,
+        LinePlace {
+            position,
+            region,
+            address,
+        },
     );
     let given = emitted.answer;
     let filled = emitted.counts;
-    let words = linked_answer::line_words(given);
+    let words = linked_answer::emitted_words(given);
     put_counts(counts, given, filled);
     linked_answer::put_words(answer, &words[..]);
     words[0]

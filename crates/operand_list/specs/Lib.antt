@@ -1,3 +1,4 @@
 pub mod OperandLists
-pub mod Contract
+pub mod HeldOperands
 pub mod OperandListsLaws
+pub mod HeldOperandsLaws

@@ -1,43 +1,58 @@
--- The operands of a line, read left to right. Assumes nothing.
+-- The operands of a line, read left to right (document 01: "4 to 8 as operands are read left to right"). Assumes nothing.
 use Prim.Native.Nat.{ℕ}
 use mathlib.Core.List.{List}
 use Rattle.lexer.specs.declared.Token.{Token}
-use Rattle.operands.specs.declared.Miss.{Miss}
-use Rattle.operand_read.specs.declared.Want.{Want}
-use Rattle.operand_read.specs.declared.Operand.{Operand}
-use Rattle.operand_read.specs.declared.Operand.the-variants.{Absent}
-use Rattle.operand_read.specs.declared.OperandAnswer.{OperandAnswer}
-use Rattle.operand_read.specs.declared.OperandAnswer.the-variants.{Got, Missed}
-use Rattle.operand_read.specs.OperandReads.{readOperand}
+use Rattle.cursor.specs.Cursors.{At}
+use Rattle.operand.specs.declared.Want.{Want}
+use Rattle.operand.specs.declared.Want.the-variants.{Register as aRegister, FPRegister as anFPRegister, Code as aCode, Value as aValue, MaybeValue as maybeValue, Constant as aConstant, Label as aLabel, OffsetOrLabel as anOffset, Nothing as nothing}
+use Rattle.operand.specs.Answers.{Answer, Got, Missed, Asked, operandOf, here}
+use Rattle.operands.specs.Operands.{getRegister, getFPRegister, getCc, getValue, maybeGetValue, getConstant}
+use Rattle.assembler_util.specs.LabelOperands.{getLabel, getOffsetOrLabel}
+use Rattle.operand_list.specs.declared.Wants.{Wants}
 use Rattle.operand_list.specs.declared.Operands.{Operands}
 use Rattle.operand_list.specs.declared.OperandsAnswer.{OperandsAnswer}
-use Rattle.operand_list.specs.declared.OperandsAnswer.the-variants.{Read, Missed as MissedOne}
+use Rattle.operand_list.specs.declared.OperandsAnswer.the-variants.{Got as GotOperands, Missed as MissedOperands}
 
--- ---- up to three operands, in order; the first that is missed ends the reading
+-- the operand that is asked for, from an index on
+unfoldable pub readOperand : (w : Want) → List Token → ℕ → At (Answer (Asked w))
+unfolding getRegister getFPRegister getCc getValue maybeGetValue getConstant getLabel getOffsetOrLabel
+readOperand aRegister ts i = getRegister ts i
+readOperand anFPRegister ts i = getFPRegister ts i
+readOperand aCode ts i = getCc ts i
+readOperand aValue ts i = getValue ts i
+readOperand maybeValue ts i = maybeGetValue ts i
+readOperand aConstant ts i = getConstant ts i
+readOperand aLabel ts i = getLabel ts i
+readOperand anOffset ts i = getOffsetOrLabel ts i
+readOperand nothing ts i = here (Got tt) i
 
-abbrev pub noOperands : Operands
-noOperands = record { first = Absent; second = Absent; third = Absent }
+-- what is read of a line whose instruction asks for these
+abbrev pub AskedAll : Wants → Type 0
+AskedAll w = Asked (w .first) × Asked (w .second) × Asked (w .third)
 
-pub record Reading : Type 0 where
-  pub answer : OperandsAnswer
-  pub operands : Operands
-  pub index : ℕ
+-- reading goes on behind what was read, and ends with the first miss
+abbrev pub thenRead : {A B : Type 0} → Answer A → ℕ → (A → ℕ → At (Answer B)) → At (Answer B)
+thenRead (Got a) i next = next a i
+thenRead (Missed m) i next = here (Missed m) i
 
-abbrev pub missed : Miss → ℕ → Reading
-missed m i = record { answer = MissedOne m; operands = noOperands; index = i }
+module _ (w : Wants) (ts : List Token) where
+  abbrev pub thirdFrom : Asked (w .first) → Asked (w .second) → ℕ → At (Answer (AskedAll w))
+  thirdFrom a b i = thenRead (readOperand (w .third) ts i .answer) (readOperand (w .third) ts i .index) (λ c j. here (Got (a, b, c)) j)
 
-abbrev pub thirdRead : Operand → Operand → ℕ → OperandAnswer → Reading
-thirdRead a b i (Got c) = record { answer = Read; operands = record { first = a; second = b; third = c }; index = i }
-thirdRead a b i (Missed m) = missed m i
+  abbrev pub secondFrom : Asked (w .first) → ℕ → At (Answer (AskedAll w))
+  secondFrom a i = thenRead (readOperand (w .second) ts i .answer) (readOperand (w .second) ts i .index) (thirdFrom a)
 
-abbrev pub secondRead : Operand → Want → List Token → ℕ → OperandAnswer → Reading
-secondRead a third ts i (Got b) = thirdRead a b (readOperand third ts i .index) (readOperand third ts i .answer)
-secondRead a third ts i (Missed m) = missed m i
+  unfoldable pub readOperands : ℕ → At (Answer (AskedAll w))
+  unfolding readOperand
+  readOperands i = thenRead (readOperand (w .first) ts i .answer) (readOperand (w .first) ts i .index) secondFrom
 
-abbrev pub firstRead : Want → Want → List Token → ℕ → OperandAnswer → Reading
-firstRead second third ts i (Got a) = secondRead a third ts (readOperand second ts i .index) (readOperand second ts i .answer)
-firstRead second third ts i (Missed m) = missed m i
+-- the same as operands
+abbrev pub operandsOf : (w : Wants) → AskedAll w → Operands
+operandsOf w x = record { first = operandOf (w .first) (x .0); second = operandOf (w .second) (x .1); third = operandOf (w .third) (x .2) }
 
-unfoldable pub readOperands : Want → Want → Want → List Token → ℕ → Reading
-unfolding readOperand
-readOperands first second third ts i = firstRead second third ts (readOperand first ts i .index) (readOperand first ts i .answer)
+abbrev pub operandsAnswer : (w : Wants) → Answer (AskedAll w) → OperandsAnswer
+operandsAnswer w (Got x) = GotOperands (operandsOf w x)
+operandsAnswer w (Missed m) = MissedOperands m
+
+abbrev pub givenAll : (w : Wants) → At (Answer (AskedAll w)) → At OperandsAnswer
+givenAll w x = here (operandsAnswer w (x .answer)) (x .index)

@@ -1,14 +1,22 @@
 // The operands of a line, read left to right by what its instruction asks for.
 ghost use mathlib.Core.Path.{_≡_};
 ghost use Rattle.lexer.specs.Tokens.{tokens};
-ghost use Rattle.cursor.specs.Reads.{Placed};
-ghost use Rattle.operand_list.specs.OperandLists.{readOperands, noOperands};
-ghost use Rattle.operand_list.specs.Contract.{OperandsAs};
+ghost use Rattle.cursor.specs.Reads.{Placed, ReadAs};
+ghost use Rattle.operand.specs.Answers.{given};
+ghost use Rattle.operand_list.specs.OperandLists.{readOperand, readOperands, givenAll};
 use cursor::Cursor;
-use operand_read::Operand;
-use operand_read::OperandAnswer;
-use operand_read::Want;
-use operands::Miss;
+use operand::Miss;
+use operand::Operand;
+use operand::OperandAnswer;
+use operand::OperandRead;
+use operand::Want;
+
+// What an instruction asks for, left to right.
+pub struct Wants {
+    pub first: Want,
+    pub second: Want,
+    pub third: Want,
+}
 
 pub struct Operands {
     pub first: Operand,
@@ -17,60 +25,76 @@ pub struct Operands {
 }
 
 pub enum OperandsAnswer {
-    Read,
+    Got(Operands),
     Missed(Miss),
 }
 
-// The operands of a line, all absent where one was missed.
 pub struct OperandsRead {
     pub answer: OperandsAnswer,
-    pub operands: Operands,
     pub cursor: Cursor,
 }
 
+// The next operand, of the kind that is asked for.
+fn read_operand(want: Want, list: &[u8], from: Cursor) -> OperandRead
+    requires { ⌜ Placed (now list) from ⌝ }
+    ensures { λ r. ⌜ ReadAs (now (list .entry)) (given want (readOperand want (tokens (now (list .entry))) (from .index))) (r .answer) (r .cursor) ⌝ }
+{
+    match want {
+        Want::Register => operands::get_register(list, from),
+        Want::FPRegister => operands::get_fp_register(list, from),
+        Want::Code => operands::get_cc(list, from),
+        Want::Value => operands::get_value(list, from),
+        Want::MaybeValue => operands::maybe_get_value(list, from),
+        Want::Constant => operands::get_constant(list, from),
+        Want::Label => assembler_util::get_label(list, from),
+        Want::OffsetOrLabel => assembler_util::get_offset_or_label(list, from),
+        Want::Nothing => OperandRead {
+            answer: OperandAnswer::Got(Operand::Absent),
+            cursor: from,
+        },
+    }
+}
+
 fn missed(miss: Miss, cursor: Cursor) -> OperandsRead
-    ensures { λ r. ⌜ (r .answer ≡ OperandsAnswer.Missed miss) × (r .operands ≡ noOperands) × (r .cursor ≡ cursor) ⌝ }
+    ensures { λ r. ⌜ (r .answer ≡ OperandsAnswer.Missed miss) × (r .cursor ≡ cursor) ⌝ }
 {
     OperandsRead {
         answer: OperandsAnswer::Missed(miss),
-        operands: Operands {
-            first: Operand::Absent,
-            second: Operand::Absent,
-            third: Operand::Absent,
-        },
         cursor,
     }
 }
 
 // Up to three operands in order; the first that is missed ends the reading.
-pub fn read_operands(first: Want, second: Want, third: Want, s: &[u8], c: Cursor) -> OperandsRead
-    requires { ⌜ Placed (now s) c ⌝ }
-    ensures { λ r. ⌜ OperandsAs (now (s .entry)) (readOperands first second third (tokens (now (s .entry))) (c .index)) (r .answer) (r .operands) (r .cursor) ⌝ }
+pub fn read_operands(wants: Wants, list: &[u8], from: Cursor) -> OperandsRead
+    requires { ⌜ Placed (now list) from ⌝ }
+    ensures { λ r. ⌜ ReadAs (now (list .entry)) (givenAll wants (readOperands wants (tokens (now (list .entry))) (from .index))) (r .answer) (r .cursor) ⌝ }
 {
-    let one = operand_read::read_operand(first, s, c);
+    let first_want = wants.first;
+    let second_want = wants.second;
+    let third_want = wants.third;
+    let one = read_operand(first_want, list, from);
     let behind_one = one.cursor;
     let one_answer = one.answer;
     match one_answer {
         OperandAnswer::Missed(miss) => missed(miss, behind_one),
-        OperandAnswer::Got(a) => {
-            let two = operand_read::read_operand(second, s, behind_one);
+        OperandAnswer::Got(first) => {
+            let two = read_operand(second_want, list, behind_one);
             let behind_two = two.cursor;
             let two_answer = two.answer;
             match two_answer {
                 OperandAnswer::Missed(miss) => missed(miss, behind_two),
-                OperandAnswer::Got(b) => {
-                    let three = operand_read::read_operand(third, s, behind_two);
+                OperandAnswer::Got(second) => {
+                    let three = read_operand(third_want, list, behind_two);
                     let behind_three = three.cursor;
                     let three_answer = three.answer;
                     match three_answer {
                         OperandAnswer::Missed(miss) => missed(miss, behind_three),
-                        OperandAnswer::Got(d) => OperandsRead {
-                            answer: OperandsAnswer::Read,
-                            operands: Operands {
-                                first: a,
-                                second: b,
-                                third: d,
-                            },
+                        OperandAnswer::Got(third) => OperandsRead {
+                            answer: OperandsAnswer::Got(Operands {
+                                first,
+                                second,
+                                third,
+                            }),
                             cursor: behind_three,
                         },
                     }

@@ -17,7 +17,12 @@ use Rattle.cursor.specs.declared.Seen.the-variants.{Met}
 use Rattle.cursor.specs.Cursors.{At, seek, peek, nextAdjacent}
 use Rattle.cursor.specs.CursorsLaws.{cursor-is, peek-end}
 use Rattle.cursor.specs.Reads.{Placed, ReadAs}
-use Rattle.operands.specs.Operands.{here, signed, literalSeen, getInteger, constantSeen, getConstant, valueSeen, getValue, maybeIn, maybeSeen, maybeGetValue}
+use Rattle.operand.specs.declared.Want.{Want}
+use Rattle.operand.specs.declared.OperandAnswer.{OperandAnswer}
+use Rattle.operand.specs.Answers.{Answer, Asked, here, given}
+use Rattle.operand.specs.Held.{heldAnswer}
+use Rattle.operand.specs.HeldLaws.{answer-held}
+use Rattle.operands.specs.Operands.{signed, literalSeen, getInteger, constantSeen, getConstant, valueSeen, getValue, maybeMet, maybeSeen, maybeGetValue}
 
 -- ---- readings
 
@@ -40,6 +45,17 @@ module _ {A : Type 0} {s : List ℕ} {x : At A} {answer : A} {cursor : Cursor} (
   -- what is made of an answer is read with it
   pub read-made : {B : Type 0} (f : A → B) (b : B) → b ≡ f answer → ReadAs s (here (f (x .answer)) (x .index)) b cursor
   read-made f b e = record { answer-is = e ∙ ap f (r .answer-is); cursor-is = r .cursor-is; placed = r .placed }
+
+-- what was read where this was asked for, by the operand that the reader gives
+pub reader-is : (w : Want) {s : List ℕ} {x : At (Answer (Asked w))} {answer : OperandAnswer} {cursor : Cursor} → ReadAs s (given w x) answer cursor
+    → (b : OperandAnswer) → answer ≡ b → x ≡ here (heldAnswer w b) (cursor .index)
+reader-is w {x = x} r b e =
+    ap (λ (a : Answer (Asked w)). here a (x .index)) (answer-held w (sym e ∙ r .answer-is)) ∙ ap (here (heldAnswer w b)) (sym (read-index r))
+
+-- what is made of what was read
+pub held-made : (w : Want) {B : Type 0} {s : List ℕ} {x : At (Answer (Asked w))} {answer : OperandAnswer} {cursor : Cursor} → ReadAs s (given w x) answer cursor
+    → (f : Answer (Asked w) → B) (b : B) → b ≡ f (heldAnswer w answer) → ReadAs s (here (f (x .answer)) (x .index)) b cursor
+held-made w r f b e = record { answer-is = e ∙ ap f (sym (answer-held w (r .answer-is))); cursor-is = r .cursor-is; placed = r .placed }
 
 -- ---- numbers
 
@@ -88,5 +104,5 @@ module _ (ts : List Token) (i j : ℕ) (at : seek ts i ≡ j) where
   unfolding maybeGetValue
   maybe-is seen e = ap (λ (k : ℕ). maybeSeen ts k (peek ts k)) at ∙ ap (maybeSeen ts j) e
 
-  pub maybe-met : (t : Token) (number : MaybeInteger) (k : ℕ) → peek ts j ≡ Met t → getInteger t ts (j + 1) ≡ here number k → maybeGetValue ts i ≡ maybeIn j t k number
-  maybe-met t number k e h = maybe-is (Met t) e ∙ ap (λ (x : At MaybeInteger). maybeIn j t (x .index) (x .answer)) h
+  pub maybe-met : (t : Token) (number : MaybeInteger) (k : ℕ) → peek ts j ≡ Met t → getInteger t ts (j + 1) ≡ here number k → maybeGetValue ts i ≡ maybeMet j t k number
+  maybe-met t number k e h = maybe-is (Met t) e ∙ ap (λ (x : At MaybeInteger). maybeMet j t (x .index) (x .answer)) h

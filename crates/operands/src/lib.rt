@@ -2,93 +2,23 @@
 ghost use mathlib.Core.Path.{_≡_};
 ghost use Rattle.lexer.specs.Tokens.{tokens};
 ghost use Rattle.cursor.specs.Reads.{Placed, ReadAs};
-ghost use Rattle.operands.specs.Operands.{noRegister, noConstant, registerSeen, fpRegisterSeen, ccSeen, constantIn, valueIn, getRegister, getFPRegister, getCc, withSign, signed, getInteger, getConstant, getValue, maybeGetValue};
+ghost use Rattle.operand.specs.Answers.{answerOf, given};
+ghost use Rattle.operands.specs.Operands.{noRegister, noConstant, registerSeen, fpRegisterSeen, codeSeen, constantMet, valueMet, getRegister, getFPRegister, getCc, withSign, signed, getInteger, getConstant, getValue, maybeGetValue};
 use cursor::Cursor;
 use cursor::Seen;
 use lexer::MaybeFPRegister;
 use lexer::MaybeInteger;
 use lexer::MaybeRegister;
 use lexer::Token;
-use record::Location;
-use registers::FPRegisterSlot;
-use registers::RegisterSlot;
-
-// Why an operand could not be read: the kind and the location of the token that was met.
-pub enum Miss {
-    EndOfFile,
-    ExpectedRegister(u8, Location),
-    ExpectedConstant(u8, Location),
-    ExpectedLabel(u8, Location),
-    ExpectedRightBrace(u8, Location),
-}
-
-pub enum InstructionValue {
-    Slot(RegisterSlot),
-    Literal(u64),
-}
-
-pub enum RegisterAnswer {
-    Got(RegisterSlot),
-    Missed(Miss),
-}
-
-pub struct RegisterRead {
-    pub answer: RegisterAnswer,
-    pub cursor: Cursor,
-}
-
-pub enum FPRegisterAnswer {
-    Got(FPRegisterSlot),
-    Missed(Miss),
-}
-
-pub struct FPRegisterRead {
-    pub answer: FPRegisterAnswer,
-    pub cursor: Cursor,
-}
-
-pub enum CcAnswer {
-    Got(u8),
-    Missed(Miss),
-}
-
-pub struct CcRead {
-    pub answer: CcAnswer,
-    pub cursor: Cursor,
-}
+use operand::InstructionValue;
+use operand::Miss;
+use operand::Operand;
+use operand::OperandAnswer;
+use operand::OperandRead;
+use operand::Want;
 
 pub struct IntegerRead {
     pub answer: MaybeInteger,
-    pub cursor: Cursor,
-}
-
-pub enum ValueAnswer {
-    Got(InstructionValue),
-    Missed(Miss),
-}
-
-pub struct ValueRead {
-    pub answer: ValueAnswer,
-    pub cursor: Cursor,
-}
-
-pub enum MaybeAnswer {
-    Some(InstructionValue),
-    Nothing,
-}
-
-pub struct MaybeRead {
-    pub answer: MaybeAnswer,
-    pub cursor: Cursor,
-}
-
-pub enum ConstantAnswer {
-    Got(u64),
-    Missed(Miss),
-}
-
-pub struct ConstantRead {
-    pub answer: ConstantAnswer,
     pub cursor: Cursor,
 }
 
@@ -108,86 +38,87 @@ fn expected_constant(t: Token) -> Miss
     Miss::ExpectedConstant(lexer::strip(kind), location)
 }
 
-pub fn get_register(s: &[u8], c: Cursor) -> RegisterRead
-    requires { ⌜ Placed (now s) c ⌝ }
-    ensures { λ r. ⌜ ReadAs (now (s .entry)) (getRegister (tokens (now (s .entry))) (c .index)) (r .answer) (r .cursor) ⌝ }
+pub fn get_register(list: &[u8], from: Cursor) -> OperandRead
+    requires { ⌜ Placed (now list) from ⌝ }
+    ensures { λ r. ⌜ ReadAs (now (list .entry)) (given Want.Register (getRegister (tokens (now (list .entry))) (from .index))) (r .answer) (r .cursor) ⌝ }
 {
-    let read = lexer_cursor::next_adjacent(s, c);
+    let read = cursor::next_adjacent(list, from);
     let seen = read.answer;
     let cursor = read.cursor;
     let answer = register_seen(seen);
-    RegisterRead { answer, cursor }
+    OperandRead { answer, cursor }
 }
 
-fn register_seen(seen: Seen) -> RegisterAnswer
-    ensures { λ r. ⌜ r ≡ registerSeen seen ⌝ }
+fn register_seen(seen: Seen) -> OperandAnswer
+    ensures { λ r. ⌜ r ≡ answerOf Want.Register (registerSeen seen) ⌝ }
 {
     match seen {
-        Seen::End => RegisterAnswer::Missed(Miss::EndOfFile),
+        Seen::End => OperandAnswer::Missed(Miss::EndOfFile),
         Seen::Met(t) => {
             let kind = t.kind;
             match lexer::as_register(kind) {
-                MaybeRegister::Some(slot) => RegisterAnswer::Got(slot),
-                MaybeRegister::Nothing => RegisterAnswer::Missed(expected_register(t)),
+                MaybeRegister::Some(slot) => OperandAnswer::Got(Operand::Register(slot)),
+                MaybeRegister::Nothing => OperandAnswer::Missed(expected_register(t)),
             }
         }
     }
 }
 
-pub fn get_fp_register(s: &[u8], c: Cursor) -> FPRegisterRead
-    requires { ⌜ Placed (now s) c ⌝ }
-    ensures { λ r. ⌜ ReadAs (now (s .entry)) (getFPRegister (tokens (now (s .entry))) (c .index)) (r .answer) (r .cursor) ⌝ }
+pub fn get_fp_register(list: &[u8], from: Cursor) -> OperandRead
+    requires { ⌜ Placed (now list) from ⌝ }
+    ensures { λ r. ⌜ ReadAs (now (list .entry)) (given Want.FPRegister (getFPRegister (tokens (now (list .entry))) (from .index))) (r .answer) (r .cursor) ⌝ }
 {
-    let read = lexer_cursor::next_adjacent(s, c);
+    let read = cursor::next_adjacent(list, from);
     let seen = read.answer;
     let cursor = read.cursor;
     let answer = fp_register_seen(seen);
-    FPRegisterRead { answer, cursor }
+    OperandRead { answer, cursor }
 }
 
-fn fp_register_seen(seen: Seen) -> FPRegisterAnswer
-    ensures { λ r. ⌜ r ≡ fpRegisterSeen seen ⌝ }
+fn fp_register_seen(seen: Seen) -> OperandAnswer
+    ensures { λ r. ⌜ r ≡ answerOf Want.FPRegister (fpRegisterSeen seen) ⌝ }
 {
     match seen {
-        Seen::End => FPRegisterAnswer::Missed(Miss::EndOfFile),
+        Seen::End => OperandAnswer::Missed(Miss::EndOfFile),
         Seen::Met(t) => {
             let kind = t.kind;
             match lexer::as_fp_register(kind) {
-                MaybeFPRegister::Some(slot) => FPRegisterAnswer::Got(slot),
-                MaybeFPRegister::Nothing => FPRegisterAnswer::Missed(expected_register(t)),
+                MaybeFPRegister::Some(slot) => OperandAnswer::Got(Operand::FPRegister(slot)),
+                MaybeFPRegister::Nothing => OperandAnswer::Missed(expected_register(t)),
             }
         }
     }
 }
 
 // A condition code takes no sign, and its low byte.
-pub fn get_cc(s: &[u8], c: Cursor) -> CcRead
-    requires { ⌜ Placed (now s) c ⌝ }
-    ensures { λ r. ⌜ ReadAs (now (s .entry)) (getCc (tokens (now (s .entry))) (c .index)) (r .answer) (r .cursor) ⌝ }
+pub fn get_cc(list: &[u8], from: Cursor) -> OperandRead
+    requires { ⌜ Placed (now list) from ⌝ }
+    ensures { λ r. ⌜ ReadAs (now (list .entry)) (given Want.Code (getCc (tokens (now (list .entry))) (from .index))) (r .answer) (r .cursor) ⌝ }
 {
-    let read = lexer_cursor::next_adjacent(s, c);
+    let read = cursor::next_adjacent(list, from);
     let seen = read.answer;
     let cursor = read.cursor;
-    let answer = cc_seen(seen);
-    CcRead { answer, cursor }
+    let answer = code_seen(seen);
+    OperandRead { answer, cursor }
 }
 
-fn cc_seen(seen: Seen) -> CcAnswer
-    ensures { λ r. ⌜ r ≡ ccSeen seen ⌝ }
+fn code_seen(seen: Seen) -> OperandAnswer
+    ensures { λ r. ⌜ r ≡ answerOf Want.Code (codeSeen seen) ⌝ }
 {
     match seen {
-        Seen::End => CcAnswer::Missed(Miss::EndOfFile),
+        Seen::End => OperandAnswer::Missed(Miss::EndOfFile),
         Seen::Met(t) => {
             let kind = t.kind;
             match lexer::as_integer(kind) {
-                MaybeInteger::Some(n) => CcAnswer::Got((n % 256) as u8),
-                MaybeInteger::Nothing => CcAnswer::Missed(expected_constant(t)),
+                MaybeInteger::Some(n) => OperandAnswer::Got(Operand::Code((n % 256) as u8)),
+                MaybeInteger::Nothing => OperandAnswer::Missed(expected_constant(t)),
             }
         }
     }
 }
 
-fn with_sign(minus: bool, n: u64) -> u64
+// A number with its sign; negation wraps at 64 bits.
+pub fn with_sign(minus: bool, n: u64) -> u64
     ensures { λ r. ⌜ r ≡ withSign minus n ⌝ }
 {
     if minus {
@@ -198,16 +129,16 @@ fn with_sign(minus: bool, n: u64) -> u64
 }
 
 // The literal behind a sign; where there is none, reading stands behind the sign.
-fn signed(minus: bool, s: &[u8], c: Cursor) -> IntegerRead
-    requires { ⌜ Placed (now s) c ⌝ }
-    ensures { λ r. ⌜ ReadAs (now (s .entry)) (signed minus (tokens (now (s .entry))) (c .index)) (r .answer) (r .cursor) ⌝ }
+fn signed(minus: bool, list: &[u8], from: Cursor) -> IntegerRead
+    requires { ⌜ Placed (now list) from ⌝ }
+    ensures { λ r. ⌜ ReadAs (now (list .entry)) (signed minus (tokens (now (list .entry))) (from .index)) (r .answer) (r .cursor) ⌝ }
 {
-    let read = lexer_cursor::next_adjacent(s, c);
+    let read = cursor::next_adjacent(list, from);
     let seen = read.answer;
     let next = read.cursor;
     let nothing = IntegerRead {
         answer: MaybeInteger::Nothing,
-        cursor: c,
+        cursor: from,
     };
     match seen {
         Seen::End => nothing,
@@ -225,117 +156,123 @@ fn signed(minus: bool, s: &[u8], c: Cursor) -> IntegerRead
 }
 
 // The number whose first token is `first`, with the position behind that token.
-pub fn get_integer(first: Token, s: &[u8], c: Cursor) -> IntegerRead
-    requires { ⌜ Placed (now s) c ⌝ }
-    ensures { λ r. ⌜ ReadAs (now (s .entry)) (getInteger first (tokens (now (s .entry))) (c .index)) (r .answer) (r .cursor) ⌝ }
+pub fn get_integer(first: Token, list: &[u8], from: Cursor) -> IntegerRead
+    requires { ⌜ Placed (now list) from ⌝ }
+    ensures { λ r. ⌜ ReadAs (now (list .entry)) (getInteger first (tokens (now (list .entry))) (from .index)) (r .answer) (r .cursor) ⌝ }
 {
     let kind = first.kind;
     let number = lexer::strip(kind);
-    if number == 9 {
-        return signed(false, s, c);
+    if number == lexer::PLUS {
+        return signed(false, list, from);
     }
-    if number == 10 {
-        return signed(true, s, c);
+    if number == lexer::MINUS {
+        return signed(true, list, from);
     }
     let answer = lexer::as_integer(kind);
-    IntegerRead { answer, cursor: c }
+    IntegerRead {
+        answer,
+        cursor: from,
+    }
 }
 
-pub fn get_constant(s: &[u8], c: Cursor) -> ConstantRead
-    requires { ⌜ Placed (now s) c ⌝ }
-    ensures { λ r. ⌜ ReadAs (now (s .entry)) (getConstant (tokens (now (s .entry))) (c .index)) (r .answer) (r .cursor) ⌝ }
+pub fn get_constant(list: &[u8], from: Cursor) -> OperandRead
+    requires { ⌜ Placed (now list) from ⌝ }
+    ensures { λ r. ⌜ ReadAs (now (list .entry)) (given Want.Constant (getConstant (tokens (now (list .entry))) (from .index))) (r .answer) (r .cursor) ⌝ }
 {
-    let read = lexer_cursor::next_adjacent(s, c);
+    let read = cursor::next_adjacent(list, from);
     let seen = read.answer;
     let cursor = read.cursor;
     match seen {
-        Seen::End => ConstantRead {
-            answer: ConstantAnswer::Missed(Miss::EndOfFile),
+        Seen::End => OperandRead {
+            answer: OperandAnswer::Missed(Miss::EndOfFile),
             cursor,
         },
         Seen::Met(t) => {
-            let read = get_integer(t, s, cursor);
+            let read = get_integer(t, list, cursor);
             let number = read.answer;
             let cursor = read.cursor;
-            let answer = constant_in(t, number);
-            ConstantRead { answer, cursor }
+            let answer = constant_met(t, number);
+            OperandRead { answer, cursor }
         }
     }
 }
 
-fn constant_in(t: Token, number: MaybeInteger) -> ConstantAnswer
-    ensures { λ r. ⌜ r ≡ constantIn t number ⌝ }
+fn constant_met(t: Token, number: MaybeInteger) -> OperandAnswer
+    ensures { λ r. ⌜ r ≡ answerOf Want.Constant (constantMet t number) ⌝ }
 {
     match number {
-        MaybeInteger::Some(n) => ConstantAnswer::Got(n),
-        MaybeInteger::Nothing => ConstantAnswer::Missed(expected_constant(t)),
+        MaybeInteger::Some(n) => OperandAnswer::Got(Operand::Constant(n)),
+        MaybeInteger::Nothing => OperandAnswer::Missed(expected_constant(t)),
     }
 }
 
-pub fn get_value(s: &[u8], c: Cursor) -> ValueRead
-    requires { ⌜ Placed (now s) c ⌝ }
-    ensures { λ r. ⌜ ReadAs (now (s .entry)) (getValue (tokens (now (s .entry))) (c .index)) (r .answer) (r .cursor) ⌝ }
+pub fn get_value(list: &[u8], from: Cursor) -> OperandRead
+    requires { ⌜ Placed (now list) from ⌝ }
+    ensures { λ r. ⌜ ReadAs (now (list .entry)) (given Want.Value (getValue (tokens (now (list .entry))) (from .index))) (r .answer) (r .cursor) ⌝ }
 {
-    let read = lexer_cursor::next_adjacent(s, c);
+    let read = cursor::next_adjacent(list, from);
     let seen = read.answer;
     let cursor = read.cursor;
     match seen {
-        Seen::End => ValueRead {
-            answer: ValueAnswer::Missed(Miss::EndOfFile),
+        Seen::End => OperandRead {
+            answer: OperandAnswer::Missed(Miss::EndOfFile),
             cursor,
         },
         Seen::Met(t) => {
-            let read = get_integer(t, s, cursor);
+            let read = get_integer(t, list, cursor);
             let number = read.answer;
             let cursor = read.cursor;
-            let answer = value_in(t, number);
-            ValueRead { answer, cursor }
+            let answer = value_met(t, number);
+            OperandRead { answer, cursor }
         }
     }
 }
 
-fn value_in(t: Token, number: MaybeInteger) -> ValueAnswer
-    ensures { λ r. ⌜ r ≡ valueIn t number ⌝ }
+fn value_met(t: Token, number: MaybeInteger) -> OperandAnswer
+    ensures { λ r. ⌜ r ≡ answerOf Want.Value (valueMet t number) ⌝ }
 {
     match number {
-        MaybeInteger::Some(n) => ValueAnswer::Got(InstructionValue::Literal(n)),
+        MaybeInteger::Some(n) => OperandAnswer::Got(Operand::Value(InstructionValue::Literal(n))),
         MaybeInteger::Nothing => {
             let kind = t.kind;
             match lexer::as_register(kind) {
-                MaybeRegister::Some(slot) => ValueAnswer::Got(InstructionValue::Slot(slot)),
-                MaybeRegister::Nothing => ValueAnswer::Missed(expected_register(t)),
+                MaybeRegister::Some(slot) =>
+                    OperandAnswer::Got(Operand::Value(InstructionValue::Slot(slot))),
+                MaybeRegister::Nothing => OperandAnswer::Missed(expected_register(t)),
             }
         }
     }
 }
 
 // The optional third operand of Inputs.
-pub fn maybe_get_value(s: &[u8], c: Cursor) -> MaybeRead
-    requires { ⌜ Placed (now s) c ⌝ }
-    ensures { λ r. ⌜ ReadAs (now (s .entry)) (maybeGetValue (tokens (now (s .entry))) (c .index)) (r .answer) (r .cursor) ⌝ }
+pub fn maybe_get_value(list: &[u8], from: Cursor) -> OperandRead
+    requires { ⌜ Placed (now list) from ⌝ }
+    ensures { λ r. ⌜ ReadAs (now (list .entry)) (given Want.MaybeValue (maybeGetValue (tokens (now (list .entry))) (from .index))) (r .answer) (r .cursor) ⌝ }
 {
-    let found = cursor::seek_without(s, c);
-    let absent = MaybeRead {
-        answer: MaybeAnswer::Nothing,
+    let found = cursor::seek_without(list, from);
+    let absent = OperandRead {
+        answer: OperandAnswer::Got(Operand::Absent),
         cursor: found,
     };
-    match cursor::peek(s, found) {
+    match cursor::peek(list, found) {
         Seen::End => absent,
         Seen::Met(t) => {
-            let next = cursor::next(s, found);
-            let read = get_integer(t, s, next);
+            let next = cursor::next(list, found);
+            let read = get_integer(t, list, next);
             let number = read.answer;
             let behind = read.cursor;
             match number {
-                MaybeInteger::Some(n) => MaybeRead {
-                    answer: MaybeAnswer::Some(InstructionValue::Literal(n)),
+                MaybeInteger::Some(n) => OperandRead {
+                    answer: OperandAnswer::Got(Operand::Value(InstructionValue::Literal(n))),
                     cursor: behind,
                 },
                 MaybeInteger::Nothing => {
                     let kind = t.kind;
                     match lexer::as_register(kind) {
-                        MaybeRegister::Some(slot) => MaybeRead {
-                            answer: MaybeAnswer::Some(InstructionValue::Slot(slot)),
+                        MaybeRegister::Some(slot) => OperandRead {
+                            answer: OperandAnswer::Got(Operand::Value(InstructionValue::Slot(
+                                slot,
+                            ))),
                             cursor: next,
                         },
                         MaybeRegister::Nothing => absent,

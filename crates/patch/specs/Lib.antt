@@ -1,6 +1,3 @@
 pub mod Patches
-pub mod WordLaws
 pub mod PatchesLaws
-pub mod KeptLaws
-pub mod Build
-pub mod BuildLaws
+pub mod WordLaws

@@ -1,11 +1,17 @@
--- One patch: its destination, its field, its range, its place (document 01, 'Label 34, region 35, entry 38'). Assumes nothing.
+-- One patch: its destination, its field, its range, its place, its checks and its word (document 01, 'Label 34, region 35, entry 38', 'Where
+-- the work stops'). Assumes nothing.
 use Prim.Native.Nat.{ℕ, _+_, _-_, _/_, _%_, _^_}
 use mathlib.Core.List.{List}
-use mathlib.Core.Bool.{Bool, true, _&&_}
-use lib.ListN.{set}
+use mathlib.Core.Bool.{Bool, true, false, _&&_}
 use lib.Dec.{leb, eqb}
 use Rattle.field.specs.Field.{setField}
-use Rattle.record.specs.Bytes.{part}
+use Rattle.record.specs.Bytes.{le32, part}
+use Rattle.record.specs.Stores.{le32Bytes, append}
+use Rattle.record.specs.declared.Location.{Location}
+use Rattle.refusal.specs.Numbers.{zeroLocation}
+use Rattle.refusal.specs.declared.Refusal.the-variants.{PatchPastEnd, UnknownLabel, JumpOutOfRange}
+use Rattle.refusal.specs.declared.Verdict.{Verdict}
+use Rattle.refusal.specs.declared.Verdict.the-variants.{Pass, Stop}
 use Rattle.labels.specs.Labels.{resolve}
 use Rattle.labels.specs.declared.Address.{Address}
 use Rattle.labels.specs.declared.Address.the-variants.{Known, Unknown}
@@ -83,13 +89,46 @@ inRange Full pc dest = true
 abbrev pub patchedWord : InstructionLabelKind → ℕ → ℕ → ℕ → ℕ
 patchedWord kind pc dest word = setField word 0 (fieldWidth kind) (fieldValue kind pc dest)
 
--- d with the word w at i, four little-endian bytes
-unfoldable pub putWord : List ℕ → ℕ → ℕ → List ℕ
-putWord d i w = set (set (set (set d i (w % 256)) (i + 1) (w / 256 % 256)) (i + 2) (w / 65536 % 256)) (i + 3) (w / 16777216 % 256)
-
 -- the region that a pending names, in the list of regions, and where its four bytes stand there
 abbrev pub regionFor : List ℕ → Pending → Region
 regionFor regions p = regionAt regions (regionPlace regions (p .region))
 
 abbrev pub slotOf : List ℕ → Pending → ℕ
 slotOf regions p = regionFor regions p .start + p .offset
+
+-- ---- the checks: 14, 15, 16
+
+-- "the name's [location] for 13 and 15"
+abbrev pub nameLocation : AddressLabel → Location
+nameLocation (Constant value) = zeroLocation
+nameLocation (Label name) = name .location
+
+-- "15. That patch's name is unknown. 16. Its branch or jump is out of range (a: destination, b: pc)."
+unfoldable pub reachVerdict : Pending → ℕ → Address → Verdict
+unfolding inRange
+reachVerdict p pc Unknown = Stop (UnknownLabel (nameLocation (p .label)))
+reachVerdict p pc (Known dest) = elim (inRange (p .kind) pc dest) [ true ↦ Pass | false ↦ Stop (JumpOutOfRange (p .location) dest pc) ]
+
+-- "14. A patch, taken in patch order, ends past its region's data"
+unfoldable pub pendingVerdict : (labels pending : List ℕ) → Region → Pending → Verdict
+unfolding reachVerdict destination
+pendingVerdict labels pending region p =
+    elim (leb (p .offset + 4) (region .size)) [
+      | true ↦ reachVerdict p (pcOf region p) (destination labels pending (p .label))
+      | false ↦ Stop (PatchPastEnd (p .location))
+    ]
+
+-- ---- the word written
+
+-- what is known of an address; an unknown one has been refused
+abbrev pub addressOr : ℕ → Address → ℕ
+addressOr other (Known address) = address
+addressOr other Unknown = other
+
+-- the region list with the patch's word stored
+unfoldable pub writePending : (labels pending : List ℕ) → Region → Pending → List ℕ → List ℕ
+unfolding append destination
+writePending labels pending region p d =
+    append d (region .start + p .offset)
+    (le32Bytes
+    (patchedWord (p .kind) (pcOf region p) (addressOr 0 (destination labels pending (p .label))) (le32 d (region .start + p .offset))))

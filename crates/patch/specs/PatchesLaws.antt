@@ -1,13 +1,17 @@
--- Laws of one patch: its field fits and reads back by its kind, its destination by its label, and its word by its kind. Assumes nothing.
-use Prim.Native.Nat.{ℕ, _+_, _-_, _*_, _/_, _%_, _^_, _<_}
+-- Laws of one patch: its field fits and reads back by its kind, its destination by its label, its word by its kind, and what it has that passes
+-- its checks. Assumes nothing.
+use Prim.Native.Nat.{ℕ, _+_, _-_, _*_, _/_, _%_, _^_, _<_, _≤_}
 use native.Mathlib.Omega.{arith}
 use mathlib.Core.List.{List}
-use mathlib.Core.Bool.{true}
+use mathlib.Core.Bool.{Bool, true, false}
 use mathlib.Core.Path.{_≡_, refl, sym, ap, _∙_}
-use borrow.Author.Tests.{eqb-true}
+use lib.Dec.{leb}
+use borrow.Author.Tests.{eqb-true, leb-true, leb-false, le-leb, lt-leb}
 use Rattle.field.specs.Field.{getField, setField}
 use Rattle.field.specs.FieldLaws.{get-set-same}
 use Rattle.record.specs.Bytes.{part}
+use Rattle.refusal.specs.declared.Refusal.the-variants.{PatchPastEnd, UnknownLabel, JumpOutOfRange}
+use Rattle.refusal.specs.declared.Verdict.the-variants.{Pass, Stop}
 use Rattle.labels.specs.Labels.{resolve}
 use Rattle.labels.specs.declared.Address.{Address}
 use Rattle.labels.specs.declared.Address.the-variants.{Known, Unknown}
@@ -16,10 +20,12 @@ use Rattle.address_label.specs.declared.AddressLabel.the-variants.{Constant, La
 use Rattle.address_label.specs.declared.NamedLabel.{NamedLabel}
 use Rattle.pending.specs.declared.InstructionLabelKind.{InstructionLabelKind}
 use Rattle.pending.specs.declared.InstructionLabelKind.the-variants.{Branch, Jump, Lower, Upper, Full}
-use Rattle.patch.specs.Patches.{wrap32, after, fieldWidth, fieldValue, jumpInRange, inRange, patchedWord, plusOffset, destination}
+use Rattle.pending.specs.declared.Pending.{Pending}
+use Rattle.regions.specs.declared.Region.{Region}
+use Rattle.patch.specs.Patches.{wrap32, pcOf, after, fieldWidth, fieldValue, jumpInRange, inRange, patchedWord, plusOffset, destination, nameLocation, reachVerdict, pendingVerdict}
 
 -- a destination of 32 bits has a field of the kind's width
-pub value-fits : (kind : InstructionLabelKind) (pc dest : ℕ) → dest < 2 ^ 32 → fieldValue kind pc dest < 2 ^ fieldWidth kind
+value-fits : (kind : InstructionLabelKind) (pc dest : ℕ) → dest < 2 ^ 32 → fieldValue kind pc dest < 2 ^ fieldWidth kind
 unfolding fieldWidth fieldValue
 value-fits Branch pc dest h = omega arith
 value-fits Jump pc dest h = omega arith
@@ -98,3 +104,66 @@ module _ (pc dest word : ℕ) where
   pub patched-full : word < 2 ^ 32 → patchedWord Full pc dest word ≡ dest
   unfolding fieldWidth fieldValue setField
   patched-full h = omega arith
+
+-- ---- the checks
+
+-- what a patch that passes its checks says
+pub record Reached (labels pending : List ℕ) (g : Region) (p : Pending) : Type 0 where
+  pub dest : ℕ
+  pub inside : p .offset + 4 ≤ g .size
+  pub known : destination labels pending (p .label) ≡ Known dest
+  pub range : inRange (p .kind) (pcOf g p) dest ≡ true
+
+-- the four outcomes of a patch's checks
+module _ (labels pending : List ℕ) (g : Region) (p : Pending) where
+  pub stops-past : g .size < p .offset + 4 → pendingVerdict labels pending g p ≡ Stop (PatchPastEnd (p .location))
+  unfolding pendingVerdict
+  stops-past h = rw (lt-leb (p .offset + 4) (g .size) h, pendingVerdict)
+
+  inside-is : p .offset + 4 ≤ g .size
+      → pendingVerdict labels pending g p ≡ reachVerdict p (pcOf g p) (destination labels pending (p .label))
+  unfolding pendingVerdict
+  inside-is h = rw (le-leb (p .offset + 4) (g .size) h, pendingVerdict)
+
+  pub stops-unknown : p .offset + 4 ≤ g .size → destination labels pending (p .label) ≡ Unknown
+      → pendingVerdict labels pending g p ≡ Stop (UnknownLabel (nameLocation (p .label)))
+  unfolding reachVerdict
+  stops-unknown h k = inside-is h ∙ ap (reachVerdict p (pcOf g p)) k
+
+  known-is : (d : ℕ) → p .offset + 4 ≤ g .size → destination labels pending (p .label) ≡ Known d
+      → pendingVerdict labels pending g p ≡ reachVerdict p (pcOf g p) (Known d)
+  known-is d h k = inside-is h ∙ ap (reachVerdict p (pcOf g p)) k
+
+  pub stops-far : (d : ℕ) → p .offset + 4 ≤ g .size → destination labels pending (p .label) ≡ Known d
+      → inRange (p .kind) (pcOf g p) d ≡ false
+      → pendingVerdict labels pending g p ≡ Stop (JumpOutOfRange (p .location) d (pcOf g p))
+  unfolding reachVerdict
+  stops-far d h k r = known-is d h k ∙ rw (r, reachVerdict)
+
+  pub passes : (d : ℕ) → p .offset + 4 ≤ g .size → destination labels pending (p .label) ≡ Known d
+      → inRange (p .kind) (pcOf g p) d ≡ true → pendingVerdict labels pending g p ≡ Pass
+  unfolding reachVerdict
+  passes d h k r = known-is d h k ∙ rw (r, reachVerdict)
+
+  pub reached : pendingVerdict labels pending g p ≡ Pass → Reached labels pending g p
+  reached e = go (leb (p .offset + 4) (g .size)) refl (destination labels pending (p .label)) refl
+    where
+      far : (d : ℕ) → p .offset + 4 ≤ g .size → destination labels pending (p .label) ≡ Known d
+          → (b : Bool) → inRange (p .kind) (pcOf g p) d ≡ b → inRange (p .kind) (pcOf g p) d ≡ true
+      far d h k true r = r
+      far d h k false r = cc (stops-far d h k r)
+
+      go : (b : Bool) → leb (p .offset + 4) (g .size) ≡ b → (a : Address) → destination labels pending (p .label) ≡ a → Reached labels pending g p
+      go true f (Known d) k =
+          let h : p .offset + 4 ≤ g .size = leb-true (p .offset + 4) (g .size) f in
+          record { dest = d; inside = h; known = k; range = far d h k (inRange (p .kind) (pcOf g p) d) refl }
+      go true f Unknown k =
+          let h : p .offset + 4 ≤ g .size = leb-true (p .offset + 4) (g .size) f in
+          let s = stops-unknown h k in
+          let z : _≡_ {A = ℕ} 0 1 = cc in
+          absurd (omega arith)
+      go false f a k =
+          let h : g .size < p .offset + 4 = leb-false (p .offset + 4) (g .size) f in
+          let s = stops-past h in
+          let z : _≡_ {A = ℕ} 0 1 = cc in
+          absurd (omega arith)

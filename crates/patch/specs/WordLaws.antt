@@ -1,63 +1,15 @@
--- A word put into a list of bytes: what is read there, and everywhere else. Assumes nothing.
+-- A word stored in a list of bytes: what is read there, and everywhere else. Assumes nothing.
 use Prim.Native.Nat.{ℕ, _+_, _*_, _/_, _%_, _<_, _≤_}
 use native.Mathlib.Omega.{arith}
 use native.Mathlib.Nat.{div-div-eq-div-mul, div-add-mod}
 use mathlib.Core.List.{List}
 use mathlib.Core.Logic.{_⊎_, inl, inr, _≢_}
-use mathlib.Core.Path.{_≡_, sym, _∙_}
+use mathlib.Core.Path.{_≡_, sym, ap, _∙_}
 use lib.ListN.{length, set, length-set}
 use lib.Seq.{getD-set-same, getD-set-other}
 use Rattle.record.specs.Bytes.{le32, byteAt}
-use Rattle.stores.specs.Stores.{le32Bytes, append}
-use Rattle.stores.specs.StoresLaws.{four-stores}
-use Rattle.patch.specs.Patches.{putWord}
-
--- where there is room, the word's bytes written from i on
-pub put-written : {e : List ℕ} (d : List ℕ) (i w : ℕ) → i + 4 ≤ length d → e ≡ append d i (le32Bytes w) → e ≡ putWord d i w
-unfolding putWord
-put-written d i w h e = e ∙ sym (four-stores d i (w % 256) (w / 256 % 256) (w / 65536 % 256) (w / 16777216 % 256) h)
-
-pub length-put : (d : List ℕ) (i w : ℕ) → length (putWord d i w) ≡ length d
-unfolding putWord
-length-put d i w = simp length-set
-
--- a byte that is none of the word's
-pub byte-out : (d : List ℕ) (i j w : ℕ) → j ≢ i → j ≢ i + 1 → j ≢ i + 2 → j ≢ i + 3 → byteAt (putWord d i w) j ≡ byteAt d j
-unfolding putWord
-byte-out d i j w n₀ n₁ n₂ n₃ = simp getD-set-other
-
--- the word's bytes
-record Holds (d : List ℕ) (i w : ℕ) : Type 0 where
-  b₀ : byteAt d i ≡ w % 256
-  b₁ : byteAt d (i + 1) ≡ w / 256 % 256
-  b₂ : byteAt d (i + 2) ≡ w / 65536 % 256
-  b₃ : byteAt d (i + 3) ≡ w / 16777216 % 256
-
-byte-in : (d : List ℕ) (i w : ℕ) → i + 4 ≤ length d → Holds (putWord d i w) i w
-unfolding putWord
-byte-in d i w h =
-    let d₁ = set d i (w % 256) in
-    let d₂ = set d₁ (i + 1) (w / 256 % 256) in
-    let d₃ = set d₂ (i + 2) (w / 65536 % 256) in
-    let l₁ : length d₁ ≡ length d = simp length-set in
-    let l₂ : length d₂ ≡ length d = simp length-set in
-    let l₃ : length d₃ ≡ length d = simp length-set in
-    let h₀ : i < length d = omega arith in
-    let h₁ : i + 1 < length d₁ = omega arith in
-    let h₂ : i + 2 < length d₂ = omega arith in
-    let h₃ : i + 3 < length d₃ = omega arith in
-    let n₁ : i ≢ i + 1 = omega arith in
-    let n₂ : i ≢ i + 2 = omega arith in
-    let n₃ : i ≢ i + 3 = omega arith in
-    let m₂ : i + 1 ≢ i + 2 = omega arith in
-    let m₃ : i + 1 ≢ i + 3 = omega arith in
-    let k₃ : i + 2 ≢ i + 3 = omega arith in
-    record {
-      b₀ = simp (getD-set-other, getD-set-same);
-      b₁ = simp (getD-set-other, getD-set-same);
-      b₂ = simp (getD-set-other, getD-set-same);
-      b₃ = simp getD-set-same;
-    }
+use Rattle.record.specs.Stores.{le32Bytes, append}
+use Rattle.record.specs.StoresLaws.{four-stores}
 
 -- the low 32 bits, byte by byte
 digits : (w : ℕ) → w % 256 + 256 * (w / 256 % 256) + 65536 * (w / 65536 % 256) + 16777216 * (w / 16777216 % 256) ≡ w % 4294967296
@@ -69,24 +21,74 @@ digits w =
     let e₅ : 4294967296 * (w / 4294967296) + w % 4294967296 ≡ w = div-add-mod w 4294967296 in
     omega arith
 
--- the word put there is read, by its low 32 bits
-pub read-same : (d : List ℕ) (i w : ℕ) → i + 4 ≤ length d → le32 (putWord d i w) i ≡ w % 4294967296
-read-same d i w h =
-    let b = byte-in d i w h in
-    omega (arith, digits w)
+-- a word stored from i on, where there is room for it
+module _ (d : List ℕ) (i w : ℕ) (room : i + 4 ≤ length d) where
+  -- four stores, one after the other
+  stores : append d i (le32Bytes w) ≡ set (set (set (set d i (w % 256)) (i + 1) (w / 256 % 256)) (i + 2) (w / 65536 % 256)) (i + 3) (w / 16777216 % 256)
+  stores = sym (four-stores d i (w % 256) (w / 256 % 256) (w / 65536 % 256) (w / 16777216 % 256) room)
 
-pub read-other : (d : List ℕ) (i j w : ℕ) → (i + 4 ≤ j) ⊎ (j + 4 ≤ i) → le32 (putWord d i w) j ≡ le32 d j
-read-other d i j w (inl h) =
-    simp (
-      byte-out d i j w (omega arith) (omega arith) (omega arith) (omega arith),
-      byte-out d i (j + 1) w (omega arith) (omega arith) (omega arith) (omega arith),
-      byte-out d i (j + 2) w (omega arith) (omega arith) (omega arith) (omega arith),
-      byte-out d i (j + 3) w (omega arith) (omega arith) (omega arith) (omega arith),
-    )
-read-other d i j w (inr h) =
-    simp (
-      byte-out d i j w (omega arith) (omega arith) (omega arith) (omega arith),
-      byte-out d i (j + 1) w (omega arith) (omega arith) (omega arith) (omega arith),
-      byte-out d i (j + 2) w (omega arith) (omega arith) (omega arith) (omega arith),
-      byte-out d i (j + 3) w (omega arith) (omega arith) (omega arith) (omega arith),
-    )
+  pub length-put : length (append d i (le32Bytes w)) ≡ length d
+  length-put = ap length stores ∙ simp length-set
+
+  -- a byte that is none of the word's
+  pub byte-out : (j : ℕ) → (j < i) ⊎ (i + 4 ≤ j) → byteAt (append d i (le32Bytes w)) j ≡ byteAt d j
+  byte-out j a = ap (λ (l : List ℕ). byteAt l j) stores ∙ go a
+    where
+      go : (j < i) ⊎ (i + 4 ≤ j)
+          → byteAt (set (set (set (set d i (w % 256)) (i + 1) (w / 256 % 256)) (i + 2) (w / 65536 % 256)) (i + 3) (w / 16777216 % 256)) j ≡ byteAt d j
+      go (inl h) =
+          let n₀ : j ≢ i = omega arith in
+          let n₁ : j ≢ i + 1 = omega arith in
+          let n₂ : j ≢ i + 2 = omega arith in
+          let n₃ : j ≢ i + 3 = omega arith in
+          simp getD-set-other
+      go (inr h) =
+          let n₀ : j ≢ i = omega arith in
+          let n₁ : j ≢ i + 1 = omega arith in
+          let n₂ : j ≢ i + 2 = omega arith in
+          let n₃ : j ≢ i + 3 = omega arith in
+          simp getD-set-other
+
+  -- the word that was stored is read, by its low 32 bits
+  pub read-same : le32 (append d i (le32Bytes w)) i ≡ w % 4294967296
+  read-same =
+      let d₁ = set d i (w % 256) in
+      let d₂ = set d₁ (i + 1) (w / 256 % 256) in
+      let d₃ = set d₂ (i + 2) (w / 65536 % 256) in
+      let d₄ = set d₃ (i + 3) (w / 16777216 % 256) in
+      let l₁ : length d₁ ≡ length d = simp length-set in
+      let l₂ : length d₂ ≡ length d = simp length-set in
+      let l₃ : length d₃ ≡ length d = simp length-set in
+      let h₀ : i < length d = omega arith in
+      let h₁ : i + 1 < length d₁ = omega arith in
+      let h₂ : i + 2 < length d₂ = omega arith in
+      let h₃ : i + 3 < length d₃ = omega arith in
+      let n₁ : i ≢ i + 1 = omega arith in
+      let n₂ : i ≢ i + 2 = omega arith in
+      let n₃ : i ≢ i + 3 = omega arith in
+      let m₂ : i + 1 ≢ i + 2 = omega arith in
+      let m₃ : i + 1 ≢ i + 3 = omega arith in
+      let k₃ : i + 2 ≢ i + 3 = omega arith in
+      let b₀ : byteAt d₄ i ≡ w % 256 = simp (getD-set-other, getD-set-same) in
+      let b₁ : byteAt d₄ (i + 1) ≡ w / 256 % 256 = simp (getD-set-other, getD-set-same) in
+      let b₂ : byteAt d₄ (i + 2) ≡ w / 65536 % 256 = simp (getD-set-other, getD-set-same) in
+      let b₃ : byteAt d₄ (i + 3) ≡ w / 16777216 % 256 = simp getD-set-same in
+      let e : le32 d₄ i ≡ w % 4294967296 = omega (arith, digits w) in
+      ap (λ (l : List ℕ). le32 l i) stores ∙ e
+
+  -- a word that shares no byte with it
+  pub read-other : (j : ℕ) → (i + 4 ≤ j) ⊎ (j + 4 ≤ i) → le32 (append d i (le32Bytes w)) j ≡ le32 d j
+  read-other j (inl h) =
+      simp (
+        byte-out j (inr (omega arith)),
+        byte-out (j + 1) (inr (omega arith)),
+        byte-out (j + 2) (inr (omega arith)),
+        byte-out (j + 3) (inr (omega arith)),
+      )
+  read-other j (inr h) =
+      simp (
+        byte-out j (inl (omega arith)),
+        byte-out (j + 1) (inl (omega arith)),
+        byte-out (j + 2) (inl (omega arith)),
+        byte-out (j + 3) (inl (omega arith)),
+      )

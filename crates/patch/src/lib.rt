@@ -5,8 +5,7 @@ ghost use lib.ListN.{length};
 ghost use Rattle.labels.specs.Labels.{labelLayout};
 ghost use mathlib.Core.Bool.{_&&_};
 ghost use lib.Dec.{leb};
-ghost use Rattle.patch.specs.Patches.{destination, plusOffset, nameEnd, inRange, patchedWord};
-ghost use Rattle.patch.specs.Build.{nameLocation, addressOr, pendingVerdict, writePending};
+ghost use Rattle.patch.specs.Patches.{destination, plusOffset, nameEnd, inRange, patchedWord, nameLocation, addressOr, pendingVerdict, writePending};
 use address_label::AddressLabel;
 use labels::Address;
 use pending::InstructionLabelKind;
@@ -17,17 +16,11 @@ use refusal::Refusal;
 use refusal::Verdict;
 use regions::Region;
 
-// A build's answer: the entry address, or why it stops.
-pub enum Built {
-    Entry(u32),
-    Refused(Refusal),
-}
-
-// The destination of a constant, or of a name that stands in the list `s`.
-pub fn get_address(label: AddressLabel, s: &[u8], labels: &[u8]) -> Address
+// The destination of a constant, or of a name that stands in `list`.
+pub fn get_address(label: AddressLabel, list: &[u8], labels: &[u8]) -> Address
     requires { ⌜ labelLayout (now labels) ≡ Layout.Good ⌝ }
-    requires { ⌜ nameEnd label ≤ length (now s) ⌝ }
-    ensures { λ r. ⌜ r ≡ destination (now (labels .entry)) (now (s .entry)) label ⌝ }
+    requires { ⌜ nameEnd label ≤ length (now list) ⌝ }
+    ensures { λ r. ⌜ r ≡ destination (now (labels .entry)) (now (list .entry)) label ⌝ }
 {
     match label {
         AddressLabel::Constant(value) => Address::Known((value % 0x1_0000_0000) as u32),
@@ -35,7 +28,7 @@ pub fn get_address(label: AddressLabel, s: &[u8], labels: &[u8]) -> Address
             let at = name.name_at;
             let end = at + name.name_len;
             let offset = (name.offset % 0x1_0000_0000) as u32;
-            plus_offset(labels::get(labels, &s[at..end]), offset)
+            plus_offset(labels::get(labels, &list[at..end]), offset)
         }
     }
 }
@@ -62,8 +55,14 @@ pub fn name_location(label: AddressLabel) -> Location
     }
 }
 
+// Where a patch stands, and where it goes.
+struct Span {
+    pc: u32,
+    destination: u32,
+}
+
 // Whether a branch or a jump at pc reaches the destination.
-pub fn in_range(kind: InstructionLabelKind, pc: u32, destination: u32) -> bool
+fn in_range(kind: InstructionLabelKind, pc: u32, destination: u32) -> bool
     ensures { λ r. ⌜ r ≡ inRange kind pc destination ⌝ }
 {
     let after = std::num::wrapping_add_u32(pc, 4);
@@ -89,10 +88,11 @@ fn branch_in_range(from: u32, to: u32) -> bool
 }
 
 // The word with the patch's field written.
-pub fn add_label(instruction: u32, pc: u32, kind: InstructionLabelKind, destination: u32) -> u32
-    ensures { λ r. ⌜ r ≡ patchedWord kind pc destination instruction ⌝ }
+fn add_label(instruction: u32, kind: InstructionLabelKind, span: Span) -> u32
+    ensures { λ r. ⌜ r ≡ patchedWord kind (span .pc) (span .destination) instruction ⌝ }
 {
-    let after = std::num::wrapping_add_u32(pc, 4);
+    let destination = span.destination;
+    let after = std::num::wrapping_add_u32(span.pc, 4);
     match kind {
         InstructionLabelKind::Branch => {
             instruction / 0x1_0000 * 0x1_0000
@@ -107,19 +107,19 @@ pub fn add_label(instruction: u32, pc: u32, kind: InstructionLabelKind, destinat
 }
 
 // The checks of one patch: 14, 15, 16.
-pub fn check_pending(labels: &[u8], pending: &[u8], region: Region, p: Pending) -> Verdict
+pub fn check_pending(labels: &[u8], pending: &[u8], region: Region, patch: Pending) -> Verdict
     requires { ⌜ labelLayout (now labels) ≡ Layout.Good ⌝ }
-    requires { ⌜ nameEnd (p .label) ≤ length (now pending) ⌝ }
-    ensures { λ r. ⌜ r ≡ pendingVerdict (now (labels .entry)) (now (pending .entry)) region p ⌝ }
+    requires { ⌜ nameEnd (patch .label) ≤ length (now pending) ⌝ }
+    ensures { λ r. ⌜ r ≡ pendingVerdict (now (labels .entry)) (now (pending .entry)) region patch ⌝ }
 {
-    let location = p.location;
-    let label = p.label;
-    let kind = p.kind;
-    let end = p.offset as usize + 4;
+    let location = patch.location;
+    let label = patch.label;
+    let kind = patch.kind;
+    let end = patch.offset as usize + 4;
     if end > region.size {
         return Verdict::Stop(Refusal::PatchPastEnd(location));
     }
-    let pc = std::num::wrapping_add_u32(region.address, p.offset);
+    let pc = std::num::wrapping_add_u32(region.address, patch.offset);
     match get_address(label, pending, labels) {
         Address::Unknown => Verdict::Stop(Refusal::UnknownLabel(name_location(label))),
         Address::Known(destination) => {
@@ -142,17 +142,24 @@ fn address_or_zero(address: Address) -> u32
 }
 
 // Writes one patch into the region list.
-pub fn write_pending(labels: &[u8], regions: &mut [u8], pending: &[u8], region: Region, p: Pending)
+pub fn write_pending(
+    labels: &[u8],
+    regions: &mut [u8],
+    pending: &[u8],
+    region: Region,
+    patch: Pending,
+)
     requires { ⌜ labelLayout (now labels) ≡ Layout.Good ⌝ }
-    requires { ⌜ nameEnd (p .label) ≤ length (now pending) ⌝ }
-    requires { ⌜ region .start + p .offset + 4 ≤ length (now regions) ⌝ }
-    ensures { λ _. ⌜ now (regions .exit) ≡ writePending (now (labels .entry)) (now (pending .entry)) region p (now (regions .entry)) ⌝ }
+    requires { ⌜ nameEnd (patch .label) ≤ length (now pending) ⌝ }
+    requires { ⌜ region .start + patch .offset + 4 ≤ length (now regions) ⌝ }
+    ensures { λ _. ⌜ now (regions .exit) ≡ writePending (now (labels .entry)) (now (pending .entry)) region patch (now (regions .entry)) ⌝ }
 {
-    let label = p.label;
-    let kind = p.kind;
-    let slot = region.start + p.offset as usize;
-    let pc = std::num::wrapping_add_u32(region.address, p.offset);
+    let label = patch.label;
+    let kind = patch.kind;
+    let slot = region.start + patch.offset as usize;
+    let pc = std::num::wrapping_add_u32(region.address, patch.offset);
     let destination = address_or_zero(get_address(label, pending, labels));
-    let word = add_label(record::word_at(regions, slot), pc, kind, destination);
-    stores::put32(regions, slot, word);
+    let span = Span { pc, destination };
+    let word = add_label(record::word_at(regions, slot), kind, span);
+    record::put32(regions, slot, word);
 }

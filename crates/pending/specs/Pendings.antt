@@ -1,9 +1,7 @@
 -- Pending records, kind 36 (document 01, 'Pending 36, breakpoint 37'). Assumes nothing.
-use Prim.Native.Nat.{ℕ, _+_, _≤_}
+use Prim.Native.Nat.{ℕ, _+_}
 use mathlib.Core.List.{List}
 use mathlib.Core.Bool.{Bool, true, false, _&&_}
-use mathlib.Core.Path.{_≡_}
-use lib.ListN.{length}
 use lib.Dec.{leb, ltb, eqb}
 use Rattle.record.specs.Bytes.{byteAt, le16, le32, locationAt}
 use Rattle.record.specs.Records.{bodyLen, kindAt, next, whole, places, firstBad, withinLimit}
@@ -32,13 +30,6 @@ pendingBody regions s at =
 unfoldable pub pendingOk : ℕ → List ℕ → ℕ → Bool
 unfolding addressLabelOk
 pendingOk regions s at = whole s at && pendingBody regions s at
-
--- what a reader of the record at `at` asks of it
-pub record PendingIs (s : List ℕ) (at : ℕ) : Type 0 where
-  pub whole-at : whole s at ≡ true
-  pub head : at + 4 ≤ length s
-  pub body : next s at ≤ length s
-  pub least : 32 ≤ bodyLen s at
 
 unfoldable pub pendingLayout : ℕ → List ℕ → Layout
 unfolding pendingOk firstBad places withinLimit

@@ -10,7 +10,14 @@ use Rattle.record.specs.Records.{bodyLen, kindAt, next, whole, places, firstBad
 use Rattle.record.specs.RecordsLaws.{layoutFrom, whole-is, places-all, limit-kept, limit-passed, limit-good}
 use Rattle.record.specs.declared.Layout.the-variants.{Good, Bad}
 use Rattle.address_label.specs.AddressLabels.{addressLabelOk}
-use Rattle.pending.specs.Pendings.{regionOf, patchKindOf, pendingBody, pendingOk, PendingIs, pendingLayout}
+use Rattle.pending.specs.Pendings.{regionOf, patchKindOf, pendingBody, pendingOk, pendingLayout}
+
+-- what a reader of the record at `at` asks of it
+pub record PendingIs (s : List ℕ) (at : ℕ) : Type 0 where
+  pub whole-at : whole s at ≡ true
+  pub head : at + 4 ≤ length s
+  pub body : next s at ≤ length s
+  pub least : 32 ≤ bodyLen s at
 
 module _ (regions : ℕ) (s : List ℕ) (at : ℕ) where
   -- each test of the body

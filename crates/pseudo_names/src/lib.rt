@@ -1,13 +1,22 @@
 // The pseudo-instructions and their names (emit.rs).
 ghost use mathlib.Core.Path.{_≡_};
-ghost use Rattle.pseudo_names.specs.PseudoNames.{pseudoOf, laterOf, lastOf};
+ghost use lib.ListN.{drop};
+ghost use Rattle.pseudo_names.specs.PseudoNames.{pseudoNames, pseudoIn, pseudoOf};
 
 // A pseudo-instruction, with how it compares.
 pub enum Pseudo {
     Nop,
     Abs,
-    BranchCustom(bool, bool, bool),
-    SetCustom(bool, bool, bool),
+    BranchCustom {
+        greater_than: bool,
+        result_true: bool,
+        unsigned: bool,
+    },
+    SetCustom {
+        greater_than: bool,
+        result_true: bool,
+        unsigned: bool,
+    },
     Beqz,
     Bnez,
     Seq,
@@ -31,7 +40,7 @@ pub enum MaybePseudo {
 
 // The pseudo-instruction of a name among the names behind the first twenty.
 fn last_pseudo_of(name: &[u8]) -> MaybePseudo
-    ensures { λ r. ⌜ r ≡ lastOf (now (name .entry)) ⌝ }
+    ensures { λ r. ⌜ r ≡ pseudoIn (now (name .entry)) (drop 20 pseudoNames) ⌝ }
 {
     if record::same(name, b"neg") {
         return MaybePseudo::Some(Pseudo::Neg);
@@ -65,25 +74,49 @@ fn last_pseudo_of(name: &[u8]) -> MaybePseudo
 
 // The pseudo-instruction of a name among the names behind the first ten.
 fn later_pseudo_of(name: &[u8]) -> MaybePseudo
-    ensures { λ r. ⌜ r ≡ laterOf (now (name .entry)) ⌝ }
+    ensures { λ r. ⌜ r ≡ pseudoIn (now (name .entry)) (drop 10 pseudoNames) ⌝ }
 {
     if record::same(name, b"sge") {
-        return MaybePseudo::Some(Pseudo::SetCustom(false, false, false));
+        return MaybePseudo::Some(Pseudo::SetCustom {
+            greater_than: false,
+            result_true: false,
+            unsigned: false,
+        });
     }
     if record::same(name, b"sgt") {
-        return MaybePseudo::Some(Pseudo::SetCustom(true, true, false));
+        return MaybePseudo::Some(Pseudo::SetCustom {
+            greater_than: true,
+            result_true: true,
+            unsigned: false,
+        });
     }
     if record::same(name, b"sle") {
-        return MaybePseudo::Some(Pseudo::SetCustom(true, false, false));
+        return MaybePseudo::Some(Pseudo::SetCustom {
+            greater_than: true,
+            result_true: false,
+            unsigned: false,
+        });
     }
     if record::same(name, b"sgeu") {
-        return MaybePseudo::Some(Pseudo::SetCustom(false, false, true));
+        return MaybePseudo::Some(Pseudo::SetCustom {
+            greater_than: false,
+            result_true: false,
+            unsigned: true,
+        });
     }
     if record::same(name, b"sgtu") {
-        return MaybePseudo::Some(Pseudo::SetCustom(true, true, true));
+        return MaybePseudo::Some(Pseudo::SetCustom {
+            greater_than: true,
+            result_true: true,
+            unsigned: true,
+        });
     }
     if record::same(name, b"sleu") {
-        return MaybePseudo::Some(Pseudo::SetCustom(true, false, true));
+        return MaybePseudo::Some(Pseudo::SetCustom {
+            greater_than: true,
+            result_true: false,
+            unsigned: true,
+        });
     }
     if record::same(name, b"beqz") {
         return MaybePseudo::Some(Pseudo::Beqz);
@@ -111,28 +144,60 @@ pub fn pseudo_of(name: &[u8]) -> MaybePseudo
         return MaybePseudo::Some(Pseudo::Abs);
     }
     if record::same(name, b"blt") {
-        return MaybePseudo::Some(Pseudo::BranchCustom(false, true, false));
+        return MaybePseudo::Some(Pseudo::BranchCustom {
+            greater_than: false,
+            result_true: true,
+            unsigned: false,
+        });
     }
     if record::same(name, b"bgt") {
-        return MaybePseudo::Some(Pseudo::BranchCustom(true, true, false));
+        return MaybePseudo::Some(Pseudo::BranchCustom {
+            greater_than: true,
+            result_true: true,
+            unsigned: false,
+        });
     }
     if record::same(name, b"ble") {
-        return MaybePseudo::Some(Pseudo::BranchCustom(true, false, false));
+        return MaybePseudo::Some(Pseudo::BranchCustom {
+            greater_than: true,
+            result_true: false,
+            unsigned: false,
+        });
     }
     if record::same(name, b"bge") {
-        return MaybePseudo::Some(Pseudo::BranchCustom(false, false, false));
+        return MaybePseudo::Some(Pseudo::BranchCustom {
+            greater_than: false,
+            result_true: false,
+            unsigned: false,
+        });
     }
     if record::same(name, b"bltu") {
-        return MaybePseudo::Some(Pseudo::BranchCustom(false, true, true));
+        return MaybePseudo::Some(Pseudo::BranchCustom {
+            greater_than: false,
+            result_true: true,
+            unsigned: true,
+        });
     }
     if record::same(name, b"bgtu") {
-        return MaybePseudo::Some(Pseudo::BranchCustom(true, true, true));
+        return MaybePseudo::Some(Pseudo::BranchCustom {
+            greater_than: true,
+            result_true: true,
+            unsigned: true,
+        });
     }
     if record::same(name, b"bleu") {
-        return MaybePseudo::Some(Pseudo::BranchCustom(true, false, true));
+        return MaybePseudo::Some(Pseudo::BranchCustom {
+            greater_than: true,
+            result_true: false,
+            unsigned: true,
+        });
     }
     if record::same(name, b"bgeu") {
-        return MaybePseudo::Some(Pseudo::BranchCustom(false, false, true));
+        return MaybePseudo::Some(Pseudo::BranchCustom {
+            greater_than: false,
+            result_true: false,
+            unsigned: true,
+        });
     }
     later_pseudo_of(name)
 }

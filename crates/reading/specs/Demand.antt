@@ -5,13 +5,13 @@ use mathlib.Core.List.{List}
 use Prim.Native.Nat.{ℕ}
 use Rattle.record.specs.Records.{places}
 use Rattle.address_label.specs.Entries.{entryOf}
-use Rattle.patch.specs.Build.{buildOutcome, entryAddress}
-use Rattle.patch.specs.BuildLaws.{outcome-accepted}
+use Rattle.build_outcome.specs.Build.{buildOutcome, entryAddress}
+use Rattle.build_outcome.specs.BuildLaws.{outcome-accepted}
 use Rattle.reading.specs.Reading.{imageOf, readings, destinations}
 use Rattle.reading.specs.Premises.{Premises}
 use Rattle.reading.specs.Used.{Bytes, SameUsed}
-use Rattle.reading.specs.ReadBack.{read-back}
-use Rattle.reading.specs.Tables.{same-used}
+use Rattle.reading.specs.ReadBackLaws.{read-back}
+use Rattle.reading.specs.TablesLaws.{same-used}
 
 -- "document 01's MIPS32 reading of each patch in the finished words, by its kind, equals its destination": one claim on the whole list
 pub reads-back : (labels entry regions pending : List ℕ) → Premises labels entry regions pending

@@ -12,8 +12,8 @@ use Rattle.regions.specs.declared.Region.{Region}
 use Rattle.regions.specs.Regions.{regionCount, regionPlace, regionAt}
 use Rattle.pending.specs.declared.Pending.{Pending}
 use Rattle.patch.specs.Patches.{wrap32, pcOf, regionFor}
-use Rattle.patch.specs.KeptLaws.{Kept, region-same}
-use Rattle.reading.specs.Reading.{ImageRegion, imageRegion, imageOf, noRegion, regionIn, pcIn, wordIn}
+use Rattle.build_outcome.specs.KeptLaws.{Kept, region-same}
+use Rattle.reading.specs.Reading.{ImageRegion, imageRegion, imageOf, missingRegion, regionIn, pcIn, wordIn}
 
 getD-map : {A : Type 0} (f : ℕ → A) (l : List ℕ) (n : ℕ) (d : A) → n < length l → getD (map f l) n d ≡ f (getD l n 0)
 getD-map f [] n d h = absurd (omega arith)
@@ -33,13 +33,13 @@ part-word s i n o h =
 
 region-of-image : (s : List ℕ) (n : ℕ) → n < length (places s) → regionIn (imageOf s) n ≡ imageRegion s (getD (places s) n 0)
 unfolding imageOf
-region-of-image s n h = getD-map (imageRegion s) (places s) n noRegion h
+region-of-image s n h = getD-map (imageRegion s) (places s) n missingRegion h
 
 module _ (regions d : List ℕ) (k : Kept regions d) (r : ℕ) (h : r < regionCount regions) where
   here : regionIn (imageOf d) r ≡ imageRegion d (regionPlace d r)
   here = region-of-image d r (rw (k .places-same) h)
 
-  pub image-address : regionIn (imageOf d) r .address ≡ regionAt regions (regionPlace regions r) .address
+  image-address : regionIn (imageOf d) r .address ≡ regionAt regions (regionPlace regions r) .address
   image-address =
       ap (λ (g : ImageRegion). g .address) here ∙ ap (λ (g : Region). g .address) (region-same regions d k r h)
 

@@ -15,14 +15,14 @@ use Rattle.labels.specs.declared.Address.the-variants.{Known}
 use Rattle.pending.specs.declared.InstructionLabelKind.{InstructionLabelKind}
 use Rattle.pending.specs.declared.InstructionLabelKind.the-variants.{Branch, Jump, Lower, Upper}
 use Rattle.pending.specs.Pendings.{kindFrom, pendingAt}
-use Rattle.patch.specs.Build.{writePatches, Outcome, buildOutcome}
-use Rattle.patch.specs.declared.Built.the-variants.{Entry}
+use Rattle.build_outcome.specs.Build.{writePatches, BuildOutcome, buildOutcome}
+use Rattle.build_outcome.specs.declared.Built.the-variants.{Entry}
 use Rattle.reading.specs.Reading.{imageOf, readings, destinations}
 use Rattle.reading.specs.Premises.{In, pcAt, destinationAt, Pair, Premises}
 use Rattle.reading.specs.Used.{Bytes, SameUsed}
 use Rattle.reading.specs.Demand.{reads-back, never-shared}
 use Rattle.reading.specs.InstanceTables.{idle, labels₁, labels₂, entry, regions, pending, exampleRegions, examplePending, exampleFinished}
-use Rattle.reading.specs.InstanceValues.{onWord, notFarBack, notFarOn, fits, away, clear, Computed, evaluated}
+use Rattle.reading.specs.InstanceLaws.{onWord, notFarBack, notFarOn, fits, away, clear, Computed, evaluated}
 
 -- a test that all elements pass holds of each
 each : (test : ℕ → Bool) (ps : List ℕ) → all test ps ≡ true → (p : ℕ) → List·Memᴰ p ps → test p ≡ true
@@ -133,7 +133,7 @@ tables-differ = (evaluated .idle₁, evaluated .idle₂)
 pub instance-used : SameUsed labels₁ labels₂ entry pending
 instance-used =
     never-shared labels₁ labels₂ entry regions pending (bytes labels₁ (evaluated .first .bytes-fit)) (bytes labels₂ (evaluated .second .bytes-fit)) instance₁ instance₂
-    (ap (λ (o : Outcome). imageOf (o .regions)) same-outcome) (ap (λ (o : Outcome). o .answer) same-outcome)
+    (ap (λ (o : BuildOutcome). imageOf (o .regions)) same-outcome) (ap (λ (o : BuildOutcome). o .answer) same-outcome)
 
 -- document 01's example of a build
 pub example : buildOutcome [] [] exampleRegions examplePending ≡ record { answer = Entry 0x00400000; regions = exampleFinished }

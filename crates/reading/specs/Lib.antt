@@ -1,12 +1,12 @@
 pub mod Reading
 pub mod Premises
-pub mod Arithmetic
-pub mod Held
+pub mod ArithmeticLaws
+pub mod HeldLaws
 pub mod ImageLaws
-pub mod ReadBack
+pub mod ReadBackLaws
 pub mod Used
-pub mod Tables
+pub mod TablesLaws
 pub mod Demand
 pub mod InstanceTables
-pub mod InstanceValues
+pub mod InstanceLaws
 pub mod Instance

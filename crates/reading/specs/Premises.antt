@@ -8,8 +8,8 @@ use Rattle.record.specs.Records.{bodyLen, places}
 use Rattle.refusal.specs.declared.Verdict.the-variants.{Pass}
 use Rattle.pending.specs.declared.InstructionLabelKind.the-variants.{Branch, Jump, Lower, Upper}
 use Rattle.pending.specs.Pendings.{pendingAt}
-use Rattle.patch.specs.Patches.{destination, after, pcOf, regionFor}
-use Rattle.patch.specs.Build.{buildVerdict, addressOr}
+use Rattle.patch.specs.Patches.{destination, after, pcOf, regionFor, addressOr}
+use Rattle.build_outcome.specs.Build.{buildVerdict}
 
 -- the patch of the record at p
 abbrev pub In : List ℕ → ℕ → Type 0

@@ -29,11 +29,11 @@ unfoldable pub imageOf : List ℕ → Image
 unfolding places
 imageOf s = map (imageRegion s) (places s)
 
-abbrev pub noRegion : ImageRegion
-noRegion = record { address = 0; bytes = [] }
+abbrev pub missingRegion : ImageRegion
+missingRegion = record { address = 0; bytes = [] }
 
 abbrev pub regionIn : Image → ℕ → ImageRegion
-regionIn image n = getD image n noRegion
+regionIn image n = getD image n missingRegion
 
 -- "Reading back uses the image and a patch's place and kind."
 abbrev pub pcIn : Image → Pending → ℕ

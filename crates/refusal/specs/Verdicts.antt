@@ -3,6 +3,8 @@ use Prim.Native.Nat.{ℕ}
 use mathlib.Core.List.{List, [], _∷_}
 use Rattle.record.specs.declared.Layout.{Layout}
 use Rattle.record.specs.declared.Layout.the-variants.{Good, Bad}
+use Rattle.names.specs.declared.Repeat.{Repeat}
+use Rattle.names.specs.declared.Repeat.the-variants.{None, Later}
 use Rattle.refusal.specs.declared.Refusal.the-variants.{BadLayout, DuplicateName}
 use Rattle.refusal.specs.declared.Verdict.{Verdict}
 use Rattle.refusal.specs.declared.Verdict.the-variants.{Pass, Stop}
@@ -22,7 +24,7 @@ abbrev pub layoutVerdict : ℕ → Layout → Verdict
 layoutVerdict buffer Good = Pass
 layoutVerdict buffer (Bad place) = Stop (BadLayout buffer place)
 
--- refusal 2
-abbrev pub nameVerdict : ℕ → Layout → Verdict
-nameVerdict buffer Good = Pass
-nameVerdict buffer (Bad place) = Stop (DuplicateName buffer place)
+-- refusal 2, "a: buffer, b: place of the later"
+abbrev pub nameVerdict : ℕ → Repeat → Verdict
+nameVerdict buffer None = Pass
+nameVerdict buffer (Later place) = Stop (DuplicateName buffer place)

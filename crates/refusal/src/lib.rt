@@ -1,7 +1,9 @@
 // The refusals and what document 01 returns for each: a number, a location and two numbers.
 ghost use mathlib.Core.Path.{_≡_};
 ghost use lib.IntN.{pos};
+ghost use Prim.Native.Nat.{_<_, _^_};
 ghost use Rattle.refusal.specs.Numbers.{numbered};
+ghost use Rattle.refusal.specs.Split.{isNegative, size};
 use record::Location;
 
 // Why a call stops, in the order of the checks. The names are the Rust's where it has one.
@@ -35,6 +37,12 @@ pub enum Verdict {
     Stop(Refusal),
 }
 
+// a and b, where neither is negative.
+struct Values {
+    a: u32,
+    b: u32,
+}
+
 // A refusal as it is returned.
 pub struct Numbered {
     pub number: u32,
@@ -50,38 +58,61 @@ pub fn numbers(refusal: Refusal) -> Numbered
         source: 0,
         index: 0,
     };
+    let none = Values { a: 0, b: 0 };
     match refusal {
-        Refusal::BadLayout(a, b) => with(1, zero, a, b),
-        Refusal::DuplicateName(a, b) => with(2, zero, a, b),
-        Refusal::UnknownInstruction(l) => with(3, l, 0, 0),
-        Refusal::EndOfFile(l) => with(4, l, 0, 0),
-        Refusal::ExpectedRegister(l, a) => with(5, l, a as u32, 0),
-        Refusal::ExpectedConstant(l, a) => with(6, l, a as u32, 0),
-        Refusal::ExpectedLabel(l, a) => with(7, l, a as u32, 0),
-        Refusal::ExpectedRightBrace(l, a) => with(8, l, a as u32, 0),
+        Refusal::BadLayout(a, b) => with(1, zero, Values { a, b }),
+        Refusal::DuplicateName(a, b) => with(2, zero, Values { a, b }),
+        Refusal::UnknownInstruction(l) => with(3, l, none),
+        Refusal::EndOfFile(l) => with(4, l, none),
+        Refusal::ExpectedRegister(l, a) => with(5, l, Values { a: a as u32, b: 0 }),
+        Refusal::ExpectedConstant(l, a) => with(6, l, Values { a: a as u32, b: 0 }),
+        Refusal::ExpectedLabel(l, a) => with(7, l, Values { a: a as u32, b: 0 }),
+        Refusal::ExpectedRightBrace(l, a) => with(8, l, Values { a: a as u32, b: 0 }),
         Refusal::ConstantOutOfRange(l) => Numbered {
             number: 9,
             location: l,
             a: -8000,
             b: 32767,
         },
-        Refusal::MissingRegion(l) => with(10, l, 0, 0),
-        Refusal::OverwriteEdge(l, a, b) => with(11, l, a, b),
-        Refusal::NoSpace(l, a) => with(12, l, a as u32, 0),
-        Refusal::UnknownEntry(l) => with(13, l, 0, 0),
-        Refusal::PatchPastEnd(l) => with(14, l, 0, 0),
-        Refusal::UnknownLabel(l) => with(15, l, 0, 0),
-        Refusal::JumpOutOfRange(l, a, b) => with(16, l, a, b),
+        Refusal::MissingRegion(l) => with(10, l, none),
+        Refusal::OverwriteEdge(l, a, b) => with(11, l, Values { a, b }),
+        Refusal::NoSpace(l, a) => with(12, l, Values { a: a as u32, b: 0 }),
+        Refusal::UnknownEntry(l) => with(13, l, none),
+        Refusal::PatchPastEnd(l) => with(14, l, none),
+        Refusal::UnknownLabel(l) => with(15, l, none),
+        Refusal::JumpOutOfRange(l, a, b) => with(16, l, Values { a, b }),
     }
 }
 
-fn with(number: u32, location: Location, a: u32, b: u32) -> Numbered
-    ensures { λ r. ⌜ r ≡ (record { number = number; location = location; a = pos a; b = b }) ⌝ }
+fn with(number: u32, location: Location, values: Values) -> Numbered
+    ensures { λ r. ⌜ r ≡ (record { number = number; location = location; a = pos (values .a); b = values .b }) ⌝ }
 {
     Numbered {
         number,
         location,
-        a: a as i64,
-        b,
+        a: values.a as i64,
+        b: values.b,
+    }
+}
+
+// The number is `size`, or where it is negative -1 - `size`.
+pub struct Parts {
+    pub negative: bool,
+    pub size: u64,
+}
+
+pub fn split(n: i64) -> Parts
+    ensures { λ r. ⌜ (r .negative ≡ isNegative n) × (r .size ≡ size n) × (r .size < 2 ^ 63) ⌝ }
+{
+    if n < 0 {
+        Parts {
+            negative: true,
+            size: (-1 - n) as u64,
+        }
+    } else {
+        Parts {
+            negative: false,
+            size: n as u64,
+        }
     }
 }

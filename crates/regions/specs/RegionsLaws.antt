@@ -9,11 +9,11 @@ use mathlib.Core.Path.{_≡_, refl, sym, ap, _∙_}
 use lib.ListN.{length, getD}
 use lib.Dec.{leb, eqb, ltb}
 use borrow.Author.Tests.{leb-true, ltb-true, ltb-false}
-use Rattle.record.specs.Bytes.{byteAt, le16, le32}
+use Rattle.record.specs.Bytes.{byteAt, le16}
 use Rattle.record.specs.Records.{bodyLen, kindAt, whole, next, places, placesFrom, firstBad, firstBadOf, limit, withinLimit}
 use Rattle.record.specs.RecordsLaws.{places-end, places-step, places-cut, places-all, places-cons, whole-is, first-good, of-good, limit-good, limit-kept, limit-passed}
 use Rattle.record.specs.declared.Layout.the-variants.{Good, Bad}
-use Rattle.regions.specs.Regions.{regionOk, regionRecords, regionLayout, regionCount, regionPlace, regionAt}
+use Rattle.regions.specs.Regions.{regionOk, regionRecords, regionLayout, regionCount, regionPlace}
 
 -- ---- one region
 
@@ -35,13 +35,13 @@ region-is s at e =
 -- ---- the places of records, of any kind
 
 -- the record at each place passes the test
-pub good-each : (ok : ℕ → Bool) (ps : List ℕ) (n : ℕ) → firstBad ok ps ≡ Good → n < length ps → ok (getD ps n 0) ≡ true
+good-each : (ok : ℕ → Bool) (ps : List ℕ) (n : ℕ) → firstBad ok ps ≡ Good → n < length ps → ok (getD ps n 0) ≡ true
 good-each ok [] n g h = absurd (omega arith)
 good-each ok (p ∷ ps) zero g h = first-good ok p ps g .0
 good-each ok (p ∷ ps) (suc n) g h = good-each ok ps n (first-good ok p ps g .1) (omega arith)
 
 -- two tests that agree at each place
-pub of-same : (n : ℕ) (f g : ℕ → Bool) (ps : List ℕ) → ((k : ℕ) → k < length ps → f (getD ps k 0) ≡ g (getD ps k 0)) → firstBadOf n f ps ≡ firstBadOf n g ps
+of-same : (n : ℕ) (f g : ℕ → Bool) (ps : List ℕ) → ((k : ℕ) → k < length ps → f (getD ps k 0) ≡ g (getD ps k 0)) → firstBadOf n f ps ≡ firstBadOf n g ps
 unfolding firstBadOf
 of-same zero f g [] e = refl
 of-same (suc n) f g [] e = refl
@@ -194,7 +194,7 @@ module _ (s t : List ℕ) (r i : ℕ) (l : length s ≡ length t) (g : regionLay
           inl (rw e (omega arith))
 
   -- so they are kept
-  pub head-kept : (n j : ℕ) → n < regionCount s → regionPlace s n ≤ j → j < regionPlace s n + 8 → byteAt s j ≡ byteAt t j
+  head-kept : (n j : ℕ) → n < regionCount s → regionPlace s n ≤ j → j < regionPlace s n + 8 → byteAt s j ≡ byteAt t j
   head-kept n j h b c = same j (⊎-elim (λ x. inl (omega arith)) (λ x. inr (omega arith)) (apart n h))
 
   half-kept : (n j : ℕ) → n < regionCount s → regionPlace s n ≤ j → j + 1 < regionPlace s n + 8 → le16 s j ≡ le16 t j
@@ -208,14 +208,3 @@ module _ (s t : List ℕ) (r i : ℕ) (l : length s ≡ length t) (g : regionLay
 
   pub places-kept : (places t ≡ places s) × (regionLayout t ≡ Good)
   places-kept = (places-same s t l (λ n h. heads-same n h .0), layout-same s t l heads-same ∙ g)
-
-  -- and every region is the same
-  pub region-kept : (n : ℕ) → n < regionCount s → regionAt t (regionPlace t n) ≡ regionAt s (regionPlace s n)
-  region-kept n h =
-      let p = regionPlace s n in
-      let a = half-kept n (p + 4) h (omega arith) (omega arith) in
-      let b = head-kept n (p + 4 + 2) h (omega arith) (omega arith) in
-      let d = head-kept n (p + 4 + 3) h (omega arith) (omega arith) in
-      let e : le32 t (p + 4) ≡ le32 s (p + 4) = omega arith in
-      let f : bodyLen t p - 4 ≡ bodyLen s p - 4 = omega (arith, heads-same n h .0) in
-      ap (λ (ps : List ℕ). regionAt t (getD ps n 0)) (places-kept .0) ∙ cc

@@ -1,5 +1,4 @@
 pub mod Numbers
 pub mod NumberLaws
 pub mod Slots
-pub mod Past
-pub mod SlotsLaws
+pub mod PastLaws

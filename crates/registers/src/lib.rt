@@ -153,82 +153,96 @@ pub fn fp_register_source(slot: FPRegisterSlot) -> u32
     }
 }
 
+const SLOTS: [RegisterSlot; 32] = [
+    RegisterSlot::Zero,
+    RegisterSlot::AssemblerTemporary,
+    RegisterSlot::Value0,
+    RegisterSlot::Value1,
+    RegisterSlot::Parameter0,
+    RegisterSlot::Parameter1,
+    RegisterSlot::Parameter2,
+    RegisterSlot::Parameter3,
+    RegisterSlot::Temporary0,
+    RegisterSlot::Temporary1,
+    RegisterSlot::Temporary2,
+    RegisterSlot::Temporary3,
+    RegisterSlot::Temporary4,
+    RegisterSlot::Temporary5,
+    RegisterSlot::Temporary6,
+    RegisterSlot::Temporary7,
+    RegisterSlot::Saved0,
+    RegisterSlot::Saved1,
+    RegisterSlot::Saved2,
+    RegisterSlot::Saved3,
+    RegisterSlot::Saved4,
+    RegisterSlot::Saved5,
+    RegisterSlot::Saved6,
+    RegisterSlot::Saved7,
+    RegisterSlot::Temporary8,
+    RegisterSlot::Temporary9,
+    RegisterSlot::Kernel0,
+    RegisterSlot::Kernel1,
+    RegisterSlot::GeneralPointer,
+    RegisterSlot::StackPointer,
+    RegisterSlot::FramePointer,
+    RegisterSlot::ReturnAddress,
+];
+
 // The general register of a number; a number over 31 gives the last.
 pub fn register_of(n: u8) -> RegisterSlot
     ensures { λ r. ⌜ r ≡ registerOf n ⌝ }
 {
-    match n {
-        0 => RegisterSlot::Zero,
-        1 => RegisterSlot::AssemblerTemporary,
-        2 => RegisterSlot::Value0,
-        3 => RegisterSlot::Value1,
-        4 => RegisterSlot::Parameter0,
-        5 => RegisterSlot::Parameter1,
-        6 => RegisterSlot::Parameter2,
-        7 => RegisterSlot::Parameter3,
-        8 => RegisterSlot::Temporary0,
-        9 => RegisterSlot::Temporary1,
-        10 => RegisterSlot::Temporary2,
-        11 => RegisterSlot::Temporary3,
-        12 => RegisterSlot::Temporary4,
-        13 => RegisterSlot::Temporary5,
-        14 => RegisterSlot::Temporary6,
-        15 => RegisterSlot::Temporary7,
-        16 => RegisterSlot::Saved0,
-        17 => RegisterSlot::Saved1,
-        18 => RegisterSlot::Saved2,
-        19 => RegisterSlot::Saved3,
-        20 => RegisterSlot::Saved4,
-        21 => RegisterSlot::Saved5,
-        22 => RegisterSlot::Saved6,
-        23 => RegisterSlot::Saved7,
-        24 => RegisterSlot::Temporary8,
-        25 => RegisterSlot::Temporary9,
-        26 => RegisterSlot::Kernel0,
-        27 => RegisterSlot::Kernel1,
-        28 => RegisterSlot::GeneralPointer,
-        29 => RegisterSlot::StackPointer,
-        30 => RegisterSlot::FramePointer,
-        _ => RegisterSlot::ReturnAddress,
+    let i = n as usize;
+    if i < 32 {
+        SLOTS[i]
+    } else {
+        RegisterSlot::ReturnAddress
     }
 }
+
+const FP_SLOTS: [FPRegisterSlot; 32] = [
+    FPRegisterSlot::F0,
+    FPRegisterSlot::F1,
+    FPRegisterSlot::F2,
+    FPRegisterSlot::F3,
+    FPRegisterSlot::F4,
+    FPRegisterSlot::F5,
+    FPRegisterSlot::F6,
+    FPRegisterSlot::F7,
+    FPRegisterSlot::F8,
+    FPRegisterSlot::F9,
+    FPRegisterSlot::F10,
+    FPRegisterSlot::F11,
+    FPRegisterSlot::F12,
+    FPRegisterSlot::F13,
+    FPRegisterSlot::F14,
+    FPRegisterSlot::F15,
+    FPRegisterSlot::F16,
+    FPRegisterSlot::F17,
+    FPRegisterSlot::F18,
+    FPRegisterSlot::F19,
+    FPRegisterSlot::F20,
+    FPRegisterSlot::F21,
+    FPRegisterSlot::F22,
+    FPRegisterSlot::F23,
+    FPRegisterSlot::F24,
+    FPRegisterSlot::F25,
+    FPRegisterSlot::F26,
+    FPRegisterSlot::F27,
+    FPRegisterSlot::F28,
+    FPRegisterSlot::F29,
+    FPRegisterSlot::F30,
+    FPRegisterSlot::F31,
+];
 
 // The float register of a number; a number over 31 gives the last.
 pub fn fp_register_of(n: u8) -> FPRegisterSlot
     ensures { λ r. ⌜ r ≡ fpRegisterOf n ⌝ }
 {
-    match n {
-        0 => FPRegisterSlot::F0,
-        1 => FPRegisterSlot::F1,
-        2 => FPRegisterSlot::F2,
-        3 => FPRegisterSlot::F3,
-        4 => FPRegisterSlot::F4,
-        5 => FPRegisterSlot::F5,
-        6 => FPRegisterSlot::F6,
-        7 => FPRegisterSlot::F7,
-        8 => FPRegisterSlot::F8,
-        9 => FPRegisterSlot::F9,
-        10 => FPRegisterSlot::F10,
-        11 => FPRegisterSlot::F11,
-        12 => FPRegisterSlot::F12,
-        13 => FPRegisterSlot::F13,
-        14 => FPRegisterSlot::F14,
-        15 => FPRegisterSlot::F15,
-        16 => FPRegisterSlot::F16,
-        17 => FPRegisterSlot::F17,
-        18 => FPRegisterSlot::F18,
-        19 => FPRegisterSlot::F19,
-        20 => FPRegisterSlot::F20,
-        21 => FPRegisterSlot::F21,
-        22 => FPRegisterSlot::F22,
-        23 => FPRegisterSlot::F23,
-        24 => FPRegisterSlot::F24,
-        25 => FPRegisterSlot::F25,
-        26 => FPRegisterSlot::F26,
-        27 => FPRegisterSlot::F27,
-        28 => FPRegisterSlot::F28,
-        29 => FPRegisterSlot::F29,
-        30 => FPRegisterSlot::F30,
-        _ => FPRegisterSlot::F31,
+    let i = n as usize;
+    if i < 32 {
+        FP_SLOTS[i]
+    } else {
+        FPRegisterSlot::F31
     }
 }

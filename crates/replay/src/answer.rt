@@ -23,20 +23,20 @@ pub(crate) fn is_expected(met: [u32; 6]) -> bool {
 pub(crate) fn is_line_expected(met: Emitted) -> bool {
     let answer = met.answer;
     let counts = met.counts;
-    let is_answer_met = is_expected(linked_answer::line_words(answer));
+    let is_answer_met = is_expected(linked_answer::emitted_words(answer));
     let expected = read_counts();
     is_answer_met
-        && counts.region == expected.region
+        && counts.data_len == expected.data_len
         && counts.pending == expected.pending
         && counts.breakpoints == expected.breakpoints
 }
 
 pub(crate) fn read_counts() -> FillCounts {
-    let region = input::read_word(u64::MAX);
+    let data = input::read_word(u64::MAX);
     let pending = input::read_word(u64::MAX);
     let breakpoints = input::read_word(u64::MAX);
     FillCounts {
-        region: region.value,
+        data_len: data.value,
         pending: pending.value,
         breakpoints: breakpoints.value,
     }

@@ -150,19 +150,19 @@ fn is_answered(
     pending: &mut [u8],
     breakpoints: &mut [u8],
 ) -> bool {
-    let n = line_text::read_numbers(u64::MAX);
-    let counts = n.counts;
+    let read = line_text::read_numbers(u64::MAX);
+    let numbers = read.numbers;
+    let counts = numbers.counts;
+    let place = numbers.place;
     let emitted = emit_core::do_instruction(
+        counts,
         tokens,
         mnemonic,
         descriptors,
         data,
         pending,
         breakpoints,
-        n.position,
-        n.region,
-        n.address,
-        counts,
+        place,
     );
     answer::is_line_expected(emitted)
 }

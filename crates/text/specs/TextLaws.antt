@@ -12,7 +12,7 @@ use lib.ListN.{length, take, drop, set, length-append, length-take, length-drop}
 use lib.Seq.{paste, set-split, append-snoc, take-length, take-at, drop-append-add, drop-drop}
 use borrow.Author.Tests.{ltb-true, ltb-false, lt-ltb, le-ltb, le-leb, lt-leb}
 use Rattle.io.specs.Digits.{glyph, digits, Fewest}
-use Rattle.signed.specs.Split.{isNegative, size}
+use Rattle.refusal.specs.Split.{isNegative, size}
 use Rattle.text.specs.Text.{Put, roomFrom, decimalIn, decimal, field, signedField}
 
 pub put-byte : (d : List ℕ) (at b : ℕ) → at < length d → Put d at (b ∷ []) (set d at b) (at + 1)

@@ -77,7 +77,7 @@ pub(crate) fn put_signed_field(out: &mut [u8], at: usize, n: i64) -> usize
     ensures { λ r. ⌜ Put (now (out .entry)) at (signedField n) (now (out .exit)) r ⌝ }
     ensures { λ r. ⌜ r ≤ at + 22 ⌝ }
 {
-    let parts = signed::split(n);
+    let parts = refusal::split(n);
     if !parts.negative {
         return put_field(out, at, parts.size);
     }

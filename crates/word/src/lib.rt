@@ -9,6 +9,12 @@ use instructions::Size;
 use registers::FPRegisterSlot;
 use registers::RegisterSlot;
 
+// `width` bits of a word, from bit `offset` on.
+struct Field {
+    offset: u32,
+    width: u32,
+}
+
 // A half-built word, distinct from a finished one: only `finish` gives the number.
 pub struct InstructionBuilder(u32);
 
@@ -19,11 +25,13 @@ impl InstructionBuilder {
         InstructionBuilder(instructions::instruction_base(op))
     }
 
-    // Clears `width` bits from `offset` on and ORs `value` in there.
-    fn with_field(self, offset: u32, width: u32, value: u32) -> InstructionBuilder
-        requires { ⌜ (offset + width ≤ 32) × (width < 32) × (offset < 32) × (value * 2 ^ offset < 2 ^ 32) ⌝ }
-        ensures { λ r. ⌜ r .0 ≡ orField (self .0) offset width value ⌝ }
+    // Clears the field and ORs `value` in there.
+    fn with_field(self, field: Field, value: u32) -> InstructionBuilder
+        requires { ⌜ (field .offset + field .width ≤ 32) × (field .width < 32) × (field .offset < 32) × (value * 2 ^ field .offset < 2 ^ 32) ⌝ }
+        ensures { λ r. ⌜ r .0 ≡ orField (self .0) (field .offset) (field .width) value ⌝ }
     {
+        let offset = field.offset;
+        let width = field.width;
         let mask = ((1u32 << width) - 1) << offset;
         let kept = self.0 & !mask;
         InstructionBuilder(kept | (value << offset))
@@ -34,7 +42,7 @@ impl InstructionBuilder {
         requires { ⌜ (offset + 5 ≤ 32) × (number < 32) ⌝ }
         ensures { λ r. ⌜ r .0 ≡ setField (self .0) offset 5 number ⌝ }
     {
-        self.with_field(offset, 5, number)
+        self.with_field(Field { offset, width: 5 }, number)
     }
 
     fn with_slot_offset(self, offset: u32, slot: RegisterSlot) -> InstructionBuilder
@@ -72,14 +80,27 @@ impl InstructionBuilder {
     pub fn with_immediate(self, imm: u16) -> InstructionBuilder
         ensures { λ r. ⌜ r .0 ≡ setField (self .0) 0 16 imm ⌝ }
     {
-        self.with_field(0, 16, imm as u32)
+        self.with_field(
+            Field {
+                offset: 0,
+                width: 16,
+            },
+            imm as u32,
+        )
     }
 
     // A shift amount over 31 spills into rd.
     pub fn with_sham(self, sham: u8) -> InstructionBuilder
         ensures { λ r. ⌜ r .0 ≡ orField (self .0) 6 5 sham ⌝ }
     {
-        self.with_field(6, 5, sham as u32)
+        let amount = sham as u32;
+        self.with_field(
+            Field {
+                offset: 6,
+                width: 5,
+            },
+            amount,
+        )
     }
 
     pub fn with_fp_source(self, slot: FPRegisterSlot) -> InstructionBuilder
@@ -91,7 +112,13 @@ impl InstructionBuilder {
     pub fn with_fp_source_value(self, value: u8) -> InstructionBuilder
         ensures { λ r. ⌜ r .0 ≡ orField (self .0) 11 5 value ⌝ }
     {
-        self.with_field(11, 5, value as u32)
+        self.with_field(
+            Field {
+                offset: 11,
+                width: 5,
+            },
+            value as u32,
+        )
     }
 
     pub fn with_fp_dest(self, slot: FPRegisterSlot) -> InstructionBuilder
@@ -103,7 +130,13 @@ impl InstructionBuilder {
     pub fn with_fp_dest_value(self, value: u8) -> InstructionBuilder
         ensures { λ r. ⌜ r .0 ≡ orField (self .0) 6 5 value ⌝ }
     {
-        self.with_field(6, 5, value as u32)
+        self.with_field(
+            Field {
+                offset: 6,
+                width: 5,
+            },
+            value as u32,
+        )
     }
 
     pub fn with_fp_temp(self, slot: FPRegisterSlot) -> InstructionBuilder
@@ -116,7 +149,13 @@ impl InstructionBuilder {
     pub fn with_fp_temp_value(self, value: u8) -> InstructionBuilder
         ensures { λ r. ⌜ r .0 ≡ orField (self .0) 16 5 value ⌝ }
     {
-        self.with_field(16, 5, value as u32)
+        self.with_field(
+            Field {
+                offset: 16,
+                width: 5,
+            },
+            value as u32,
+        )
     }
 
     pub fn with_fp_fmt(self, fmt: Size) -> InstructionBuilder

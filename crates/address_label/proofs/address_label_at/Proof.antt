@@ -7,12 +7,12 @@ use Rattle.address_label.proofs.address_label_at.Tie as tie
 returns : tie.Need-returns
 returns c =
     let a = c .before .before .before .before .args in
-    cc (at-constant (a .s .now) (a .i) (a .e) (c .if1 .taken))
+    cc (at-constant (a .list .now) (a .at) (a .end) (c .if1 .taken))
 
 returns-2 : tie.Need-returns-2
 returns-2 c =
     let a = c .before .before .before .before .before .args in
-    cc (at-named (a .s .now) (a .i) (a .e) (c .before .if1 .left))
+    cc (at-named (a .list .now) (a .at) (a .end) (c .before .if1 .left))
 
 pub address-label-at-spec : {M : Type 1} → statement M
 address-label-at-spec =

@@ -8,11 +8,11 @@ use Rattle.address_label.proofs.address_label_ok.Statement.{statement}
 use Rattle.address_label.proofs.address_label_ok.Tie as tie
 
 -- the test where the form byte is 0, and where it is 1
-constant : (c : tie.Then1) → let a = c .before .before .before .args in addressLabelOk (a .s .now) (a .i) (a .e) ≡ constantOk (a .s .now) (a .i) (a .e)
-constant c = let a = c .before .before .before .args in ok-constant (a .s .now) (a .i) (a .e) (c .if1 .taken)
+constant : (c : tie.Then1) → let a = c .before .before .before .args in addressLabelOk (a .list .now) (a .at) (a .end) ≡ constantOk (a .list .now) (a .at) (a .end)
+constant c = let a = c .before .before .before .args in ok-constant (a .list .now) (a .at) (a .end) (c .if1 .taken)
 
-named : (c : tie.Else4) → let a = c .before .before .before .before .before .args in addressLabelOk (a .s .now) (a .i) (a .e) ≡ namedOk (a .s .now) (a .i) (a .e)
-named c = let a = c .before .before .before .before .before .args in ok-named (a .s .now) (a .i) (a .e) (c .if4 .left)
+named : (c : tie.Else4) → let a = c .before .before .before .before .before .args in addressLabelOk (a .list .now) (a .at) (a .end) ≡ namedOk (a .list .now) (a .at) (a .end)
+named c = let a = c .before .before .before .before .before .args in ok-named (a .list .now) (a .at) (a .end) (c .if4 .left)
 
 returns : tie.Need-returns
 returns c = simp (constant (c .before), ne-eqb _ _ (c .if2 .taken))
@@ -37,7 +37,7 @@ returns-3 c =
 returns-4 : tie.Need-returns-4
 returns-4 c =
     let a = c .before .before .before .before .before .args in
-    simp (ok-neither (a .s .now) (a .i) (a .e) (c .before .before .if1 .left) (c .if4 .taken))
+    simp (ok-neither (a .list .now) (a .at) (a .end) (c .before .before .if1 .left) (c .if4 .taken))
 
 returns-5 : tie.Need-returns-5
 returns-5 c = simp (named (c .before), lt-leb _ _ (c .if5 .taken))

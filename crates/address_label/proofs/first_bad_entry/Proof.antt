@@ -14,48 +14,44 @@ use Rattle.address_label.proofs.first_bad_entry.Statement.{statement}
 use Rattle.address_label.proofs.first_bad_entry.Tie as tie
 
 -- the list is within the limit
-kept : (c : tie.Else1) → let s = c .before .before .args .s .now in entryLayout s ≡ firstBadOf 1 (entryOk s) (placesFrom s 0)
-kept c = entry-kept (c .before .before .args .s .now) (c .if1 .left)
+kept : (c : tie.Else1) → let s = c .before .before .args .entry .now in entryLayout s ≡ firstBadOf 1 (entryOk s) (placesFrom s 0)
+kept c = entry-kept (c .before .before .args .entry .now) (c .if1 .left)
 
 -- its first record is an entry
-passed : (c : tie.Else3) → entryOk (c .before .before .before .before .before .args .s .now) 0 ≡ true
+passed : (c : tie.Else3) → entryOk (c .before .before .before .before .before .args .entry .now) 0 ≡ true
 passed c = sym (c .before .entry-ok .ensures) ∙ not-false _ (c .if3 .left)
 
-entry : (c : tie.Else3) → EntryIs (c .before .before .before .before .before .args .s .now) 0
-entry c = entry-is (c .before .before .before .before .before .args .s .now) 0 (passed c)
+entry : (c : tie.Else3) → EntryIs (c .before .before .before .before .before .args .entry .now) 0
+entry c = entry-is (c .before .before .before .before .before .args .entry .now) 0 (passed c)
 
 -- so the layout is that of no record from the next place on
-rest : (c : tie.Else3) → let s = c .before .before .before .before .before .args .s .now in entryLayout s ≡ firstBadOf 0 (entryOk s) (placesFrom s (next s 0))
+rest : (c : tie.Else3) → let s = c .before .before .before .before .before .args .entry .now in entryLayout s ≡ firstBadOf 0 (entryOk s) (placesFrom s (next s 0))
 rest c =
-    let s = c .before .before .before .before .before .args .s .now in
+    let s = c .before .before .before .before .before .args .entry .now in
     kept (c .before .before .before) ∙ of-next 0 (entryOk s) s 0 (omega (arith, entry c)) (passed c) (entry c .whole-at)
 
 returns : tie.Need-returns
-returns c = sym (entry-passed (c .before .before .args .s .now) (c .if1 .taken))
+returns c = sym (entry-passed (c .before .before .args .entry .now) (c .if1 .taken))
 
 returns-2 : tie.Need-returns-2
 returns-2 c =
-    let s = c .before .before .before .args .s .now in
+    let s = c .before .before .before .args .entry .now in
     sym (kept (c .before) ∙ of-end 1 (entryOk s) s 0 (omega arith))
 
 returns-3 : tie.Need-returns-3
 returns-3 c =
-    let s = c .before .before .before .before .before .args .s .now in
+    let s = c .before .before .before .before .before .args .entry .now in
     sym (kept (c .before .before .before) ∙ of-bad 0 (entryOk s) s 0 (omega (arith, c .before .before .if2 .left)) (sym (c .before .entry-ok .ensures) ∙ not-true _ (c .if3 .taken)))
-
-half-at-requires : tie.Need-half-at-requires
-half-at-requires c κs = omega (arith, entry c)
 
 returns-4 : tie.Need-returns-4
 returns-4 c =
-    let s = c .before .before .before .before .before .before .before .args .s .now in
-    let e : next s 0 ≡ 4 + c .before .half-at .result = omega (arith, c .before .half-at .ensures .0) in
-    sym (rest (c .before .before) ∙ of-past (entryOk s) s (next s 0) (omega arith) ∙ ap Bad e)
+    let s = c .before .before .before .before .before .before .before .args .entry .now in
+    sym (rest (c .before .before) ∙ of-past (entryOk s) s (next s 0) (omega (arith, c .before .next .ensures .0)) ∙ ap Bad (sym (c .before .next .ensures .0)))
 
 returns-5 : tie.Need-returns-5
 returns-5 c =
-    let s = c .before .before .before .before .before .before .before .args .s .now in
-    sym (rest (c .before .before) ∙ of-end 0 (entryOk s) s (next s 0) (omega (arith, c .before .half-at .ensures .0)))
+    let s = c .before .before .before .before .before .before .before .args .entry .now in
+    sym (rest (c .before .before) ∙ of-end 0 (entryOk s) s (next s 0) (omega (arith, c .before .next .ensures .0)))
 
 pub first-bad-entry-spec : {M : Type 1} → statement M
 first-bad-entry-spec =
@@ -65,7 +61,6 @@ first-bad-entry-spec =
     returns-2
     (λ c κs. search needs)
     returns-3
-    half-at-requires
-    (λ c. search needs)
+    (λ c κs. omega (arith, entry c))
     returns-4
     returns-5)

@@ -14,16 +14,16 @@ use Rattle.breakpoints.proofs.breakpoint_ok.Statement.{statement}
 use Rattle.breakpoints.proofs.breakpoint_ok.Tie as tie
 
 -- past each test what it tests holds
-is-whole : (c : tie.Else1) → let a = c .before .before .before .args in whole (a .s .now) (a .at) ≡ true
+is-whole : (c : tie.Else1) → let a = c .before .before .before .args in whole (a .list .now) (a .at) ≡ true
 is-whole c = sym (c .before .whole-at .ensures) ∙ not-false _ (c .if1 .left)
 
-room : (c : tie.Else1) → let a = c .before .before .before .args in (a .at + 4 ≤ length (a .s .now)) × (next (a .s .now) (a .at) ≤ length (a .s .now))
-room c = let a = c .before .before .before .args in whole-is (a .s .now) (a .at) (is-whole c)
+room : (c : tie.Else1) → let a = c .before .before .before .args in (a .at + 4 ≤ length (a .list .now)) × (next (a .list .now) (a .at) ≤ length (a .list .now))
+room c = let a = c .before .before .before .args in whole-is (a .list .now) (a .at) (is-whole c)
 
-kind : (c : tie.Else2) → let a = c .before .before .before .before .before .before .args in eqb (kindAt (a .s .now) (a .at)) 37 ≡ true
+kind : (c : tie.Else2) → let a = c .before .before .before .before .before .before .args in eqb (kindAt (a .list .now) (a .at)) 37 ≡ true
 kind c = eq-eqb _ _ (sym (c .before .half-at2 .ensures .0) ∙ c .if2 .left)
 
-least : (c : tie.Else3) → let a = c .before .before .before .before .before .before .before .args in leb 12 (bodyLen (a .s .now) (a .at)) ≡ true
+least : (c : tie.Else3) → let a = c .before .before .before .before .before .before .before .args in leb 12 (bodyLen (a .list .now) (a .at)) ≡ true
 least c = le-leb _ _ (rw (c .before .before .before .half-at .ensures .0) at (c .if3 .left))
 
 returns : tie.Need-returns
@@ -62,6 +62,7 @@ breakpoint-ok-spec =
     (λ c κs. omega (arith, room c))
     (λ c. search needs)
     (λ c κs. omega (arith, room (c .before)))
+    (λ c. search needs)
     returns-2
     returns-3
     returns-4

@@ -15,27 +15,27 @@ use Rattle.breakpoints.specs.BreakpointsLaws.{filled-kept, filled-good, 
 use Rattle.breakpoints.proofs.check_pending_buffer.Statement.{statement}
 use Rattle.breakpoints.proofs.check_pending_buffer.Tie as tie
 
-room : (c : tie.After-enum-told) → let a = c .before .before .before .before .args in (length (a .s .now) ≤ limit) × (a .fill ≤ length (a .s .now)) × (length (take (a .fill) (a .s .now)) ≡ a .fill)
+room : (c : tie.After-enum-told) → let a = c .before .before .before .before .args in (length (a .buffer .now) ≤ limit) × (a .fill ≤ length (a .buffer .now)) × (length (take (a .fill) (a .buffer .now)) ≡ a .fill)
 room c =
     let a = c .before .before .before .before .args in
-    let f = filled-good (a .fill) (a .s .now) Good (sym (c .before .before .filled .ensures) ∙ c .enum-told .given .1) in
-    (f .0, f .1, length-take-le (a .fill) (a .s .now) (f .1))
+    let f = filled-good (a .fill) (a .buffer .now) Good (sym (c .before .before .filled .ensures) ∙ c .enum-told .given .1) in
+    (f .0, f .1, length-take-le (a .fill) (a .buffer .now) (f .1))
 
 returns : tie.Need-returns
 unfolding pendingBufferLayout
 returns c =
     let a = c .before .before .before .before .before .args in
-    sym (filled-bad (a .fill) (a .s .now) _ (c .before .p .given .0 .0) (sym (c .before .before .before .filled .ensures) ∙ c .before .p .given .1))
+    sym (filled-bad (a .fill) (a .buffer .now) _ (c .before .p .given .0 .0) (sym (c .before .before .before .filled .ensures) ∙ c .before .p .given .1))
 
 returns-2 : tie.Need-returns-2
 unfolding pendingBufferLayout
 returns-2 c =
     let a = c .before .before .before .before .before .before .args in
     let r = room (c .before .before) in
-    let t = take (a .fill) (a .s .now) in
+    let t = take (a .fill) (a .buffer .now) in
     c .first-bad-pending .ensures
     ∙ pending-kept 16 t (omega arith)
-    ∙ sym (filled-kept (a .fill) (a .s .now) (firstBad (pendingOk 16 t) (places t)) (r .0) (r .1) ∙ ap (firstBad (pendingOk 16 t)) (places-all t))
+    ∙ sym (filled-kept (a .fill) (a .buffer .now) (firstBad (pendingOk 16 t) (places t)) (r .0) (r .1) ∙ ap (firstBad (pendingOk 16 t)) (places-all t))
 
 pub check-pending-buffer-spec : {M : Type 1} → statement M
 check-pending-buffer-spec =

@@ -14,20 +14,20 @@ use Rattle.breakpoints.proofs.first_bad_breakpoint.Statement.{statement
 use Rattle.breakpoints.proofs.first_bad_breakpoint.Tie as tie
 
 abbrev Inv-loop : tie.InvT-loop
-Inv-loop s at₀ at = (at ≤ length s) × (firstBad (breakpointOk s) (places s) ≡ layoutFrom (breakpointOk s) s at)
+Inv-loop list at₀ at = (at ≤ length list) × (firstBad (breakpointOk list) (places list) ≡ layoutFrom (breakpointOk list) list at)
 
 abbrev μ-loop : tie.MeasureT-loop
-μ-loop s at₀ at = length s - at
+μ-loop list at₀ at = length list - at
 
 -- the record at `at` is a breakpoint
-passed : (c : tie.Else1 Inv-loop μ-loop) → breakpointOk (c .before .before .before .before .before .args .s .now) (c .before .before .before .loop .at) ≡ true
+passed : (c : tie.Else1 Inv-loop μ-loop) → breakpointOk (c .before .before .before .before .before .args .list .now) (c .before .before .before .loop .at) ≡ true
 passed c = sym (c .before .breakpoint-ok .ensures) ∙ not-false _ (c .if1 .left)
 
-breakpoint : (c : tie.Else1 Inv-loop μ-loop) → BreakpointIs (c .before .before .before .before .before .args .s .now) (c .before .before .before .loop .at)
-breakpoint c = breakpoint-is (c .before .before .before .before .before .args .s .now) (c .before .before .before .loop .at) (passed c)
+breakpoint : (c : tie.Else1 Inv-loop μ-loop) → BreakpointIs (c .before .before .before .before .before .args .list .now) (c .before .before .before .loop .at)
+breakpoint c = breakpoint-is (c .before .before .before .before .before .args .list .now) (c .before .before .before .loop .at) (passed c)
 
 loop-holds : tie.Need-loop-holds Inv-loop μ-loop
-loop-holds c = let s = c .before .args .s .now in (search needs, ap (firstBad (breakpointOk s)) (places-all s))
+loop-holds c = let s = c .before .args .list .now in (search needs, ap (firstBad (breakpointOk s)) (places-all s))
 
 returns : tie.Need-returns Inv-loop μ-loop
 returns c =
@@ -37,8 +37,8 @@ returns c =
 loop-again : tie.Need-loop-again Inv-loop μ-loop
 loop-again c =
     let l = c .before .before .before .before in
-    let s = l .before .before .args .s .now in
-    let n = c .half-at .ensures .0 in (
+    let s = l .before .before .args .list .now in
+    let n = c .next .ensures .0 in (
       omega (arith, breakpoint (c .before), n),
       rw n (l .loop .inv .1 ∙ layout-next (breakpointOk s) s (l .loop .at) (c .before .before .before .loop-test .taken) (passed (c .before)) (breakpoint (c .before) .whole-at)),
     )
@@ -55,9 +55,7 @@ first-bad-breakpoint-spec =
     loop-holds
     (λ c κs. search needs)
     returns
-    (λ c. omega (arith, breakpoint c))
     (λ c κs. omega (arith, breakpoint c))
-    (λ c. omega (arith, breakpoint (c .before), c .half-at .ensures .0))
-    (λ c. omega arith)
+    (λ c. omega (arith, breakpoint (c .before), c .next .ensures .0))
     loop-again
     returns-2)

@@ -22,12 +22,12 @@ abbrev μ-loop : tie.MeasureT-loop
 abbrev cursor : tie.At-loop Inv-loop μ-loop → Cursor
 cursor l = record { index = l .loop .index; at = l .loop .at }
 
-turn : (c : tie.In-loop Inv-loop μ-loop) → let l = c .before in Stands (l .before .before .args .s .now) (cursor l)
-turn c = let l = c .before in stands (l .before .before .args .s .now) (cursor l) (l .loop .inv .0) (c .loop-test .taken)
+turn : (c : tie.In-loop Inv-loop μ-loop) → let l = c .before in Stands (l .before .before .args .list .now) (cursor l)
+turn c = let l = c .before in stands (l .before .before .args .list .now) (cursor l) (l .loop .inv .0) (c .loop-test .taken)
 
 -- what is tested is the kind of the token at the index
 tested : (c : tie.After-is-adjacent-kind Inv-loop μ-loop) → let l = c .before .before .before in
-    adjacentAt (tokens (l .before .before .args .s .now)) (l .loop .index) ≡ c .is-adjacent-kind .result
+    adjacentAt (tokens (l .before .before .args .list .now)) (l .loop .index) ≡ c .is-adjacent-kind .result
 tested c =
     ap (λ (t : Token). isAdjacentKind (t .kind)) (turn (c .before .before) .token-is-at ∙ sym (c .before .token-at .ensures))
     ∙ sym (c .is-adjacent-kind .ensures)
@@ -39,12 +39,12 @@ returns : tie.Need-returns Inv-loop μ-loop
 returns c =
     let t = c .before .before .before in
     let l = t .before in
-    let s = l .before .before .args .s .now in
+    let s = l .before .before .args .list .now in
     let e = seek-here (tokens s) (l .loop .index) (turn t .within) (tested (c .before) ∙ c .if1 .taken) in
     placed-is s (cursor l) _ (l .loop .inv .0) (sym (l .loop .inv .1 ∙ e))
 
-half-at-requires : tie.Need-half-at-requires Inv-loop μ-loop
-half-at-requires c κs = omega (arith, turn (c .before .before .before) .token)
+next-requires : tie.Need-next-requires Inv-loop μ-loop
+next-requires c κs = omega (arith, turn (c .before .before .before) .token)
 
 add-index : tie.Need-add-index Inv-loop μ-loop
 add-index c = omega (arith, turn (c .before .before .before .before) .least)
@@ -53,14 +53,14 @@ loop-again : tie.Need-loop-again Inv-loop μ-loop
 loop-again c =
     let t = c .before .before .before .before in
     let l = t .before in
-    let s = l .before .before .args .s .now in
+    let s = l .before .before .args .list .now in
     let e = seek-next (tokens s) (l .loop .index) (turn t .within) (tested (c .before .before) ∙ c .before .if1 .left) in
-    (rw (c .half-at .ensures .0) (turn t .behind), l .loop .inv .1 ∙ e)
+    (rw (c .next .ensures .0) (turn t .behind), l .loop .inv .1 ∙ e)
 
 returns-2 : tie.Need-returns-2 Inv-loop μ-loop
 returns-2 c =
     let l = c .before in
-    let s = l .before .before .args .s .now in
+    let s = l .before .before .args .list .now in
     let e = ended s (cursor l) (l .loop .inv .0) (c .loop-test .left) in
     placed-is s (cursor l) _ (l .loop .inv .0) (sym (l .loop .inv .1 ∙ seek-end (tokens s) (l .loop .index) (omega arith)))
 
@@ -74,9 +74,7 @@ seek-without-spec =
     (λ c κs. turn c .token)
     (λ c κs. search needs)
     returns
-    (λ c. search needs)
-    half-at-requires
-    (λ c. search needs)
+    next-requires
     add-index
     (λ c. search needs)
     loop-again

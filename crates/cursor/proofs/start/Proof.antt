@@ -20,8 +20,8 @@ abbrev μ-loop : tie.MeasureT-loop
 abbrev cursor : tie.At-loop Inv-loop μ-loop → Cursor
 cursor l = record { index = l .loop .index; at = l .loop .at }
 
-turn : (c : tie.In-loop Inv-loop μ-loop) → let l = c .before in Stands (l .before .before .args .s .now) (cursor l)
-turn c = let l = c .before in stands (l .before .before .args .s .now) (cursor l) (l .loop .inv .0) (c .loop-test .taken)
+turn : (c : tie.In-loop Inv-loop μ-loop) → let l = c .before in Stands (l .before .before .args .list .now) (cursor l)
+turn c = let l = c .before in stands (l .before .before .args .list .now) (cursor l) (l .loop .inv .0) (c .loop-test .taken)
 
 loop-holds : tie.Need-loop-holds Inv-loop μ-loop
 loop-holds c = (placed-first _ (c .before .pre), search needs)
@@ -30,23 +30,23 @@ returns : tie.Need-returns Inv-loop μ-loop
 returns c =
     let l = c .before .before in
     let a = l .before .before .args in
-    placed-is (a .s .now) (cursor l) (startIndex (tokens (a .s .now)) (a .position)) (l .loop .inv .0) (omega (arith, turn (c .before) .within))
+    placed-is (a .list .now) (cursor l) (startIndex (tokens (a .list .now)) (a .position)) (l .loop .inv .0) (omega (arith, turn (c .before) .within))
 
-half-at-requires : tie.Need-half-at-requires Inv-loop μ-loop
-half-at-requires c κs = omega (arith, turn (c .before) .token)
+next-requires : tie.Need-next-requires Inv-loop μ-loop
+next-requires c κs = omega (arith, turn (c .before) .token)
 
 add-index : tie.Need-add-index Inv-loop μ-loop
 add-index c = omega (arith, turn (c .before .before) .least)
 
 loop-again : tie.Need-loop-again Inv-loop μ-loop
-loop-again c = (rw (c .half-at .ensures .0) (turn (c .before .before) .behind), omega arith)
+loop-again c = (rw (c .next .ensures .0) (turn (c .before .before) .behind), omega arith)
 
 returns-2 : tie.Need-returns-2 Inv-loop μ-loop
 returns-2 c =
     let l = c .before in
     let a = l .before .before .args in
-    let e = ended (a .s .now) (cursor l) (l .loop .inv .0) (c .loop-test .left) in
-    placed-is (a .s .now) (cursor l) (startIndex (tokens (a .s .now)) (a .position)) (l .loop .inv .0) (omega arith)
+    let e = ended (a .list .now) (cursor l) (l .loop .inv .0) (c .loop-test .left) in
+    placed-is (a .list .now) (cursor l) (startIndex (tokens (a .list .now)) (a .position)) (l .loop .inv .0) (omega arith)
 
 pub start-spec : {M : Type 1} → statement M
 start-spec =
@@ -56,9 +56,7 @@ start-spec =
     μ-loop
     loop-holds
     returns
-    (λ c. search needs)
-    half-at-requires
-    (λ c. search needs)
+    next-requires
     add-index
     (λ c. search needs)
     loop-again

@@ -16,16 +16,16 @@ use Rattle.descriptors.proofs.descriptor_ok.Statement.{statement}
 use Rattle.descriptors.proofs.descriptor_ok.Tie as tie
 
 -- past each test what it tests holds
-is-whole : (c : tie.Else1) → let a = c .before .before .before .args in whole (a .s .now) (a .at) ≡ true
+is-whole : (c : tie.Else1) → let a = c .before .before .before .args in whole (a .list .now) (a .at) ≡ true
 is-whole c = sym (c .before .whole-at .ensures) ∙ not-false _ (c .if1 .left)
 
-room : (c : tie.Else1) → let a = c .before .before .before .args in (a .at + 4 ≤ length (a .s .now)) × (next (a .s .now) (a .at) ≤ length (a .s .now))
-room c = let a = c .before .before .before .args in whole-is (a .s .now) (a .at) (is-whole c)
+room : (c : tie.Else1) → let a = c .before .before .before .args in (a .at + 4 ≤ length (a .list .now)) × (next (a .list .now) (a .at) ≤ length (a .list .now))
+room c = let a = c .before .before .before .args in whole-is (a .list .now) (a .at) (is-whole c)
 
-kind : (c : tie.Else2) → let a = c .before .before .before .before .before .before .args in eqb (kindAt (a .s .now) (a .at)) 33 ≡ true
+kind : (c : tie.Else2) → let a = c .before .before .before .before .before .before .args in eqb (kindAt (a .list .now) (a .at)) 33 ≡ true
 kind c = eq-eqb _ _ (sym (c .before .half-at2 .ensures .0) ∙ c .if2 .left)
 
-least : (c : tie.Else3) → let a = c .before .before .before .before .before .before .before .args in leb 9 (bodyLen (a .s .now) (a .at)) ≡ true
+least : (c : tie.Else3) → let a = c .before .before .before .before .before .before .before .args in leb 9 (bodyLen (a .list .now) (a .at)) ≡ true
 least c = le-leb _ _ (rw (c .before .before .before .half-at .ensures .0) at (c .if3 .left))
 
 returns : tie.Need-returns
@@ -48,7 +48,7 @@ returns-4 c =
     let k = c .before .before in
     simp (is-whole (k .before .before .before), kind k, least (c .before), lt-leb _ _ (rw (k .before .before .half-at .ensures .0) at (c .if4 .taken)))
 
-most : (c : tie.Else4) → let a = c .before .before .before .before .before .before .before .before .args in leb (bodyLen (a .s .now) (a .at)) 24 ≡ true
+most : (c : tie.Else4) → let a = c .before .before .before .before .before .before .before .before .args in leb (bodyLen (a .list .now) (a .at)) 24 ≡ true
 most c = le-leb _ _ (rw (c .before .before .before .before .half-at .ensures .0) at (c .if4 .left))
 
 fields-ok-requires : tie.Need-fields-ok-requires
@@ -70,7 +70,7 @@ returns-6 c =
     let h = k .before .before .half-at in
     let a = k .before .before .before .before .before .before .args in
     simp (is-whole (k .before .before .before), kind k, least (m .before), most m, sym (f .before .fields-ok .ensures) ∙ not-false _ (f .if5 .left))
-    (c .all-text .ensures ∙ ap (all isText) (name-part 8 (a .s .now) (a .at) (h .result) _ (h .ensures .0) (omega arith)))
+    (c .all-text .ensures ∙ ap (all isText) (name-part 8 (a .list .now) (a .at) (h .result) _ (h .ensures .0) (omega arith)))
 
 pub descriptor-ok-spec : {M : Type 1} → statement M
 descriptor-ok-spec =

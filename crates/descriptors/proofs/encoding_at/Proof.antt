@@ -6,27 +6,27 @@ use lib.Dec.{eqb}
 use Rattle.instructions.specs.declared.Size.{Size}
 use Rattle.instructions.specs.declared.Encoding.the-variants.{Immediate, FP3Register, FP2Register, FPMove, FPCond, FPBranch}
 use Rattle.descriptors.specs.Descriptors.{encodingsAt, encodingOf, flagOf, instructionAt}
-use Rattle.registers.specs.Past.{past-end}
+use Rattle.registers.specs.PastLaws.{past-end}
 use borrow.Author.Needs.{needs}
 use Rattle.descriptors.proofs.encoding_at.Statement.{statement}
 use Rattle.descriptors.proofs.encoding_at.Tie as tie
 
 -- the encoding of the number that was matched
-is : (c : tie.After-shared-slice-known4) (n : ℕ) → let a = c .before .before .before .before .before .before .args in encodingOf (a .s .now) (a .at) ≡ n
-    → getD (encodingsAt (a .s .now) (a .at)) n (FPBranch (eqb (flagOf (a .s .now) (a .at)) 1)) ≡ instructionAt (a .s .now) (a .at) .encoding
+is : (c : tie.After-shared-slice-known4) (n : ℕ) → let a = c .before .before .before .before .before .before .args in encodingOf (a .list .now) (a .at) ≡ n
+    → getD (encodingsAt (a .list .now) (a .at)) n (FPBranch (eqb (flagOf (a .list .now) (a .at)) 1)) ≡ instructionAt (a .list .now) (a .at) .encoding
 is c n e =
     let a = c .before .before .before .before .before .before .args in
-    ap (λ (m : ℕ). getD (encodingsAt (a .s .now) (a .at)) m (FPBranch (eqb (flagOf (a .s .now) (a .at)) 1))) (sym e)
+    ap (λ (m : ℕ). getD (encodingsAt (a .list .now) (a .at)) m (FPBranch (eqb (flagOf (a .list .now) (a .at)) 1))) (sym e)
 
 returns-18 : tie.Need-returns-18
 returns-18 c =
     let a = c .before .before .before .before .before .before .before .args in
-    ap (λ (z : Size). FPMove z (eqb (flagOf (a .s .now) (a .at)) 1)) (c .before .before .before .before .size-from .ensures) ∙ is (c .before) 17 (c .match .keys18)
+    ap (λ (z : Size). FPMove z (eqb (flagOf (a .list .now) (a .at)) 1)) (c .before .before .before .before .size-from .ensures) ∙ is (c .before) 17 (c .match .keys18)
 
 returns-21 : tie.Need-returns-21
 returns-21 c =
     let a = c .before .before .before .before .before .before .before .args in
-    sym (past-end (encodingsAt (a .s .now) (a .at)) (FPBranch (eqb (flagOf (a .s .now) (a .at)) 1)) (encodingOf (a .s .now) (a .at)) (c .match .rest))
+    sym (past-end (encodingsAt (a .list .now) (a .at)) (FPBranch (eqb (flagOf (a .list .now) (a .at)) 1)) (encodingOf (a .list .now) (a .at)) (c .match .rest))
 
 pub encoding-at-spec : {M : Type 1} → statement M
 encoding-at-spec =

@@ -9,22 +9,22 @@ use Rattle.descriptors.proofs.fields_ok.Statement.{statement}
 use Rattle.descriptors.proofs.fields_ok.Tie as tie
 
 -- past each test what it tests holds
-class : (c : tie.Else1) → let a = c .before .before .before .before .before .args in leb (classOf (a .s .now) (a .at)) 5 ≡ true
+class : (c : tie.Else1) → let a = c .before .before .before .before .before .args in leb (classOf (a .list .now) (a .at)) 5 ≡ true
 class c = le-leb _ _ (c .if1 .left)
 
-encoding : (c : tie.Else2) → let a = c .before .before .before .before .before .before .args in leb (encodingOf (a .s .now) (a .at)) 20 ≡ true
+encoding : (c : tie.Else2) → let a = c .before .before .before .before .before .before .args in leb (encodingOf (a .list .now) (a .at)) 20 ≡ true
 encoding c = le-leb _ _ (c .if2 .left)
 
-size : (c : tie.Else3) → let a = c .before .before .before .before .before .before .before .before .before .args in leb (sizeOf (a .s .now) (a .at)) (mostSize (encodingOf (a .s .now) (a .at))) ≡ true
+size : (c : tie.Else3) → let a = c .before .before .before .before .before .before .before .before .before .args in leb (sizeOf (a .list .now) (a .at)) (mostSize (encodingOf (a .list .now) (a .at))) ≡ true
 size c = le-leb _ _ (rw (c .before .most-size .ensures) at (c .if3 .left))
 
-flag : (c : tie.Else4) → let a = c .before .before .before .before .before .before .before .before .before .before .before .before .args in leb (flagOf (a .s .now) (a .at)) (mostFlag (encodingOf (a .s .now) (a .at))) ≡ true
+flag : (c : tie.Else4) → let a = c .before .before .before .before .before .before .before .before .before .before .before .before .args in leb (flagOf (a .list .now) (a .at)) (mostFlag (encodingOf (a .list .now) (a .at))) ≡ true
 flag c = le-leb _ _ (rw (c .before .most-flag .ensures) at (c .if4 .left))
 
-present : (c : tie.Else5) → let a = c .before .before .before .before .before .before .before .before .before .before .before .before .before .before .args in leb (presentOf (a .s .now) (a .at)) (mostPresent (encodingOf (a .s .now) (a .at))) ≡ true
+present : (c : tie.Else5) → let a = c .before .before .before .before .before .before .before .before .before .before .before .before .before .before .args in leb (presentOf (a .list .now) (a .at)) (mostPresent (encodingOf (a .list .now) (a .at))) ≡ true
 present c = le-leb _ _ (rw (c .before .most-present .ensures) at (c .if5 .left))
 
-alternative : (c : tie.Else6) → let a = c .before .before .before .before .before .before .before .before .before .before .before .before .before .before .before .before .before .args in leb (altClassOf (a .s .now) (a .at)) (mostAlternative (presentOf (a .s .now) (a .at)) 5) ≡ true
+alternative : (c : tie.Else6) → let a = c .before .before .before .before .before .before .before .before .before .before .before .before .before .before .before .before .before .args in leb (altClassOf (a .list .now) (a .at)) (mostAlternative (presentOf (a .list .now) (a .at)) 5) ≡ true
 alternative c = le-leb _ _ (rw (c .before .most-alternative .ensures) at (c .if6 .left))
 
 returns : tie.Need-returns

@@ -19,11 +19,11 @@ abbrev μ-loop : tie.MeasureT-loop
 μ-loop s at₀ at = length s - at
 
 -- past the test the record at `at` is a descriptor
-ok : (c : tie.Else2 Inv-loop μ-loop) → descriptorOk (c .before .before .before .before .before .before .args .s .now) (c .before .before .before .loop .at) ≡ true
+ok : (c : tie.Else2 Inv-loop μ-loop) → descriptorOk (c .before .before .before .before .before .before .args .list .now) (c .before .before .before .loop .at) ≡ true
 ok c = sym (c .before .descriptor-ok .ensures) ∙ not-false _ (c .if2 .left)
 
-turn : (c : tie.Else2 Inv-loop μ-loop) → DescriptorIs (c .before .before .before .before .before .before .args .s .now) (c .before .before .before .loop .at)
-turn c = descriptor-is (c .before .before .before .before .before .before .args .s .now) (c .before .before .before .loop .at) (ok c)
+turn : (c : tie.Else2 Inv-loop μ-loop) → DescriptorIs (c .before .before .before .before .before .before .args .list .now) (c .before .before .before .loop .at)
+turn c = descriptor-is (c .before .before .before .before .before .before .args .list .now) (c .before .before .before .loop .at) (ok c)
 
 loop-holds : tie.Need-loop-holds Inv-loop μ-loop
 loop-holds c = (omega arith, descriptor-kept _ (c .if1 .left))
@@ -37,9 +37,9 @@ loop-again : tie.Need-loop-again Inv-loop μ-loop
 loop-again c =
     let t = c .before .before .before in
     let l = t .before in
-    let s = l .before .before .before .args .s .now in (
+    let s = l .before .before .before .args .list .now in (
       omega (arith, turn (c .before)),
-      rw (c .half-at .ensures .0) (l .loop .inv .1 ∙ layout-next (descriptorOk s) s (l .loop .at) (t .loop-test .taken) (ok (c .before)) (turn (c .before) .whole-at)),
+      rw (c .next .ensures .0) (l .loop .inv .1 ∙ layout-next (descriptorOk s) s (l .loop .at) (t .loop-test .taken) (ok (c .before)) (turn (c .before) .whole-at)),
     )
 
 returns-3 : tie.Need-returns-3 Inv-loop μ-loop
@@ -55,9 +55,7 @@ first-bad-descriptor-spec =
     loop-holds
     (λ c κs. search needs)
     returns-2
-    (λ c. search needs)
     (λ c κs. omega (arith, turn c))
-    (λ c. omega arith)
     (λ c. omega arith)
     loop-again
     returns-3)

@@ -15,16 +15,16 @@ use Rattle.descriptors.proofs.mnemonic_ok.Statement.{statement}
 use Rattle.descriptors.proofs.mnemonic_ok.Tie as tie
 
 -- past each test what it tests holds
-is-whole : (c : tie.Else1) → let a = c .before .before .before .args in whole (a .s .now) (a .at) ≡ true
+is-whole : (c : tie.Else1) → let a = c .before .before .before .args in whole (a .list .now) (a .at) ≡ true
 is-whole c = sym (c .before .whole-at .ensures) ∙ not-false _ (c .if1 .left)
 
-room : (c : tie.Else1) → let a = c .before .before .before .args in (a .at + 4 ≤ length (a .s .now)) × (next (a .s .now) (a .at) ≤ length (a .s .now))
-room c = let a = c .before .before .before .args in whole-is (a .s .now) (a .at) (is-whole c)
+room : (c : tie.Else1) → let a = c .before .before .before .args in (a .at + 4 ≤ length (a .list .now)) × (next (a .list .now) (a .at) ≤ length (a .list .now))
+room c = let a = c .before .before .before .args in whole-is (a .list .now) (a .at) (is-whole c)
 
-kind : (c : tie.Else2) → let a = c .before .before .before .before .before .before .args in eqb (kindAt (a .s .now) (a .at)) 32 ≡ true
+kind : (c : tie.Else2) → let a = c .before .before .before .before .before .before .args in eqb (kindAt (a .list .now) (a .at)) 32 ≡ true
 kind c = eq-eqb _ _ (sym (c .before .half-at2 .ensures .0) ∙ c .if2 .left)
 
-least : (c : tie.Else3) → let a = c .before .before .before .before .before .before .before .args in leb 8 (bodyLen (a .s .now) (a .at)) ≡ true
+least : (c : tie.Else3) → let a = c .before .before .before .before .before .before .before .args in leb 8 (bodyLen (a .list .now) (a .at)) ≡ true
 least c = le-leb _ _ (rw (c .before .before .before .half-at .ensures .0) at (c .if3 .left))
 
 returns : tie.Need-returns
@@ -54,9 +54,9 @@ returns-5 c =
     let k = l .before in
     let h = k .before .before .half-at in
     let a = k .before .before .before .before .before .before .args in
-    let n : a .at + 4 + h .result - (a .at + 12) ≡ bodyLen (a .s .now) (a .at) - 8 = omega (arith, h .ensures .0) in
+    let n : a .at + 4 + h .result - (a .at + 12) ≡ bodyLen (a .list .now) (a .at) - 8 = omega (arith, h .ensures .0) in
     simp (is-whole (k .before .before .before), kind k, least l, le-leb _ _ (rw (h .ensures .0) at (c .before .before .if4 .left)))
-    (c .all-text .ensures ∙ ap (λ (m : ℕ). all isText (part (a .s .now) (a .at + 12) m)) n)
+    (c .all-text .ensures ∙ ap (λ (m : ℕ). all isText (part (a .list .now) (a .at + 12) m)) n)
 
 pub mnemonic-ok-spec : {M : Type 1} → statement M
 mnemonic-ok-spec =

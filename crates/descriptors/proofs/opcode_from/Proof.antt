@@ -2,7 +2,7 @@
 use mathlib.Core.Path.{sym}
 use mathlib.Core.List.{[], _∷_}
 use Rattle.instructions.specs.declared.Opcode.the-variants.{Op, Func, Special, Algebra, Cop1, Cop1I}
-use Rattle.registers.specs.Past.{past-end}
+use Rattle.registers.specs.PastLaws.{past-end}
 use Rattle.descriptors.proofs.opcode_from.Statement.{statement}
 use Rattle.descriptors.proofs.opcode_from.Tie as tie
 

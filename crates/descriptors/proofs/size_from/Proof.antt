@@ -2,7 +2,7 @@
 use mathlib.Core.Path.{sym}
 use mathlib.Core.List.{[], _∷_}
 use Rattle.instructions.specs.declared.Size.the-variants.{Single, Double, Word}
-use Rattle.registers.specs.Past.{past-end}
+use Rattle.registers.specs.PastLaws.{past-end}
 use borrow.Author.Needs.{needs}
 use Rattle.descriptors.proofs.size_from.Statement.{statement}
 use Rattle.descriptors.proofs.size_from.Tie as tie

@@ -6,7 +6,7 @@ use mathlib.Core.List.{List}
 use lib.ListN.{length}
 use borrow.Author.Needs.{needs}
 use Rattle.emit_bytes.specs.Appended.{pairLen}
-use Rattle.emit_bytes.specs.AppendedLaws.{name-length}
+use Rattle.address_label.specs.LabelBytesLaws.{name-length}
 use Rattle.emit_bytes.proofs.pair_size.Statement.{statement}
 use Rattle.emit_bytes.proofs.pair_size.Tie as tie
 

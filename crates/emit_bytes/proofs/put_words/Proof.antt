@@ -6,9 +6,9 @@ use mathlib.Core.List.{[], _++_, List, map}
 use lib.ListN.{getD, length-map, length, take}
 use borrow.Author.Needs.{needs}
 use Rattle.emit_pairs.specs.declared.InstructionPair.{InstructionPair}
-use Rattle.stores.specs.Stores.{append}
+use Rattle.record.specs.Stores.{append}
 use Rattle.emit_bytes.specs.Appended.{wordBytes}
-use Rattle.stores.specs.StoresLaws.{append-none, append-then}
+use Rattle.record.specs.StoresLaws.{append-none, append-then}
 use Rattle.emit_bytes.specs.AppendedLaws.{wordOf, word-length, words-upto, words-next}
 use Rattle.emit_bytes.proofs.put_words.Statement.{statement}
 use Rattle.emit_bytes.proofs.put_words.Tie as tie

@@ -5,7 +5,7 @@ use lib.ListN.{length-map, length, getD}
 use borrow.Author.Needs.{needs}
 use Rattle.emit_pairs.specs.Pairs.{plain}
 use Rattle.emit_pairs.specs.declared.InstructionPair.{InstructionPair}
-use Rattle.stores.specs.Stores.{le32Bytes}
+use Rattle.record.specs.Stores.{le32Bytes}
 use Rattle.emit_bytes.proofs.Lists.{tab, spelled}
 use Rattle.emit_bytes.proofs.words_of.Statement.{statement}
 use Rattle.emit_bytes.proofs.words_of.Tie as tie

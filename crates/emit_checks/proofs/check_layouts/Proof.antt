@@ -7,7 +7,8 @@ use Rattle.lexer.specs.Tokens.{tokenLayout}
 use Rattle.descriptors.specs.Mnemonics.{mnemonicLayout}
 use Rattle.descriptors.specs.Descriptors.{descriptorLayout}
 use Rattle.breakpoints.specs.Breakpoints.{dataBufferLayout, pendingBufferLayout, breakpointBufferLayout}
-use Rattle.emit_checks.specs.ChecksLaws.{token-place, mnemonic-place, descriptor-place, data-place, pending-place, breakpoint-place, layouts-are}
+use Rattle.emit_checks.specs.PlacesLaws.{token-place, mnemonic-place, descriptor-place, data-place, pending-place, breakpoint-place}
+use Rattle.emit_checks.specs.ListsLaws.{layouts-are}
 use Rattle.emit_checks.proofs.check_layouts.Statement.{statement}
 use Rattle.emit_checks.proofs.check_layouts.Tie as tie
 
@@ -30,10 +31,10 @@ bad-descriptor c = sym (c .before .before .first-bad-descriptor .ensures) ∙ c 
 good-descriptor : (c : tie.After-enum-told3) → let a = c .before .before .before .before .before .before .before .before .before .before .before .before .before .before .before .args in descriptorLayout (a .descriptors .now) ≡ Good
 good-descriptor c = sym (c .before .before .first-bad-descriptor .ensures) ∙ c .enum-told3 .given .1
 
-bad-data : (c : tie.After-place4) → let a = c .before .before .before .before .before .before .before .before .before .before .before .before .before .before .before .before .before .before .before .args in dataBufferLayout (a .region) (a .counts .region) (a .«data» .now) ≡ Bad (c .place4 .given .0 .0)
+bad-data : (c : tie.After-place4) → let a = c .before .before .before .before .before .before .before .before .before .before .before .before .before .before .before .before .before .before .before .args in dataBufferLayout (a .region) (a .counts .«data_len») (a .«data» .now) ≡ Bad (c .place4 .given .0 .0)
 bad-data c = sym (c .before .before .check-data-buffer .ensures) ∙ c .place4 .given .1
 
-good-data : (c : tie.After-enum-told4) → let a = c .before .before .before .before .before .before .before .before .before .before .before .before .before .before .before .before .before .before .before .args in dataBufferLayout (a .region) (a .counts .region) (a .«data» .now) ≡ Good
+good-data : (c : tie.After-enum-told4) → let a = c .before .before .before .before .before .before .before .before .before .before .before .before .before .before .before .before .before .before .before .args in dataBufferLayout (a .region) (a .counts .«data_len») (a .«data» .now) ≡ Good
 good-data c = sym (c .before .before .check-data-buffer .ensures) ∙ c .enum-told4 .given .1
 
 bad-pending : (c : tie.After-place5) → let a = c .before .before .before .before .before .before .before .before .before .before .before .before .before .before .before .before .before .before .before .before .before .before .before .args in pendingBufferLayout (a .counts .pending) (a .pending .now) ≡ Bad (c .place5 .given .0 .0)
@@ -51,20 +52,20 @@ good-breakpoint c = sym (c .before .before .check-breakpoint-buffer .ensures) �
 returns-2 : tie.Need-returns-2
 returns-2 c =
     let e₀ = c .before .before .before .before in
-    sym (layouts-are _ (good-token e₀) (bad-mnemonic (c .before)) refl refl refl refl)
+    sym (layouts-are _ _ _ _ _ _ (good-token e₀) (bad-mnemonic (c .before)) refl refl refl refl)
 
 returns-3 : tie.Need-returns-3
 returns-3 c =
     let e₁ = c .before .before .before .before in
     let e₀ = e₁ .before .before .before in
-    sym (layouts-are _ (good-token e₀) (good-mnemonic e₁) (bad-descriptor (c .before)) refl refl refl)
+    sym (layouts-are _ _ _ _ _ _ (good-token e₀) (good-mnemonic e₁) (bad-descriptor (c .before)) refl refl refl)
 
 returns-4 : tie.Need-returns-4
 returns-4 c =
     let e₂ = c .before .before .before .before .before in
     let e₁ = e₂ .before .before .before in
     let e₀ = e₁ .before .before .before in
-    sym (layouts-are _ (good-token e₀) (good-mnemonic e₁) (good-descriptor e₂) (bad-data (c .before)) refl refl)
+    sym (layouts-are _ _ _ _ _ _ (good-token e₀) (good-mnemonic e₁) (good-descriptor e₂) (bad-data (c .before)) refl refl)
 
 returns-5 : tie.Need-returns-5
 returns-5 c =
@@ -72,7 +73,7 @@ returns-5 c =
     let e₂ = e₃ .before .before .before .before in
     let e₁ = e₂ .before .before .before in
     let e₀ = e₁ .before .before .before in
-    sym (layouts-are _ (good-token e₀) (good-mnemonic e₁) (good-descriptor e₂) (good-data e₃) (bad-pending (c .before)) refl)
+    sym (layouts-are _ _ _ _ _ _ (good-token e₀) (good-mnemonic e₁) (good-descriptor e₂) (good-data e₃) (bad-pending (c .before)) refl)
 
 returns-6 : tie.Need-returns-6
 returns-6 c =
@@ -81,7 +82,7 @@ returns-6 c =
     let e₂ = e₃ .before .before .before .before in
     let e₁ = e₂ .before .before .before in
     let e₀ = e₁ .before .before .before in
-    sym (layouts-are _ (good-token e₀) (good-mnemonic e₁) (good-descriptor e₂) (good-data e₃) (good-pending e₄) (bad-breakpoint (c .before)))
+    sym (layouts-are _ _ _ _ _ _ (good-token e₀) (good-mnemonic e₁) (good-descriptor e₂) (good-data e₃) (good-pending e₄) (bad-breakpoint (c .before)))
 
 returns-7 : tie.Need-returns-7
 returns-7 c =
@@ -90,7 +91,7 @@ returns-7 c =
     let e₂ = e₃ .before .before .before .before in
     let e₁ = e₂ .before .before .before in
     let e₀ = e₁ .before .before .before in
-    sym (layouts-are _ (good-token e₀) (good-mnemonic e₁) (good-descriptor e₂) (good-data e₃) (good-pending e₄) (good-breakpoint c))
+    sym (layouts-are _ _ _ _ _ _ (good-token e₀) (good-mnemonic e₁) (good-descriptor e₂) (good-data e₃) (good-pending e₄) (good-breakpoint c))
 
 pub check-layouts-spec : {M : Type 1} → statement M
 check-layouts-spec =
@@ -99,7 +100,7 @@ check-layouts-spec =
     (λ c κs. search needs)
     (λ c. search needs)
     (λ c. omega (arith, token-place _ _ (bad-token (c .before))))
-    (λ c. sym (layouts-are _ (bad-token (c .before)) refl refl refl refl refl))
+    (λ c. sym (layouts-are _ _ _ _ _ _ (bad-token (c .before)) refl refl refl refl refl))
     (λ c. search needs)
     (λ c κs. search needs)
     (λ c. search needs)

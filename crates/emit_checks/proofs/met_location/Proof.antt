@@ -1,6 +1,6 @@
 -- The two cases of `metLocation`. Assumes nothing.
 use borrow.Author.Tests.{eq-eqb, ne-eqb}
-use Rattle.emit_outcome.specs.Emit.{metLocation}
+use Rattle.emit_outcome.specs.Checks.{metLocation}
 use Rattle.emit_checks.proofs.met_location.Statement.{statement}
 use Rattle.emit_checks.proofs.met_location.Tie as tie
 

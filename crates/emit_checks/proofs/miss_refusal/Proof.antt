@@ -1,6 +1,6 @@
 -- Each arm is the case of `missRefusal` at that miss, with the location that `met_location` gives. Assumes nothing.
 use borrow.Author.Needs.{needs}
-use Rattle.emit_outcome.specs.Emit.{missRefusal}
+use Rattle.emit_outcome.specs.Checks.{missRefusal}
 use Rattle.emit_checks.proofs.miss_refusal.Statement.{statement}
 use Rattle.emit_checks.proofs.miss_refusal.Tie as tie
 

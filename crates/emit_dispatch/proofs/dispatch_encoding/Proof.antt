@@ -1,157 +1,45 @@
--- `dispatch_encoding` meets its contract: each encoding has the line of its function. Assumes nothing.
-use Rattle.emit_lines.specs.Encodings.{encodingLine}
+-- The operands are read once, and the answer and the words are made of what they hold. Assumes nothing.
+use mathlib.Core.Path.{refl, ap, _∙_}
+use Rattle.lexer.specs.Tokens.{tokens}
+use Rattle.operand_list.specs.OperandLists.{readOperands}
+use Rattle.operand_list.specs.HeldOperandsLaws.{asked-as}
+use Rattle.emit_dispatch.specs.Wants.{encodingWants}
+use Rattle.emit_dispatch.specs.Lines.{encodingRange, encodingPairs, rangeAnswer, encodingLine}
+use Rattle.emit_dispatch.specs.LinesLaws.{line-missed, line-read}
 use borrow.Author.Needs.{needs}
 use Rattle.emit_dispatch.proofs.dispatch_encoding.Statement.{statement}
 use Rattle.emit_dispatch.proofs.dispatch_encoding.Tie as tie
 
 returns : tie.Need-returns
 unfolding encodingLine
-returns c = rw (c .before .enum-told .given .1) (c .do-register-instruction .ensures)
+returns c =
+    let b = c .before .before .before .before .before in
+    let a = b .before .before .before .args in
+    let w = encodingWants (a .encoding) in
+    line-missed w (readOperands w (tokens (a .list .now)) (a .from .index)) (asked-as (a .from .index) (b .before .encoding-wants .ensures) (b .read-operands .ensures))
+    (encodingRange (a .encoding)) (encodingPairs (a .encoding) (a .op)) _ (c .before .before .given .given .1) refl (c .none .ensures)
 
 returns-2 : tie.Need-returns-2
 unfolding encodingLine
-returns-2 c = rw (c .before .enum-told2 .given .1) (c .do-register-shift-instruction .ensures)
-
-returns-3 : tie.Need-returns-3
-unfolding encodingLine
-returns-3 c = rw (c .before .enum-told3 .given .1) (c .do-source-instruction .ensures)
-
-returns-4 : tie.Need-returns-4
-unfolding encodingLine
-returns-4 c = rw (c .before .enum-told4 .given .1) (c .do-destination-instruction .ensures)
-
-returns-5 : tie.Need-returns-5
-unfolding encodingLine
-returns-5 c = rw (c .before .enum-told5 .given .1) (c .do-inputs-instruction .ensures)
-
-returns-6 : tie.Need-returns-6
-unfolding encodingLine
-returns-6 c = rw (c .before .enum-told6 .given .1) (c .do-sham-instruction .ensures)
-
-returns-7 : tie.Need-returns-7
-unfolding encodingLine
-returns-7 c = rw (c .before .enum-told7 .given .1) (c .do-special-branch-instruction .ensures)
-
-returns-8 : tie.Need-returns-8
-unfolding encodingLine
-returns-8 c = rw (c .before .before .encoding .given .1) (c .do-immediate-instruction .ensures)
-
-returns-9 : tie.Need-returns-9
-unfolding encodingLine
-returns-9 c = rw (c .before .enum-told8 .given .1) (c .do-load-immediate-instruction .ensures)
-
-returns-10 : tie.Need-returns-10
-unfolding encodingLine
-returns-10 c = rw (c .before .enum-told9 .given .1) (c .do-jump-instruction .ensures)
-
-returns-11 : tie.Need-returns-11
-unfolding encodingLine
-returns-11 c = rw (c .before .enum-told10 .given .1) (c .do-branch-instruction .ensures)
-
-returns-12 : tie.Need-returns-12
-unfolding encodingLine
-returns-12 c = rw (c .before .enum-told11 .given .1) (c .do-branch-zero-instruction .ensures)
-
-returns-13 : tie.Need-returns-13
-unfolding encodingLine
-returns-13 c = rw (c .before .enum-told12 .given .1) (c .do-parameterless-instruction .ensures)
-
-returns-14 : tie.Need-returns-14
-unfolding encodingLine
-returns-14 c = rw (c .before .enum-told13 .given .1) (c .do-offset-instruction .ensures)
-
-returns-15 : tie.Need-returns-15
-unfolding encodingLine
-returns-15 c = rw (c .before .enum-told14 .given .1) (c .do-fp-offset-instruction .ensures)
-
-returns-16 : tie.Need-returns-16
-unfolding encodingLine
-returns-16 c = rw (c .before .before .encoding2 .given .1) (c .do-fp-three-register-instruction .ensures)
-
-returns-17 : tie.Need-returns-17
-unfolding encodingLine
-returns-17 c = rw (c .before .before .encoding3 .given .1) (c .do-fp-2register-instruction .ensures)
-
-returns-18 : tie.Need-returns-18
-unfolding encodingLine
-returns-18 c = rw (c .before .before .encoding4 .given .1) (c .do-fp-move-instruction .ensures)
-
-returns-19 : tie.Need-returns-19
-unfolding encodingLine
-returns-19 c = rw (c .before .before .encoding5 .given .1) (c .do-fp-cond-instruction .ensures)
-
-returns-20 : tie.Need-returns-20
-unfolding encodingLine
-returns-20 c = rw (c .before .before .encoding6 .given .1) (c .do-fp-cross-move-instruction .ensures)
-
-returns-21 : tie.Need-returns-21
-unfolding encodingLine
-returns-21 c = rw (c .before .before .encoding7 .given .1) (c .do-fp-branch-instruction .ensures)
+returns-2 c =
+    let b = c .before .before .before .before .before .before .before in
+    let a = b .before .before .before .args in
+    let w = encodingWants (a .encoding) in
+    line-read w (readOperands w (tokens (a .list .now)) (a .from .index)) (asked-as (a .from .index) (b .before .encoding-wants .ensures) (b .read-operands .ensures))
+    (encodingRange (a .encoding)) (encodingPairs (a .encoding) (a .op)) _ (c .before .before .before .before .given2 .given .1)
+    (c .before .range-answer .ensures ∙ ap rangeAnswer (c .before .before .encoding-range .ensures)) (c .encoding-pairs .ensures)
 
 pub dispatch-encoding-spec : {M : Type 1} → statement M
 dispatch-encoding-spec =
     tie.close
     (tie.spec
-    (λ c. search needs)
+    (λ c κs. search needs)
     (λ c κs. search needs)
     (λ c. search needs)
     (λ c κs. search needs)
     (λ c. search needs)
     (λ c κs. search needs)
-    (λ c. search needs)
     (λ c κs. search needs)
-    (λ c. search needs)
-    (λ c κs. search needs)
-    (λ c. search needs)
-    (λ c κs. search needs)
-    (λ c. search needs)
-    (λ c κs. search needs)
-    (λ c. search needs)
-    (λ c κs. search needs)
-    (λ c. search needs)
-    (λ c κs. search needs)
-    (λ c. search needs)
-    (λ c κs. search needs)
-    (λ c. search needs)
-    (λ c κs. search needs)
-    (λ c. search needs)
-    (λ c κs. search needs)
-    (λ c. search needs)
-    (λ c κs. search needs)
-    (λ c. search needs)
-    (λ c κs. search needs)
-    (λ c. search needs)
-    (λ c κs. search needs)
-    (λ c. search needs)
-    (λ c κs. search needs)
-    (λ c. search needs)
-    (λ c κs. search needs)
-    (λ c. search needs)
-    (λ c κs. search needs)
-    (λ c. search needs)
-    (λ c κs. search needs)
-    (λ c. search needs)
-    (λ c κs. search needs)
-    (λ c. search needs)
     (λ c κs. search needs)
     returns
-    returns-2
-    returns-3
-    returns-4
-    returns-5
-    returns-6
-    returns-7
-    returns-8
-    returns-9
-    returns-10
-    returns-11
-    returns-12
-    returns-13
-    returns-14
-    returns-15
-    returns-16
-    returns-17
-    returns-18
-    returns-19
-    returns-20
-    returns-21)
+    returns-2)

@@ -1,15 +1,21 @@
--- `do_abs_instruction` meets its contract: two registers, and the words of `abs_pairs`. Assumes nothing.
-use Rattle.emit_lines.specs.LinesLaws.{line-as}
+-- Three words, one after another. Assumes nothing.
+use native.Mathlib.Omega.{arith}
+use Rattle.emit_pairs.specs.Pairs.{plain}
+use Rattle.emit_pairs.specs.PairsLaws.{emit-as}
+use Rattle.emit_pairs.specs.ValuesLaws.{count-one, emit-two}
 use borrow.Author.Needs.{needs}
-use Rattle.emit_pseudo.specs.Pseudos.{pseudoLine}
 use Rattle.emit_pseudo.proofs.do_abs_instruction.Statement.{statement}
 use Rattle.emit_pseudo.proofs.do_abs_instruction.Tie as tie
 
+push-requires-2 : tie.Need-push-requires-2
+push-requires-2 c κs = omega (arith, count-one (plain (c .before .before .before .register-word .result)) (c .before .with .ensures) (c .push .ensures))
+
 returns : tie.Need-returns
-unfolding pseudoLine
 returns c =
-    line-as (c .before .before .before .before .before .read-operands .ensures) (c .before .abs-pairs .ensures) (c .line-of .ensures)
-    (rw (c .before .before .slot-in2 .ensures, c .before .before .before .slot-in .ensures, c .before .before .before .before .before .read-operands .ensures .operands-are))
+    let w = c .before .before .before in
+    emit-as
+    (emit-two (plain (w .before .register-word .result)) (c .before .before .with .ensures) (c .before .push .ensures) (plain (w .register-word2 .result)) (c .push2 .ensures))
+    (rw (w .register-word2 .ensures, w .before .register-word .ensures, w .before .before .abs-first-word .ensures, w .before .before .before .slot-in2 .ensures, w .before .before .before .before .slot-in .ensures))
 
 pub do-abs-instruction-spec : {M : Type 1} → statement M
 do-abs-instruction-spec =
@@ -20,4 +26,7 @@ do-abs-instruction-spec =
     (λ c κs. search needs)
     (λ c κs. search needs)
     (λ c κs. search needs)
+    (λ c κs. search needs)
+    (λ c κs. search needs)
+    push-requires-2
     returns)

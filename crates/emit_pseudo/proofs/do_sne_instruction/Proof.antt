@@ -1,17 +1,34 @@
--- `do_sne_instruction` meets its contract: two registers and a value, and the words of `difference_pairs`. Assumes nothing.
-use Rattle.emit_lines.specs.LinesLaws.{line-as}
+-- subu and sltu stand behind the at most two words that load the last operand. Assumes nothing.
+use Rattle.emit_pairs.specs.Pairs.{plain}
+use Rattle.emit_pairs.specs.PairsLaws.{emit-as}
+use Rattle.emit_pairs.specs.ValuesLaws.{value-length, count-one, emit-two}
+use native.Mathlib.Omega.{arith}
 use borrow.Author.Needs.{needs}
-use Rattle.emit_pseudo.specs.Pseudos.{pseudoLine}
 use Rattle.emit_pseudo.proofs.do_sne_instruction.Statement.{statement}
 use Rattle.emit_pseudo.proofs.do_sne_instruction.Tie as tie
 
+push-requires : tie.Need-push-requires
+push-requires c κs = omega (arith, c .before .before .before .before .before .unpack-value .ensures .1 .count-is, value-length (c .before .before .before .before .before .before .value-in .result))
+
+push-requires-2 : tie.Need-push-requires-2
+push-requires-2 c κs = omega (arith, count-one (plain (c .before .before .before .register-word .result)) (c .before .before .before .before .before .before .unpack-value .ensures .1) (c .push .ensures), value-length (c .before .before .before .before .before .before .before .value-in .result))
+
 returns : tie.Need-returns
-unfolding pseudoLine
 returns c =
-    line-as (c .before .before .before .read-operands .ensures) (c .before .difference-pairs .ensures) (c .line-of .ensures)
-    (rw (c .before .before .before .read-operands .ensures .operands-are))
+    emit-as
+    (emit-two (plain (c .before .before .before .before .register-word .result)) (c .before .before .before .before .before .before .before .unpack-value .ensures .1) (c .before .push .ensures) (plain (c .before .before .before .register-word2 .result)) (c .push2 .ensures))
+    (rw (c .before .before .before .register-word2 .ensures, c .before .before .before .before .register-word .ensures, c .before .before .before .before .before .slot-in2 .ensures, c .before .before .before .before .before .before .slot-in .ensures, c .before .before .before .before .before .before .before .unpack-value .ensures .0, c .before .before .before .before .before .before .before .before .value-in .ensures))
 
 pub do-sne-instruction-spec : {M : Type 1} → statement M
 do-sne-instruction-spec =
     tie.close
-    (tie.spec (λ c κs. search needs) (λ c κs. search needs) (λ c κs. search needs) returns)
+    (tie.spec
+    (λ c κs. search needs)
+    (λ c κs. search needs)
+    (λ c κs. search needs)
+    (λ c κs. search needs)
+    (λ c κs. search needs)
+    (λ c κs. search needs)
+    push-requires
+    push-requires-2
+    returns)

@@ -7,7 +7,7 @@ use Rattle.emit_words.proofs.fp_3_register_word.Tie as tie
 returns : tie.Need-returns
 returns c =
     let a = c .before .before .before .before .before .before .args in
-    is-laid (with-fp-fmt (with-fp-temp (with-fp-source (with-fp-dest (base (a .op)) (a .dest)) (a .source)) (a .temp)) (a .fmt)) (cc)
+    is-laid (with-fp-fmt (with-fp-temp (with-fp-source (with-fp-dest (base (a .op)) (a .fields .dest)) (a .fields .source)) (a .fields .temp)) (a .fmt)) (cc)
 
 pub fp-3-register-word-spec : {M : Type 1} → statement M
 fp-3-register-word-spec =

@@ -8,7 +8,7 @@ use Rattle.emit_words.proofs.fp_branch_word.Tie as tie
 returns : tie.Need-returns
 returns c =
     let a = c .before .before .before .before .args in
-    is-laid (spill-rt (base (a .op)) (codeBits (a .cc) (a .flag)) (code-lt (a .cc) (a .flag))) (cc)
+    is-laid (spill-rt (base (a .op)) (codeBits (a .code) (a .flag)) (code-lt (a .code) (a .flag))) (cc)
 
 pub fp-branch-word-spec : {M : Type 1} → statement M
 fp-branch-word-spec =

@@ -9,7 +9,7 @@ use Rattle.emit_words.proofs.fp_cond_word.Tie as tie
 returns : tie.Need-returns
 returns c =
     let a = c .before .before .before .before .before .before .before .args in
-    is-laid (with-fp-fmt (with-fp-temp (with-fp-source (spill-sa (base (a .op)) (codeBits (a .cc) false) (code-lt (a .cc) false)) (a .source)) (a .target)) (a .fmt)) (cc)
+    is-laid (with-fp-fmt (with-fp-temp (with-fp-source (spill-sa (base (a .op)) (codeBits (a .fields .code) false) (code-lt (a .fields .code) false)) (a .fields .source)) (a .fields .target)) (a .fmt)) (cc)
 
 pub fp-cond-word-spec : {M : Type 1} → statement M
 fp-cond-word-spec =

@@ -7,7 +7,7 @@ use Rattle.emit_words.proofs.fp_immediate_word.Tie as tie
 returns : tie.Need-returns
 returns c =
     let a = c .before .before .before .before .before .args in
-    is-immediate (with-fp-temp (with-source (base (a .op)) (a .source)) (a .temp)) (a .imm) (cc)
+    is-immediate (with-fp-temp (with-source (base (a .op)) (a .fields .source)) (a .fields .temp)) (a .fields .immediate) (cc)
 
 pub fp-immediate-word-spec : {M : Type 1} → statement M
 fp-immediate-word-spec =

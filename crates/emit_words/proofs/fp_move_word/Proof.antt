@@ -8,7 +8,7 @@ use Rattle.emit_words.proofs.fp_move_word.Tie as tie
 returns : tie.Need-returns
 returns c =
     let a = c .before .before .before .before .before .before .before .args in
-    is-laid (with-fp-fmt (spill-rt (with-fp-source (with-fp-dest (base (a .op)) (a .dest)) (a .source)) (codeBits (a .cc) (a .flag)) (code-lt (a .cc) (a .flag))) (a .fmt)) (cc)
+    is-laid (with-fp-fmt (spill-rt (with-fp-source (with-fp-dest (base (a .op)) (a .fields .dest)) (a .fields .source)) (codeBits (a .fields .code) (a .fields .flag)) (code-lt (a .fields .code) (a .fields .flag))) (a .fmt)) (cc)
 
 pub fp-move-word-spec : {M : Type 1} → statement M
 fp-move-word-spec =

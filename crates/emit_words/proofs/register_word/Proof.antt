@@ -7,7 +7,7 @@ use Rattle.emit_words.proofs.register_word.Tie as tie
 returns : tie.Need-returns
 returns c =
     let a = c .before .before .before .before .before .args in
-    is-laid (with-temp (with-source (with-dest (base (a .op)) (a .dest)) (a .source)) (a .temp)) (cc)
+    is-laid (with-temp (with-source (with-dest (base (a .op)) (a .fields .dest)) (a .fields .source)) (a .fields .temp)) (cc)
 
 pub register-word-spec : {M : Type 1} → statement M
 register-word-spec =

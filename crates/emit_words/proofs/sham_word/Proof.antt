@@ -8,7 +8,7 @@ use Rattle.emit_words.proofs.sham_word.Tie as tie
 returns : tie.Need-returns
 returns c =
     let a = c .before .before .before .before .before .args in
-    is-laid (spill-sa (with-temp (with-dest (base (a .op)) (a .dest)) (a .temp)) (a .sham) (omega arith)) (cc)
+    is-laid (spill-sa (with-temp (with-dest (base (a .op)) (a .fields .dest)) (a .fields .temp)) (a .fields .sham) (omega arith)) (cc)
 
 pub sham-word-spec : {M : Type 1} → statement M
 sham-word-spec =

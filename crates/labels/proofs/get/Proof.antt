@@ -9,16 +9,16 @@ use Rattle.labels.proofs.get.Statement.{statement}
 use Rattle.labels.proofs.get.Tie as tie
 
 -- the record that is found is a label
-found : (c : tie.After-known-told) → LabelIs (c .before .before .before .before .before .before .args .labels .now) (c .before .p .given .0 .0)
+found : (c : tie.After-known-told) → LabelIs (c .before .before .before .before .before .before .args .labels .now) (c .before .at .given .0 .0)
 found c =
     let a = c .before .before .before .before .before .before in
-    found-label (a .args .labels .now) (a .args .name .now) (c .before .p .given .0 .0) (a .pre) (sym (c .before .before .before .find-named .ensures) ∙ c .before .p .given .1)
+    found-label (a .args .labels .now) (a .args .name .now) (c .before .at .given .0 .0) (a .pre) (sym (c .before .before .before .find-named .ensures) ∙ c .before .at .given .1)
 
 returns : tie.Need-returns
 returns c =
     let a = c .before .before .before .before .before .before .before .args in
     let f = c .before .before .before .before .find-named in
-    ap Known (c .word-at .ensures) ∙ sym (resolve-is (a .labels .now) (a .name .now) (At (c .before .before .p .given .0 .0)) (sym (c .before .before .p .given .1) ∙ f .ensures))
+    ap Known (c .word-at .ensures) ∙ sym (resolve-is (a .labels .now) (a .name .now) (At (c .before .before .at .given .0 .0)) (sym (c .before .before .at .given .1) ∙ f .ensures))
 
 returns-2 : tie.Need-returns-2
 returns-2 c =

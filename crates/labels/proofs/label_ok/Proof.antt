@@ -10,22 +10,22 @@ use borrow.Author.Tests.{le-leb, lt-leb, eq-eqb, ne-eqb, not-true, not-false}
 use Rattle.record.specs.Bytes.{all, isText}
 use Rattle.record.specs.Records.{bodyLen, kindAt, next, whole}
 use Rattle.record.specs.RecordsLaws.{whole-is}
-use Rattle.names.specs.NamesLaws.{name-part}
+use Rattle.names.specs.NamesLaws.{name-is}
 use Rattle.labels.specs.Labels.{labelOk}
 use Rattle.labels.proofs.label_ok.Statement.{statement}
 use Rattle.labels.proofs.label_ok.Tie as tie
 
 -- past each test what it tests holds
-is-whole : (c : tie.Else1) → let a = c .before .before .before .args in whole (a .s .now) (a .at) ≡ true
+is-whole : (c : tie.Else1) → let a = c .before .before .before .args in whole (a .labels .now) (a .at) ≡ true
 is-whole c = sym (c .before .whole-at .ensures) ∙ not-false _ (c .if1 .left)
 
-room : (c : tie.Else1) → let a = c .before .before .before .args in (a .at + 4 ≤ length (a .s .now)) × (next (a .s .now) (a .at) ≤ length (a .s .now))
-room c = let a = c .before .before .before .args in whole-is (a .s .now) (a .at) (is-whole c)
+room : (c : tie.Else1) → let a = c .before .before .before .args in (a .at + 4 ≤ length (a .labels .now)) × (next (a .labels .now) (a .at) ≤ length (a .labels .now))
+room c = let a = c .before .before .before .args in whole-is (a .labels .now) (a .at) (is-whole c)
 
-kind : (c : tie.Else2) → let a = c .before .before .before .before .before .before .args in eqb (kindAt (a .s .now) (a .at)) 34 ≡ true
+kind : (c : tie.Else2) → let a = c .before .before .before .before .before .before .args in eqb (kindAt (a .labels .now) (a .at)) 34 ≡ true
 kind c = eq-eqb _ _ (sym (c .before .half-at2 .ensures .0) ∙ c .if2 .left)
 
-least : (c : tie.Else3) → let a = c .before .before .before .before .before .before .before .args in leb 5 (bodyLen (a .s .now) (a .at)) ≡ true
+least : (c : tie.Else3) → let a = c .before .before .before .before .before .before .before .args in leb 5 (bodyLen (a .labels .now) (a .at)) ≡ true
 least c = le-leb _ _ (rw (c .before .before .before .half-at .ensures .0) at (c .if3 .left))
 
 returns : tie.Need-returns
@@ -51,12 +51,12 @@ returns-4 c =
 returns-5 : tie.Need-returns-5
 unfolding labelOk
 returns-5 c =
-    let l = c .before .before .before in
+    let e = c .before .before in
+    let l = e .before .before in
     let k = l .before in
-    let h = k .before .before .half-at in
     let a = k .before .before .before .before .before .before .args in
-    simp (is-whole (k .before .before .before), kind k, least l, le-leb _ _ (rw (h .ensures .0) at (c .before .before .if4 .left)))
-    (c .all-text .ensures ∙ ap (all isText) (name-part 4 (a .s .now) (a .at) (h .result) _ (h .ensures .0) (omega arith)))
+    simp (is-whole (k .before .before .before), kind k, least l, le-leb _ _ (rw (k .before .before .half-at .ensures .0) at (e .before .if4 .left)))
+    (c .all-text .ensures ∙ ap (all isText) (name-is 4 (a .labels .now) (a .at) (e .next .result) _ (e .next .ensures .0) (omega arith)))
 
 pub label-ok-spec : {M : Type 1} → statement M
 label-ok-spec =
@@ -70,11 +70,10 @@ label-ok-spec =
     returns-2
     returns-3
     returns-4
+    (λ c κs. omega (arith, room (c .before .before .before .before .before)))
     (λ c. search needs)
     (λ c. search needs)
     (λ c. search needs)
-    (λ c. search needs)
-    (λ c. search needs)
-    (λ c. omega (arith, room (c .before .before .before .before .before)))
+    (λ c. omega (arith, room (c .before .before .before .before .before .before)))
     (λ c κs. search needs)
     returns-5)

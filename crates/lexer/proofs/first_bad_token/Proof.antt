@@ -19,13 +19,13 @@ abbrev μ-loop : tie.MeasureT-loop
 μ-loop s at₀ at = length s - at
 
 -- the record at `at` is a token
-passed : (c : tie.Else2 Inv-loop μ-loop) → let a = c .before .before .before .before .before .before .args in tokenOk (a .s .now) (c .before .before .before .loop .at) ≡ true
+passed : (c : tie.Else2 Inv-loop μ-loop) → let a = c .before .before .before .before .before .before .args in tokenOk (a .list .now) (c .before .before .before .loop .at) ≡ true
 passed c = sym (c .before .token-ok .ensures) ∙ not-false _ (c .if2 .left)
 
-token : (c : tie.Else2 Inv-loop μ-loop) → TokenIs (c .before .before .before .before .before .before .args .s .now) (c .before .before .before .loop .at)
+token : (c : tie.Else2 Inv-loop μ-loop) → TokenIs (c .before .before .before .before .before .before .args .list .now) (c .before .before .before .loop .at)
 token c =
     let a = c .before .before .before .before .before .before .args in
-    token-is (a .s .now) (c .before .before .before .loop .at) (passed c)
+    token-is (a .list .now) (c .before .before .before .loop .at) (passed c)
 
 returns : tie.Need-returns Inv-loop μ-loop
 returns c = sym (token-passed _ (c .if1 .taken))
@@ -38,19 +38,16 @@ returns-2 c =
     let l = c .before .before .before in
     sym (l .loop .inv .1 ∙ layout-bad (tokenOk _) _ (l .loop .at) (c .before .before .loop-test .taken) (sym (c .before .token-ok .ensures) ∙ not-true _ (c .if2 .taken)))
 
-half-at-requires : tie.Need-half-at-requires Inv-loop μ-loop
-half-at-requires c κs = omega (arith, token c)
-
-add-at-2 : tie.Need-add-at-2 Inv-loop μ-loop
-add-at-2 c = omega (arith, c .half-at .ensures .1)
+next-requires : tie.Need-next-requires Inv-loop μ-loop
+next-requires c κs = omega (arith, token c)
 
 loop-again : tie.Need-loop-again Inv-loop μ-loop
 loop-again c =
     let l = c .before .before .before .before in
     let a = l .before .before .before .args in
-    let n = c .half-at .ensures .0 in (
+    let n = c .next .ensures .0 in (
       omega (arith, token (c .before), n),
-      rw n (l .loop .inv .1 ∙ layout-next (tokenOk (a .s .now)) (a .s .now) (l .loop .at) (c .before .before .before .loop-test .taken) (passed (c .before)) (token (c .before) .whole-at)),
+      rw n (l .loop .inv .1 ∙ layout-next (tokenOk (a .list .now)) (a .list .now) (l .loop .at) (c .before .before .before .loop-test .taken) (passed (c .before)) (token (c .before) .whole-at)),
     )
 
 returns-3 : tie.Need-returns-3 Inv-loop μ-loop
@@ -66,9 +63,7 @@ first-bad-token-spec =
     loop-holds
     (λ c κs. search needs)
     returns-2
-    (λ c. search needs)
-    half-at-requires
-    add-at-2
+    next-requires
     (λ c. omega arith)
     loop-again
     returns-3)

@@ -1,45 +1,35 @@
--- Each return is the case of `payloadOf` at the first test that holds. Assumes nothing.
-use borrow.Author.Tests.{eq-eqb, ne-eqb, le-leb, lt-leb}
-use Rattle.lexer.specs.Tokens.{payloadOf}
+-- Each arm's numbers stand in the list of payloads, and `_` is past it. Assumes nothing.
+use Prim.Native.Nat.{ℕ}
+use mathlib.Core.Path.{_≡_, refl, sym, ap, _∙_}
+use Rattle.registers.specs.PastLaws.{past-end}
+use Rattle.lexer.specs.declared.Payload.{Payload}
+use Rattle.lexer.specs.declared.Payload.the-variants.{Unknown}
+use Rattle.lexer.specs.Tokens.{payloads, payloadOf}
 use Rattle.lexer.proofs.payload_of.Statement.{statement}
 use Rattle.lexer.proofs.payload_of.Tie as tie
 
-returns : tie.Need-returns
-unfolding payloadOf
-returns c = simp (le-leb _ _ (c .if1 .taken), payloadOf)
-
-returns-2 : tie.Need-returns-2
-unfolding payloadOf
-returns-2 c = simp (lt-leb _ _ (c .before .if1 .left), le-leb _ _ (c .if2 .taken), payloadOf)
-
-returns-3 : tie.Need-returns-3
-unfolding payloadOf
-returns-3 c = simp (lt-leb _ _ (c .before .before .if1 .left), lt-leb _ _ (c .before .if2 .left), le-leb _ _ (c .if3 .taken), payloadOf)
-
-returns-4 : tie.Need-returns-4
-unfolding payloadOf
-returns-4 c = simp (lt-leb _ _ (c .before .before .before .if1 .left), lt-leb _ _ (c .before .before .if2 .left), lt-leb _ _ (c .before .if3 .left), eq-eqb _ _ (c .if4 .taken), payloadOf)
-
-returns-5 : tie.Need-returns-5
-unfolding payloadOf
-returns-5 c = simp (lt-leb _ _ (c .before .before .before .before .if1 .left), lt-leb _ _ (c .before .before .before .if2 .left), lt-leb _ _ (c .before .before .if3 .left), ne-eqb _ _ (c .before .if4 .left), eq-eqb _ _ (c .if5 .taken), payloadOf)
-
-returns-6 : tie.Need-returns-6
-unfolding payloadOf
-returns-6 c = simp (lt-leb _ _ (c .before .before .before .before .before .if1 .left), lt-leb _ _ (c .before .before .before .before .if2 .left), lt-leb _ _ (c .before .before .before .if3 .left), ne-eqb _ _ (c .before .before .if4 .left), ne-eqb _ _ (c .before .if5 .left), le-leb _ _ (c .if6 .taken), payloadOf)
-
-returns-7 : tie.Need-returns-7
-unfolding payloadOf
-returns-7 c = simp (lt-leb _ _ (c .before .before .before .before .before .if1 .left), lt-leb _ _ (c .before .before .before .before .if2 .left), lt-leb _ _ (c .before .before .before .if3 .left), ne-eqb _ _ (c .before .before .if4 .left), ne-eqb _ _ (c .before .if5 .left), lt-leb _ _ (c .if6 .left), payloadOf)
+is : {kind n : ℕ} {p : Payload} → payloadOf n ≡ p → kind ≡ n → p ≡ payloadOf kind
+is h e = sym (ap payloadOf e ∙ h)
 
 pub payload-of-spec : {M : Type 1} → statement M
+unfolding payloadOf
 payload-of-spec =
     tie.close
     (tie.spec
-    returns
-    returns-2
-    returns-3
-    returns-4
-    returns-5
-    returns-6
-    returns-7)
+    (λ c. is {n = 0} refl (c .match .keys1))
+    (λ c. is {n = 1} refl (c .match .keys2))
+    (λ c. is {n = 2} refl (c .match .keys3))
+    (λ c. is {n = 3} refl (c .match .keys4))
+    (λ c. is {n = 4} refl (c .match .keys5))
+    (λ c. is {n = 5} refl (c .match .keys6))
+    (λ c. is {n = 6} refl (c .match .keys7))
+    (λ c. is {n = 7} refl (c .match .keys8))
+    (λ c. is {n = 8} refl (c .match .keys9))
+    (λ c. is {n = 9} refl (c .match .keys10))
+    (λ c. is {n = 10} refl (c .match .keys11))
+    (λ c. is {n = 11} refl (c .match .keys12))
+    (λ c. is {n = 12} refl (c .match .keys13))
+    (λ c. is {n = 13} refl (c .match .keys14))
+    (λ c. is {n = 14} refl (c .match .keys15))
+    (λ c. is {n = 15} refl (c .match .keys16))
+    (λ c. sym (past-end payloads Unknown _ (c .match .rest))))

@@ -7,7 +7,7 @@ use borrow.Author.Needs.{needs}
 use Rattle.lexer.proofs.payload_ok.Statement.{statement}
 use Rattle.lexer.proofs.payload_ok.Tie as tie
 
-len : (c : tie.Start) → payloadLen (c .args .s .now) (c .args .at) ≡ c .args .n
+len : (c : tie.Start) → payloadLen (c .args .list .now) (c .args .at) ≡ c .args .n
 len c = omega (arith, c .pre .0)
 
 returns : tie.Need-returns

@@ -1,14 +1,16 @@
 -- Each arm is the element of the list of kinds at its number, and `_` is past the list. Assumes nothing.
-use Prim.Native.Nat.{ℕ, _+_, _-_}
+use Prim.Native.Nat.{ℕ, _+_, _-_, _<_}
 use native.Mathlib.Omega.{arith}
 use mathlib.Core.Path.{_≡_, refl, sym, ap, _∙_}
 use lib.ListN.{getD}
+use lib.Dec.{lit<, lit≤}
 use lib.Ieee.{ofBits, binary64}
 use Rattle.record.specs.Bytes.{locationAt}
 use Rattle.record.specs.Records.{kindAt}
 use Rattle.record.specs.declared.Location.{Location}
-use Rattle.registers.specs.Past.{past-end}
+use Rattle.registers.specs.PastLaws.{past-end}
 use Rattle.lexer.specs.Tokens.{textAt, kindsAt, tokenAt}
+use Rattle.lexer.specs.TokensLaws.{of-byte}
 use Rattle.lexer.specs.declared.Text.{Text}
 use Rattle.lexer.specs.declared.Token.{Token}
 use Rattle.lexer.specs.declared.TokenKind.{TokenKind}
@@ -18,37 +20,39 @@ use Rattle.lexer.proofs.token_at.Statement.{statement}
 use Rattle.lexer.proofs.token_at.Tie as tie
 
 -- the record's kind is the number that is matched
-kind-is : (c : tie.After-half-at2) {n : ℕ} → c .half-at2 .result ≡ n → let a = c .before .before .before .before .args in kindAt (a .s .now) (a .at) ≡ n
-kind-is c e = sym (c .half-at2 .ensures .0) ∙ e
+kind-is : (c : tie.After-kind-at) {n : ℕ} → n < 255 → c .kind-at .result ≡ n → let a = c .before .before .before .before .args in kindAt (a .list .now) (a .at) ≡ n
+kind-is c h e = omega (arith, c .kind-at .ensures)
 
-text : (c : tie.After-half-at2) → let a = c .before .before .before .before .args in
-    _≡_ {A = Text} (record { start = a .at + 12; len = c .before .half-at .result - 8 }) (textAt (a .s .now) (a .at))
+text : (c : tie.After-kind-at) → let a = c .before .before .before .before .args in
+    _≡_ {A = Text} (record { start = a .at + 12; len = c .before .half-at .result - 8 }) (textAt (a .list .now) (a .at))
 text c = let a = c .before .before .before .before .args in ap (λ (n : ℕ). record { start = a .at + 12; len = n - 8 }) (c .before .half-at .ensures .0)
 
 -- the token of a kind that stands at its number
-arm : (c : tie.After-half-at2) {k : TokenKind} {n : ℕ} → c .half-at2 .result ≡ n → let a = c .before .before .before .before .args in
-    k ≡ getD (kindsAt (a .s .now) (a .at)) n NewLine → _≡_ {A = Token} (record { location = c .before .before .location-at .result; kind = k }) (tokenAt (a .s .now) (a .at))
+arm : (c : tie.After-kind-at) {k : TokenKind} {n : ℕ} → c .kind-at .result ≡ n → let a = c .before .before .before .before .args in
+    k ≡ getD (kindsAt (a .list .now) (a .at)) n NewLine → _≡_ {A = Token} (record { location = c .before .before .location-at .result; kind = k }) (tokenAt (a .list .now) (a .at))
 arm c {k} {n} e h =
     let a = c .before .before .before .before .args in
+    let kinds = kindsAt (a .list .now) (a .at) in
     ap (λ (l : Location). record { location = l; kind = k }) (c .before .before .location-at .ensures)
-    ∙ ap (λ (x : TokenKind). record { location = locationAt (a .s .now) (a .at + 4); kind = x }) (h ∙ ap (λ (m : ℕ). getD (kindsAt (a .s .now) (a .at)) m NewLine) (sym (kind-is c e)))
+    ∙ ap (λ (x : TokenKind). record { location = locationAt (a .list .now) (a .at + 4); kind = x })
+    (h ∙ ap (λ (m : ℕ). getD kinds m NewLine) (sym e ∙ c .kind-at .ensures) ∙ of-byte kinds NewLine (kindAt (a .list .now) (a .at)) (lit≤ tt))
 
 shared-slice-read-register-of : tie.Need-shared-slice-read-register-of
-shared-slice-read-register-of c = let k = kind-is (c .before .before) (c .before .match .keys4) in omega (arith, c .before .before .before .before .before .before .pre .slot (omega arith) (omega arith))
+shared-slice-read-register-of c = let k = kind-is (c .before .before) (lit< tt) (c .before .match .keys4) in omega (arith, c .before .before .before .before .before .before .pre .slot (omega arith) (omega arith))
 
 shared-slice-read-fp-register-of : tie.Need-shared-slice-read-fp-register-of
-shared-slice-read-fp-register-of c = let k = kind-is (c .before .before) (c .before .match .keys5) in omega (arith, c .before .before .before .before .before .before .pre .slot (omega arith) (omega arith))
+shared-slice-read-fp-register-of c = let k = kind-is (c .before .before) (lit< tt) (c .before .match .keys5) in omega (arith, c .before .before .before .before .before .before .pre .slot (omega arith) (omega arith))
 
 long-at-requires : tie.Need-long-at-requires
-long-at-requires c κs = let k = kind-is (c .before) (c .match .keys6) in omega (arith, c .before .before .before .before .before .pre .number (omega arith) (omega arith))
+long-at-requires c κs = let k = kind-is (c .before) (lit< tt) (c .match .keys6) in omega (arith, c .before .before .before .before .before .pre .number (omega arith) (omega arith))
 
 long-at-requires-2 : tie.Need-long-at-requires-2
-long-at-requires-2 c κs = let k = kind-is (c .before) (c .match .keys7) in omega (arith, c .before .before .before .before .before .pre .number (omega arith) (omega arith))
+long-at-requires-2 c κs = let k = kind-is (c .before) (lit< tt) (c .match .keys7) in omega (arith, c .before .before .before .before .before .pre .number (omega arith) (omega arith))
 
 returns-17 : tie.Need-returns-17
 returns-17 c =
     let a = c .before .before .before .before .before .args in
-    arm (c .before) refl (sym (past-end (kindsAt (a .s .now) (a .at)) NewLine _ (c .match .rest)))
+    arm (c .before) refl (sym (past-end (kindsAt (a .list .now) (a .at)) NewLine _ (c .match .rest)))
 
 pub token-at-spec : {M : Type 1} → statement M
 token-at-spec =
@@ -58,7 +62,6 @@ token-at-spec =
     (λ c κs. search needs)
     (λ c. search needs)
     (λ c κs. search needs)
-    (λ c. search needs)
     (λ c. search needs)
     (λ c κs. search needs)
     (λ c. search needs)

@@ -4,21 +4,21 @@ use native.Mathlib.Omega.{arith}
 use mathlib.Core.Path.{_≡_, refl, sym, ap, _∙_}
 use lib.ListN.{length, take, getD}
 use lib.Seq.{take-all}
-use Rattle.stores.specs.Stores.{le32Bytes, append}
-use Rattle.stores.specs.StoresLaws.{append-none, append-then}
-use Rattle.linked_answer.specs.Words.{wordBytes}
+use Rattle.record.specs.Stores.{le32Bytes, append}
+use Rattle.record.specs.StoresLaws.{append-none, append-then}
+use Rattle.linked_answer.specs.Words.{wordsAsBytes}
 use Rattle.linked_answer.specs.WordsLaws.{words-upto, words-next}
 use Rattle.linked_answer.proofs.put_words.Statement.{statement}
 use Rattle.linked_answer.proofs.put_words.Tie as tie
 
 abbrev Inv-loop : tie.InvT-loop
-Inv-loop d₀ words i₀ d i = (i ≤ length words) × (length d ≡ length d₀) × (d ≡ append d₀ 0 (wordBytes (take i words)))
+Inv-loop d₀ words i₀ d i = (i ≤ length words) × (length d ≡ length d₀) × (d ≡ append d₀ 0 (wordsAsBytes (take i words)))
 
 abbrev μ-loop : tie.MeasureT-loop
 μ-loop d₀ words i₀ d i = length words - i
 
 loop-holds : tie.Need-loop-holds Inv-loop μ-loop
-unfolding wordBytes
+unfolding wordsAsBytes
 loop-holds c = (omega arith, refl, append-none _ _)
 
 loop-again : tie.Need-loop-again Inv-loop μ-loop
@@ -28,7 +28,7 @@ loop-again c =
     let ws = a .words .now in (
       omega arith,
       omega arith,
-      append-then (a .d .now) 0 (wordBytes (take (l .i) ws)) (4 * l .i) (le32Bytes (getD ws (l .i) 0)) (l .inv .2) (c .before .before .put32 .ensures)
+      append-then (a .d .now) 0 (wordsAsBytes (take (l .i) ws)) (4 * l .i) (le32Bytes (getD ws (l .i) 0)) (l .inv .2) (c .before .before .put32 .ensures)
           (omega (arith, words-upto ws (l .i) (omega arith))) (omega arith)
           ∙ ap (append (a .d .now) 0) (sym (words-next ws (l .i) (omega arith))),
     )
@@ -39,7 +39,7 @@ same-length c = c .before .loop .inv .1
 returns : tie.Need-returns Inv-loop μ-loop
 returns c =
     let a = c .before .before .before .before .args in
-    c .before .loop .inv .2 ∙ ap (λ ws. append (a .d .now) 0 (wordBytes ws)) (take-all (c .before .loop .i) (a .words .now) (omega arith))
+    c .before .loop .inv .2 ∙ ap (λ ws. append (a .d .now) 0 (wordsAsBytes ws)) (take-all (c .before .loop .i) (a .words .now) (omega arith))
 
 pub put-words-spec : {M : Type 1} → statement M
 put-words-spec =

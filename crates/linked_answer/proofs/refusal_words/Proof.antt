@@ -7,7 +7,7 @@ use mir.Val.{SFits}
 use mir.Facts.{toZ-ofZ}
 use borrow.Author.Needs.{needs}
 use Rattle.refusal.specs.declared.Numbered.{Numbered}
-use Rattle.linked_answer.specs.Words.{low32, refusalWords}
+use Rattle.linked_answer.specs.Words.{lowWord, refusalWords}
 use Rattle.linked_answer.proofs.refusal_words.Statement.{statement}
 use Rattle.linked_answer.proofs.refusal_words.Tie as tie
 
@@ -16,7 +16,7 @@ returns c =
     let last = c .before .before .before .before .args .last in
     let n = c .before .before .before .numbers .result in
     let f : SFits w64 (n .a) = search needs in
-    ap (λ (a : ℕ). n .number ∷ n .location .source ∷ n .location .index ∷ a ∷ n .b ∷ last ∷ []) (c .low-word .ensures ∙ ap low32 (toZ-ofZ f))
+    ap (λ (a : ℕ). n .number ∷ n .location .source ∷ n .location .index ∷ a ∷ n .b ∷ last ∷ []) (c .low-word .ensures ∙ ap lowWord (toZ-ofZ f))
     ∙ ap (λ (m : Numbered). refusalWords m last) (c .before .before .before .numbers .ensures)
 
 pub refusal-words-spec : {M : Type 1} → statement M

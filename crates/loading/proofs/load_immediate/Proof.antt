@@ -20,15 +20,15 @@ returns : tie.Need-returns
 returns c =
     let a = c .before .before .before .args in
     let t = registerNumber (a .into) in
-    one-loaded (a .constant) t (c .before .immediate-word .result) _ _ (register-lt (a .into))
-    (words-small (a .constant) t (small-low (a .constant) (c .before .before .if1 .taken)) ∙ just _ _ (sym (c .before .immediate-word .ensures))) (c .one .ensures .0) (c .one .ensures .1)
+    one-loaded (a .constant) t (c .before .from-zero .result) _ _ (register-lt (a .into))
+    (words-small (a .constant) t (small-low (a .constant) (c .before .before .if1 .taken)) ∙ just _ _ (sym (c .before .from-zero .ensures))) (c .one .ensures .0) (c .one .ensures .1)
 
 returns-2 : tie.Need-returns-2
 returns-2 c =
     let a = c .before .before .before .before .args in
     let t = registerNumber (a .into) in
-    one-loaded (a .constant) t (c .before .immediate-word2 .result) _ _ (register-lt (a .into))
-    (words-small (a .constant) t (small-high (a .constant) (c .before .before .if2 .taken)) ∙ just _ _ (sym (c .before .immediate-word2 .ensures))) (c .one2 .ensures .0) (c .one2 .ensures .1)
+    one-loaded (a .constant) t (c .before .from-zero2 .result) _ _ (register-lt (a .into))
+    (words-small (a .constant) t (small-high (a .constant) (c .before .before .if2 .taken)) ∙ just _ _ (sym (c .before .from-zero2 .ensures))) (c .one2 .ensures .0) (c .one2 .ensures .1)
 
 returns-3 : tie.Need-returns-3
 returns-3 c =
@@ -37,27 +37,27 @@ returns-3 c =
     let l : 32768 ≤ low32 (a .constant) = c .before .before .before .before .if1 .left in
     let h : low32 (a .constant) < 2 ^ 32 - 32768 = c .before .before .before .if2 .left in
     let u : upperHalf (a .constant) ≡ 0 = c .before .before .if3 .taken in
-    one-loaded (a .constant) t (c .before .immediate-word3 .result) _ _ (register-lt (a .into))
-    (words-ori (a .constant) t (not-small (a .constant) l h) u (λ z. omega arith) ∙ just _ _ (sym (c .before .immediate-word3 .ensures))) (c .one3 .ensures .0) (c .one3 .ensures .1)
+    one-loaded (a .constant) t (c .before .from-zero3 .result) _ _ (register-lt (a .into))
+    (words-ori (a .constant) t (not-small (a .constant) l h) u (λ z. omega arith) ∙ just _ _ (sym (c .before .from-zero3 .ensures))) (c .one3 .ensures .0) (c .one3 .ensures .1)
 
 returns-4 : tie.Need-returns-4
 returns-4 c =
     let a = c .before .before .before .before .before .before .args in
     let t = registerNumber (a .into) in
     let n = not-small (a .constant) (c .before .before .before .before .before .if1 .left) (c .before .before .before .before .if2 .left) in
-    one-loaded (a .constant) t (c .before .before .immediate-word4 .result) _ _ (register-lt (a .into))
-    (words-lui (a .constant) t n (c .before .before .before .if3 .left) (c .before .if4 .taken) ∙ just _ _ (sym (c .before .before .immediate-word4 .ensures))) (c .one4 .ensures .0) (c .one4 .ensures .1)
+    one-loaded (a .constant) t (c .before .before .from-zero4 .result) _ _ (register-lt (a .into))
+    (words-lui (a .constant) t n (c .before .before .before .if3 .left) (c .before .if4 .taken) ∙ just _ _ (sym (c .before .before .from-zero4 .ensures))) (c .one4 .ensures .0) (c .one4 .ensures .1)
 
 returns-5 : tie.Need-returns-5
 returns-5 c =
     let a = c .before .before .before .before .before .before .args in
     let t = registerNumber (a .into) in
     let n = not-small (a .constant) (c .before .before .before .before .before .if1 .left) (c .before .before .before .before .if2 .left) in
-    let w = c .before .before .immediate-word4 .result in
-    let v = c .immediate-word5 .result in
+    let w = c .before .before .from-zero4 .result in
+    let v = c .ori-after-lui .result in
     two-loaded (a .constant) t w v (w ∷ v ∷ []) 2 (register-lt (a .into))
     (words-both (a .constant) t n (c .before .before .before .if3 .left) (c .before .if4 .left)
-    ∙ ap₂ (λ (x y : ℕ). x ∷ y ∷ []) (sym (c .before .before .immediate-word4 .ensures)) (sym (c .immediate-word5 .ensures))) refl refl
+    ∙ ap₂ (λ (x y : ℕ). x ∷ y ∷ []) (sym (c .before .before .from-zero4 .ensures)) (sym (c .ori-after-lui .ensures))) refl refl
 
 pub load-immediate-spec : {M : Type 1} → statement M
 load-immediate-spec =

@@ -13,18 +13,18 @@ use Rattle.nazgwern.proofs.nazgwern_do_instruction.Tie as tie
 returns : tie.Need-returns
 returns c =
     let a = c .before .before .before .before .before .before .before .before .before .args in
-    line-short _ _ _ _ _ _ _ _ _ _ _ (ap (λ (b : Bool). b && leb 12 (length (a .counts .now))) (lt-leb 24 (length (a .answer .now)) (omega arith)))
+    line-short _ _ _ _ _ _ _ (ap (λ (b : Bool). b && leb 12 (length (a .counts .now))) (lt-leb 24 (length (a .answer .now)) (omega arith)))
 
 returns-2 : tie.Need-returns-2
 returns-2 c =
     let a = c .before .before .before .before .before .before .before .before .before .before .args in
-    line-short _ _ _ _ _ _ _ _ _ _ _ (ap₂ _&&_ (le-leb 24 (length (a .answer .now)) (omega arith)) (lt-leb 12 (length (a .counts .now)) (omega arith)))
+    line-short _ _ _ _ _ _ _ (ap₂ _&&_ (le-leb 24 (length (a .answer .now)) (omega arith)) (lt-leb 12 (length (a .counts .now)) (omega arith)))
 
 returns-3 : tie.Need-returns-3
 returns-3 c =
     let e = c .before .before .before .before .before .before .before .before .before .before .before .before .before .before .before .before .before in
-    line-answered _ _ _ _ _ _ _ _ _ _ _ _ (omega arith) (omega arith) (e .before .before .before .before .counts-at .ensures) (e .do-instruction .ensures)
-    (c .before .before .before .before .before .before .before .before .before .line-words .ensures) (c .before .before .before .before .before .before .before .put-counts .ensures)
+    line-answered _ _ _ _ _ _ _ _ (omega arith) (omega arith) (e .before .before .before .before .counts-at .ensures) (e .do-instruction .ensures)
+    (c .before .before .before .before .before .before .before .before .before .emitted-words .ensures) (c .before .before .before .before .before .before .before .put-counts .ensures)
     (c .before .before .put-words .ensures)
 
 pub nazgwern-do-instruction-spec : {M : Type 1} → statement M

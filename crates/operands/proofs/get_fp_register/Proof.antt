@@ -1,5 +1,8 @@
 -- The register is made of the token that was read. Assumes nothing.
 use borrow.Author.Needs.{needs}
+use Rattle.cursor.specs.declared.Seen.{Seen}
+use Rattle.operand.specs.declared.Want.the-variants.{FPRegister}
+use Rattle.operand.specs.Answers.{answerOf}
 use Rattle.operands.specs.Operands.{fpRegisterSeen, getFPRegister}
 use Rattle.operands.specs.OperandsLaws.{read-made}
 use Rattle.operands.proofs.get_fp_register.Statement.{statement}
@@ -7,7 +10,7 @@ use Rattle.operands.proofs.get_fp_register.Tie as tie
 
 returns : tie.Need-returns
 unfolding getFPRegister
-returns c = read-made (c .before .before .next-adjacent .ensures) fpRegisterSeen _ (c .fp-register-seen .ensures)
+returns c = read-made (c .before .before .next-adjacent .ensures) (λ (s : Seen). answerOf FPRegister (fpRegisterSeen s)) _ (c .fp-register-seen .ensures)
 
 pub get-fp-register-spec : {M : Type 1} → statement M
 get-fp-register-spec =

@@ -8,7 +8,7 @@ use Rattle.patch.proofs.add_label.Tie as tie
 returns-5 : tie.Need-returns-5
 returns-5 c =
     let a = c .before .before .before .args in
-    cc (patched-full (a .pc) (a .destination) (a .instruction) (omega arith))
+    cc (patched-full (a .span .pc) (a .span .destination) (a .instruction) (omega arith))
 
 pub add-label-spec : {M : Type 1} → statement M
 add-label-spec =

@@ -9,7 +9,7 @@ use Rattle.patch.proofs.get_address.Statement.{statement}
 use Rattle.patch.proofs.get_address.Tie as tie
 
 -- the name stands within its list
-ends : (c : tie.After-known-told2) → c .before .label2 .given .0 .0 .«name_at» + c .before .label2 .given .0 .0 .«name_len» ≤ length (c .before .before .before .before .before .args .s .now)
+ends : (c : tie.After-known-told2) → c .before .label2 .given .0 .0 .«name_at» + c .before .label2 .given .0 .0 .«name_len» ≤ length (c .before .before .before .before .before .args .list .now)
 ends c = rw (c .before .label2 .given .1) at (c .before .before .before .before .before .pre .1)
 
 returns-2 : tie.Need-returns-2

@@ -6,26 +6,26 @@ use mathlib.Core.Bool.{true}
 use lib.ListN.{length}
 use borrow.Author.Tests.{not-true, not-false}
 use Rattle.record.specs.RecordsLaws.{layoutFrom, layout-end, layout-bad, layout-next}
-use Rattle.pending.specs.Pendings.{pendingOk, PendingIs, pendingLayout}
-use Rattle.pending.specs.PendingsLaws.{pending-is, pending-kept, pending-passed}
+use Rattle.pending.specs.Pendings.{pendingOk, pendingLayout}
+use Rattle.pending.specs.PendingsLaws.{PendingIs, pending-is, pending-kept, pending-passed}
 use borrow.Author.Needs.{needs}
 use Rattle.pending.proofs.first_bad_pending.Statement.{statement}
 use Rattle.pending.proofs.first_bad_pending.Tie as tie
 
 abbrev Inv-loop : tie.InvT-loop
-Inv-loop s regions at₀ at = (at ≤ length s) × (pendingLayout regions s ≡ layoutFrom (pendingOk regions s) s at)
+Inv-loop list regions at₀ at = (at ≤ length list) × (pendingLayout regions list ≡ layoutFrom (pendingOk regions list) list at)
 
 abbrev μ-loop : tie.MeasureT-loop
-μ-loop s regions at₀ at = length s - at
+μ-loop list regions at₀ at = length list - at
 
 -- the record at `at` is a pending
-passed : (c : tie.Else2 Inv-loop μ-loop) → let a = c .before .before .before .before .before .before .args in pendingOk (a .regions) (a .s .now) (c .before .before .before .loop .at) ≡ true
+passed : (c : tie.Else2 Inv-loop μ-loop) → let a = c .before .before .before .before .before .before .args in pendingOk (a .regions) (a .list .now) (c .before .before .before .loop .at) ≡ true
 passed c = sym (c .before .pending-ok .ensures) ∙ not-false _ (c .if2 .left)
 
-pending : (c : tie.Else2 Inv-loop μ-loop) → PendingIs (c .before .before .before .before .before .before .args .s .now) (c .before .before .before .loop .at)
+pending : (c : tie.Else2 Inv-loop μ-loop) → PendingIs (c .before .before .before .before .before .before .args .list .now) (c .before .before .before .loop .at)
 pending c =
     let a = c .before .before .before .before .before .before .args in
-    pending-is (a .regions) (a .s .now) (c .before .before .before .loop .at) (passed c)
+    pending-is (a .regions) (a .list .now) (c .before .before .before .loop .at) (passed c)
 
 returns : tie.Need-returns Inv-loop μ-loop
 returns c = sym (pending-passed _ _ (c .if1 .taken))
@@ -38,19 +38,13 @@ returns-2 c =
     let l = c .before .before .before in
     sym (l .loop .inv .1 ∙ layout-bad (pendingOk _ _) _ (l .loop .at) (c .before .before .loop-test .taken) (sym (c .before .pending-ok .ensures) ∙ not-true _ (c .if2 .taken)))
 
-half-at-requires : tie.Need-half-at-requires Inv-loop μ-loop
-half-at-requires c κs = omega (arith, pending c)
-
-add-at-2 : tie.Need-add-at-2 Inv-loop μ-loop
-add-at-2 c = omega (arith, c .half-at .ensures .1)
-
 loop-again : tie.Need-loop-again Inv-loop μ-loop
 loop-again c =
     let l = c .before .before .before .before in
     let a = l .before .before .before .args in
-    let n = c .half-at .ensures .0 in (
+    let n = c .next .ensures .0 in (
       omega (arith, pending (c .before), n),
-      rw n (l .loop .inv .1 ∙ layout-next (pendingOk (a .regions) (a .s .now)) (a .s .now) (l .loop .at) (c .before .before .before .loop-test .taken) (passed (c .before)) (pending (c .before) .whole-at)),
+      rw n (l .loop .inv .1 ∙ layout-next (pendingOk (a .regions) (a .list .now)) (a .list .now) (l .loop .at) (c .before .before .before .loop-test .taken) (passed (c .before)) (pending (c .before) .whole-at)),
     )
 
 returns-3 : tie.Need-returns-3 Inv-loop μ-loop
@@ -66,9 +60,7 @@ first-bad-pending-spec =
     loop-holds
     (λ c κs. search needs)
     returns-2
-    (λ c. search needs)
-    half-at-requires
-    add-at-2
-    (λ c. omega arith)
+    (λ c κs. omega (arith, pending c))
+    (λ c. omega (arith, c .next .ensures .0, pending (c .before)))
     loop-again
     returns-3)

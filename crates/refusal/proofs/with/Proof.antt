@@ -10,7 +10,7 @@ use Rattle.refusal.proofs.with.Tie as tie
 
 returns : tie.Need-returns
 returns c =
-    ap (λ (z : ℤ). record { number = c .args .number; location = c .args .location; a = z; b = c .args .b }) (toZ-pos w64 (omega arith))
+    ap (λ (z : ℤ). record { number = c .before .args .number; location = c .before .args .location; a = z; b = c .before .args .values .b }) (toZ-pos w64 (omega arith))
 
 pub with-spec : {M : Type 1} → statement M
 with-spec = tie.close (tie.spec (λ c. search needs) returns)

@@ -26,20 +26,20 @@ abbrev μ-loop : tie.MeasureT-loop
 μ-loop s left₀ at₀ left at = length s - at
 
 -- where a record may stand, one fewer may stand after it
-here : (c : tie.Else3 Inv-loop μ-loop) → let l = c .before .before in let s = l .before .before .before .before .args .s .now in
+here : (c : tie.Else3 Inv-loop μ-loop) → let l = c .before .before in let s = l .before .before .before .before .args .regions .now in
     regionLayout s ≡ rest s (l .loop .at) (suc (l .loop .left - 1))
 here c =
     let l = c .before .before in
-    let s = l .before .before .before .before .args .s .now in
+    let s = l .before .before .before .before .args .regions .now in
     let e : l .loop .left ≡ suc (l .loop .left - 1) = omega arith in
     l .loop .inv .1 ∙ ap (rest s (l .loop .at)) e
 
 -- past the tests the record is a region
-ok : (c : tie.Else4 Inv-loop μ-loop) → let l = c .before .before .before .before in regionOk (l .before .before .before .before .args .s .now) (l .loop .at) ≡ true
+ok : (c : tie.Else4 Inv-loop μ-loop) → let l = c .before .before .before .before in regionOk (l .before .before .before .before .args .regions .now) (l .loop .at) ≡ true
 ok c = sym (c .before .region-ok .ensures) ∙ not-false _ (c .if4 .left)
 
-turn : (c : tie.Else4 Inv-loop μ-loop) → let l = c .before .before .before .before in RegionIs (l .before .before .before .before .args .s .now) (l .loop .at)
-turn c = let l = c .before .before .before .before in region-is (l .before .before .before .before .args .s .now) (l .loop .at) (ok c)
+turn : (c : tie.Else4 Inv-loop μ-loop) → let l = c .before .before .before .before in RegionIs (l .before .before .before .before .args .regions .now) (l .loop .at)
+turn c = let l = c .before .before .before .before in region-is (l .before .before .before .before .args .regions .now) (l .loop .at) (ok c)
 
 returns : tie.Need-returns Inv-loop μ-loop
 returns c = sym (layout-long _ (c .if1 .taken))
@@ -53,29 +53,23 @@ loop-holds c = (search needs, layout-some _ (omega arith) (omega arith))
 returns-3 : tie.Need-returns-3 Inv-loop μ-loop
 returns-3 c =
     let l = c .before .before in
-    let s = l .before .before .before .before .args .s .now in
+    let s = l .before .before .before .before .args .regions .now in
     sym (l .loop .inv .1 ∙ ap (rest s (l .loop .at)) (c .if3 .taken) ∙ of-past (regionOk s) s (l .loop .at) (c .before .loop-test .taken))
 
 returns-4 : tie.Need-returns-4 Inv-loop μ-loop
 returns-4 c =
     let t = c .before .before in
     let l = t .before .before in
-    let s = l .before .before .before .before .args .s .now in
+    let s = l .before .before .before .before .args .regions .now in
     sym (here t ∙ of-bad (l .loop .left - 1) (regionOk s) s (l .loop .at) (t .before .loop-test .taken) (sym (c .before .region-ok .ensures) ∙ not-true _ (c .if4 .taken)))
-
-half-at-requires : tie.Need-half-at-requires Inv-loop μ-loop
-half-at-requires c κs = omega (arith, turn c)
-
-add-at-2 : tie.Need-add-at-2 Inv-loop μ-loop
-add-at-2 c = omega (arith, turn (c .before), c .half-at .ensures .0)
 
 loop-again : tie.Need-loop-again Inv-loop μ-loop
 loop-again c =
     let t = c .before .before .before in
     let l = t .before .before in
-    let s = l .before .before .before .before .args .s .now in (
-      omega (arith, turn (c .before), c .half-at .ensures .0),
-      rw (c .half-at .ensures .0)
+    let s = l .before .before .before .before .args .regions .now in (
+      omega (arith, turn (c .before), c .next .ensures .0),
+      rw (c .next .ensures .0)
           (here t ∙ of-next (l .loop .left - 1) (regionOk s) s (l .loop .at) (t .before .loop-test .taken) (ok (c .before)) (turn (c .before) .whole-at)),
     )
 
@@ -94,9 +88,7 @@ first-bad-region-spec =
     returns-3
     (λ c κs. search needs)
     returns-4
-    (λ c. search needs)
-    half-at-requires
-    add-at-2
+    (λ c κs. omega (arith, turn c))
     (λ c. search needs)
     (λ c. omega arith)
     loop-again

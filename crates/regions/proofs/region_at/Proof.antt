@@ -16,28 +16,22 @@ abbrev μ-loop : tie.MeasureT-loop
 μ-loop s number n₀ at₀ n at = number - n
 
 -- the record at `at` is a region
-turn : (c : tie.At-loop Inv-loop μ-loop) → RegionIs (c .before .before .args .s .now) (c .loop .at)
+turn : (c : tie.At-loop Inv-loop μ-loop) → RegionIs (c .before .before .args .regions .now) (c .loop .at)
 turn c =
-    let s = c .before .before .args .s .now in
+    let s = c .before .before .args .regions .now in
     rw (c .loop .inv .1) (region-is s (regionPlace s (c .loop .n)) (region-place-ok s (c .loop .n) (c .before .before .pre .0) (omega arith)))
 
 loop-holds : tie.Need-loop-holds Inv-loop μ-loop
 loop-holds c = (search needs, sym (place-first _))
 
-add-at : tie.Need-add-at Inv-loop μ-loop
-add-at c = omega (arith, turn (c .before))
-
-half-at-requires : tie.Need-half-at-requires Inv-loop μ-loop
-half-at-requires c κs = omega (arith, turn (c .before))
-
-add-at-2 : tie.Need-add-at-2 Inv-loop μ-loop
-add-at-2 c = omega (arith, turn (c .before .before), c .half-at .ensures .0)
+next-requires : tie.Need-next-requires Inv-loop μ-loop
+next-requires c κs = omega (arith, turn (c .before))
 
 loop-again : tie.Need-loop-again Inv-loop μ-loop
 loop-again c =
     let l = c .before .before in
-    let s = l .before .before .args .s .now in
-    (omega arith, rw (c .half-at .ensures .0) (ap (next s) (l .loop .inv .1) ∙ sym (place-after s (l .loop .n) (omega arith))))
+    let s = l .before .before .args .regions .now in
+    (omega arith, rw (c .next .ensures .0) (ap (next s) (l .loop .inv .1) ∙ sym (place-after s (l .loop .n) (omega arith))))
 
 add-word-at : tie.Need-add-word-at Inv-loop μ-loop
 add-word-at c = omega (arith, turn (c .before))
@@ -45,21 +39,18 @@ add-word-at c = omega (arith, turn (c .before))
 word-at-requires : tie.Need-word-at-requires Inv-loop μ-loop
 word-at-requires c κs = omega (arith, turn (c .before))
 
-half-at-requires-2 : tie.Need-half-at-requires-2 Inv-loop μ-loop
-half-at-requires-2 c κs = omega (arith, turn (c .before .before))
+half-at-requires : tie.Need-half-at-requires Inv-loop μ-loop
+half-at-requires c κs = omega (arith, turn (c .before .before))
 
 sub-size : tie.Need-sub-size Inv-loop μ-loop
-sub-size c = omega (arith, turn (c .before .before .before), c .half-at2 .ensures .0)
-
-add-t10 : tie.Need-add-t10 Inv-loop μ-loop
-add-t10 c = omega (arith, turn (c .before .before .before))
+sub-size c = omega (arith, turn (c .before .before .before), c .half-at .ensures .0)
 
 returns : tie.Need-returns Inv-loop μ-loop
 returns c =
     let l = c .before .before .before in
     let a = l .before .before .args in
     let e : l .loop .n ≡ a .number = omega arith in
-    rw (c .before .word-at .ensures, c .half-at2 .ensures .0) (ap (regionAt (a .s .now)) (l .loop .inv .1 ∙ ap (regionPlace (a .s .now)) e))
+    rw (c .before .word-at .ensures, c .half-at .ensures .0) (ap (regionAt (a .regions .now)) (l .loop .inv .1 ∙ ap (regionPlace (a .regions .now)) e))
 
 pub region-at-spec : {M : Type 1} → statement M
 region-at-spec =
@@ -68,15 +59,13 @@ region-at-spec =
     Inv-loop
     μ-loop
     loop-holds
-    add-at
-    half-at-requires
-    add-at-2
+    next-requires
     (λ c. search needs)
     (λ c. omega arith)
     loop-again
     add-word-at
     word-at-requires
-    half-at-requires-2
+    half-at-requires
     sub-size
-    add-t10
+    (λ c. omega (arith, turn (c .before .before .before)))
     returns)

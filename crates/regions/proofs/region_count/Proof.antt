@@ -19,43 +19,40 @@ abbrev μ-loop : tie.MeasureT-loop
 μ-loop s count₀ at₀ count at = length s - at
 
 -- in a turn the record at `at` is a region
-turn : (c : tie.In-loop Inv-loop μ-loop) → RegionIs (c .before .before .before .args .s .now) (c .before .loop .at)
+turn : (c : tie.In-loop Inv-loop μ-loop) → RegionIs (c .before .before .before .args .regions .now) (c .before .loop .at)
 turn c =
-    let s = c .before .before .before .args .s .now in
+    let s = c .before .before .before .args .regions .now in
     let at = c .before .loop .at in
     region-is s at (good-ok (regionOk s) s at (c .loop-test .taken) (c .before .loop .inv .1))
 
 loop-holds : tie.Need-loop-holds Inv-loop μ-loop
 loop-holds c =
-    let s = c .before .args .s .now in
+    let s = c .before .args .regions .now in
     (search needs, ap (firstBad (regionOk s)) (sym (places-all s)) ∙ region-good s (c .before .pre) .1, omega (arith, ap length (places-all s)))
 
-half-at-requires : tie.Need-half-at-requires Inv-loop μ-loop
-half-at-requires c κs = omega (arith, turn c)
-
-add-at-2 : tie.Need-add-at-2 Inv-loop μ-loop
-add-at-2 c = omega (arith, turn (c .before), c .half-at .ensures .0)
+next-requires : tie.Need-next-requires Inv-loop μ-loop
+next-requires c κs = omega (arith, turn c)
 
 add-count : tie.Need-add-count Inv-loop μ-loop
 add-count c =
-    let s = c .before .before .before .before .args .s .now in
+    let s = c .before .before .before .before .args .regions .now in
     omega (arith, region-good s (c .before .before .before .before .pre) .3)
 
 loop-again : tie.Need-loop-again Inv-loop μ-loop
 loop-again c =
     let t = c .before in
     let l = t .before in
-    let s = l .before .before .args .s .now in
+    let s = l .before .before .args .regions .now in
     let at = l .loop .at in
     let k = turn t in (
-      omega (arith, k, c .half-at .ensures .0),
-      rw (c .half-at .ensures .0) (good-next (regionOk s) s at (t .loop-test .taken) (k .whole-at) (l .loop .inv .1)),
-      rw (c .half-at .ensures .0) (omega (arith, ap length (places-step s at (t .loop-test .taken) (k .whole-at)))),
+      omega (arith, k, c .next .ensures .0),
+      rw (c .next .ensures .0) (good-next (regionOk s) s at (t .loop-test .taken) (k .whole-at) (l .loop .inv .1)),
+      rw (c .next .ensures .0) (omega (arith, ap length (places-step s at (t .loop-test .taken) (k .whole-at)))),
     )
 
 returns : tie.Need-returns Inv-loop μ-loop
 returns c =
-    let s = c .before .before .before .args .s .now in
+    let s = c .before .before .before .args .regions .now in
     let e : c .before .loop .count ≡ regionCount s = omega (arith, ap length (places-end s (c .before .loop .at) (c .loop-test .left))) in
     (e, omega (arith, region-good s (c .before .before .before .pre) .3))
 
@@ -66,9 +63,7 @@ region-count-spec =
     Inv-loop
     μ-loop
     loop-holds
-    (λ c. search needs)
-    half-at-requires
-    add-at-2
+    next-requires
     add-count
     (λ c. omega arith)
     loop-again

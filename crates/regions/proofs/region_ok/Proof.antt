@@ -13,11 +13,11 @@ use Rattle.regions.proofs.region_ok.Statement.{statement}
 use Rattle.regions.proofs.region_ok.Tie as tie
 
 -- past the first test the record is whole
-is-whole : (c : tie.Else1) → whole (c .before .before .before .args .s .now) (c .before .before .before .args .at) ≡ true
+is-whole : (c : tie.Else1) → whole (c .before .before .before .args .regions .now) (c .before .before .before .args .at) ≡ true
 is-whole c = sym (c .before .whole-at .ensures) ∙ not-false _ (c .if1 .left)
 
-room : (c : tie.Else1) → let a = c .before .before .before .args in (a .at + 4 ≤ length (a .s .now)) × (next (a .s .now) (a .at) ≤ length (a .s .now))
-room c = let a = c .before .before .before .args in whole-is (a .s .now) (a .at) (is-whole c)
+room : (c : tie.Else1) → let a = c .before .before .before .args in (a .at + 4 ≤ length (a .regions .now)) × (next (a .regions .now) (a .at) ≤ length (a .regions .now))
+room c = let a = c .before .before .before .args in whole-is (a .regions .now) (a .at) (is-whole c)
 
 returns : tie.Need-returns
 unfolding regionOk

@@ -3,7 +3,7 @@ use mathlib.Core.Path.{_≡_, sym, ap, _∙_}
 use mir.Facts.{toZ-ofZ}
 use borrow.Author.Needs.{needs}
 use borrow.Author.Tests.{not-true, not-false}
-use Rattle.signed.specs.Split.{isNegative, size}
+use Rattle.refusal.specs.Split.{isNegative, size}
 use Rattle.text.specs.TextLaws.{put-then, signed-from, signed-below}
 use Rattle.text.proofs.put_signed_field.Statement.{statement}
 use Rattle.text.proofs.put_signed_field.Tie as tie

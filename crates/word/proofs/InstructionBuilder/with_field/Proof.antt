@@ -15,20 +15,20 @@ shl-mask : tie.Need-shl-mask
 shl-mask c = search needs
 
 sub-mask : tie.Need-sub-mask
-sub-mask c = omega (arith, one-shl (c .args .width) (c .pre .1), pow-pos (c .args .width))
+sub-mask c = omega (arith, one-shl (c .args .field .width) (c .pre .1), pow-pos (c .args .field .width))
 
 shl-mask-2 : tie.Need-shl-mask-2
 shl-mask-2 c = search needs
 
-shl-t8 : tie.Need-shl-t8
-shl-t8 c = search needs
+shl-t9 : tie.Need-shl-t9
+shl-t9 c = search needs
 
 returns : tie.Need-returns
 unfolding orField
 returns c =
     let a = c .before .args in
     let hw : a .self .0 < 2 ^ 32 = omega arith in
-    ap₂ bitOr (clears (a .self .0) (a .offset) (a .width) hw (c .before .pre .1) (c .before .pre .0)) (mod-eq-of-lt (c .before .pre .3))
+    ap₂ bitOr (clears (a .self .0) (a .field .offset) (a .field .width) hw (c .before .pre .1) (c .before .pre .0)) (mod-eq-of-lt (c .before .pre .3))
 
 pub with-field-spec : {M : Type 1} → statement M
-with-field-spec = tie.close (tie.spec shl-mask sub-mask shl-mask-2 shl-t8 returns)
+with-field-spec = tie.close (tie.spec shl-mask sub-mask shl-mask-2 shl-t9 returns)

@@ -1,0 +1,50 @@
+-- What the steps of a build promise: the entry's answer, and the checks and the writing of one region's patches. Assumes nothing.
+use Prim.Native.Nat.{ℕ}
+use mathlib.Core.Path.{_≡_}
+use mathlib.Core.List.{List, [], _∷_}
+use Rattle.record.specs.Records.{places}
+use Rattle.record.specs.declared.Layout.the-variants.{Good}
+use Rattle.refusal.specs.Verdicts.{firstStop}
+use Rattle.refusal.specs.declared.Refusal.the-variants.{UnknownEntry}
+use Rattle.refusal.specs.declared.Verdict.{Verdict}
+use Rattle.labels.specs.declared.Address.{Address}
+use Rattle.labels.specs.declared.Address.the-variants.{Known, Unknown}
+use Rattle.regions.specs.declared.Region.{Region}
+use Rattle.address_label.specs.declared.AddressLabel.{AddressLabel}
+use Rattle.address_label.specs.declared.Entry.{Entry}
+use Rattle.address_label.specs.declared.Entry.the-variants.{Default, Stated}
+use Rattle.pending.specs.Pendings.{pendingLayout, pendingAt}
+use Rattle.patch.specs.Patches.{destination, nameLocation, pendingVerdict, writePending}
+use Rattle.build_outcome.specs.declared.Built.{Built}
+use Rattle.build_outcome.specs.declared.Built.the-variants.{Entry as BuiltEntry, Refused}
+use Rattle.build_outcome.specs.Build.{keep}
+
+-- the entry's part of the answer
+abbrev pub reachedEntry : AddressLabel → Address → Built
+reachedEntry label (Known address) = BuiltEntry address
+reachedEntry label Unknown = Refused (UnknownEntry (nameLocation label))
+
+abbrev pub entryAnswer : (labels entry : List ℕ) → Entry → Built
+entryAnswer labels entry Default = BuiltEntry 0x00400000
+entryAnswer labels entry (Stated label) = reachedEntry label (destination labels entry label)
+
+-- a list of pendings, of whatever number of regions
+pub record PendingList (pending : List ℕ) : Type 0 where
+  pub regions : ℕ
+  pub kept : pendingLayout regions pending ≡ Good
+
+-- the checks of the patches of one region, in list order
+abbrev pub regionVerdict : (labels pending : List ℕ) → Region → ℕ → Verdict
+regionVerdict labels pending region at = pendingVerdict labels pending region (pendingAt pending at)
+
+abbrev pub regionChecks : (labels pending : List ℕ) → Region → ℕ → Verdict
+regionChecks labels pending region number = firstStop (regionVerdict labels pending region) (keep pending number (places pending))
+
+-- the patches of one region written, in order
+unfoldable pub writeRegion : (labels pending : List ℕ) → Region → List ℕ → List ℕ → List ℕ
+unfolding writePending
+writeRegion labels pending region [] d = d
+writeRegion labels pending region (p ∷ ps) d = writeRegion labels pending region ps (writePending labels pending region (pendingAt pending p) d)
+
+abbrev pub regionWritten : (labels pending : List ℕ) → Region → ℕ → List ℕ → List ℕ
+regionWritten labels pending region number d = writeRegion labels pending region (keep pending number (places pending)) d

@@ -1,0 +1,3 @@
+pub mod Build
+pub mod BuildLaws
+pub mod KeptLaws

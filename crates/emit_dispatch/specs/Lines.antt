@@ -1,0 +1,127 @@
+-- A line: its operands read, and the words of its encoding or pseudo-instruction made of them. What words take is what is asked for, by their
+-- types: words for other operands than `Wants` has are no definition. Assumes nothing.
+use Prim.Native.Nat.{ℕ}
+use mathlib.Core.List.{List, []}
+use mathlib.Core.Bool.{true, false}
+use Rattle.registers.specs.Numbers.{registerNumber, fpRegisterNumber}
+use Rattle.instructions.specs.declared.Opcode.{Opcode}
+use Rattle.instructions.specs.declared.Opcode.the-variants.{Op, Func}
+use Rattle.instructions.specs.declared.Encoding.{Encoding}
+use Rattle.instructions.specs.declared.Encoding.the-variants.{Register, RegisterShift, Source, Destination, Inputs, Sham, SpecialBranch, Immediate, LoadImmediate, Jump, Branch, BranchZero, Parameterless, Offset, FPOffset, FP3Register, FP2Register, FPMove, FPCond, FPCrossMove, FPBranch}
+use Rattle.pseudo_names.specs.declared.Pseudo.{Pseudo}
+use Rattle.pseudo_names.specs.declared.Pseudo.the-variants.{Nop, Abs, BranchCustom, SetCustom, Beqz, Bnez, Seq, Sne, Neg, Negu, Not, Li, La, Move, B, Subi, Subiu}
+use Rattle.lexer.specs.declared.Token.{Token}
+use Rattle.cursor.specs.Cursors.{At}
+use Rattle.operand.specs.Answers.{Answer, Got, Missed}
+use Rattle.operand_list.specs.OperandLists.{AskedAll, readOperands}
+use Rattle.emit_pairs.specs.declared.InstructionPair.{InstructionPair}
+use Rattle.emit_pairs.specs.declared.Range.{Range}
+use Rattle.emit_pairs.specs.declared.Range.the-variants.{Within, Outside}
+use Rattle.emit_pairs.specs.Pairs.{immediateRange}
+use Rattle.emit_integer.specs.IntegerWords.{registerPairs, registerShiftPairs, sourcePairs, destinationPairs, inputsPairs, shamPairs, branchZeroPairs, immediateLinePairs, loadImmediatePairs, jumpPairs, branchPairs, parameterlessPairs, offsetLinePairs}
+use Rattle.emit_float.specs.FloatWords.{fp3Pairs, fp2Pairs, fpMovePairs, fpCondPairs, fpCrossMovePairs, fpBranchPairs}
+use Rattle.emit_pseudo.specs.PseudoWords.{branchCustomPairs, setCustomPairs, snePairs, seqPairs, absPairs, negPairs, movePairs, liPairs, laPairs, bPairs, nopPairs, subiPairs}
+use Rattle.emit_dispatch.specs.Wants.{encodingWants, pseudoWants}
+use Rattle.emit_dispatch.specs.declared.LineAnswer.{LineAnswer}
+use Rattle.emit_dispatch.specs.declared.LineAnswer.the-variants.{Made, Missed as MissedOperand, OutOfRange}
+
+-- ---- words: x .0, x .1 and x .2 are the operands, left to right
+
+abbrev pub encodingPairs : (e : Encoding) → Opcode → AskedAll (encodingWants e) → List InstructionPair
+encodingPairs Register op x = registerPairs op (x .0) (x .1) (x .2)
+encodingPairs RegisterShift op x = registerShiftPairs op (x .0) (x .1) (x .2)
+encodingPairs Source op x = sourcePairs op (x .0)
+encodingPairs Destination op x = destinationPairs op (x .0)
+encodingPairs Inputs op x = inputsPairs op (x .0) (x .1) (x .2)
+encodingPairs Sham op x = shamPairs op (x .0) (x .1) (x .2)
+encodingPairs SpecialBranch op x = branchZeroPairs op (x .0) (x .1)
+encodingPairs (Immediate alt) op x = immediateLinePairs op alt (x .0) (x .1) (x .2)
+encodingPairs LoadImmediate op x = loadImmediatePairs op (x .0) (x .1)
+encodingPairs Jump op x = jumpPairs op (x .0)
+encodingPairs Branch op x = branchPairs op (x .0) (x .1) (x .2)
+encodingPairs BranchZero op x = branchZeroPairs op (x .0) (x .1)
+encodingPairs Parameterless op x = parameterlessPairs op
+encodingPairs Offset op x = offsetLinePairs op (registerNumber (x .0)) (x .1)
+encodingPairs FPOffset op x = offsetLinePairs op (fpRegisterNumber (x .0)) (x .1)
+encodingPairs (FP3Register fmt) op x = fp3Pairs op fmt (x .0) (x .1) (x .2)
+encodingPairs (FP2Register fmt) op x = fp2Pairs op fmt (x .0) (x .1)
+encodingPairs (FPMove fmt flag) op x = fpMovePairs op fmt flag (x .0) (x .1) (x .2)
+encodingPairs (FPCond fmt) op x = fpCondPairs op fmt (x .0) (x .1) (x .2)
+encodingPairs (FPCrossMove true) op x = fpCrossMovePairs op (fpRegisterNumber (x .0)) (registerNumber (x .1))
+encodingPairs (FPCrossMove false) op x = fpCrossMovePairs op (registerNumber (x .0)) (fpRegisterNumber (x .1))
+encodingPairs (FPBranch flag) op x = fpBranchPairs op flag (x .0) (x .1)
+
+abbrev pub pseudoPairs : (p : Pseudo) → AskedAll (pseudoWants p) → List InstructionPair
+pseudoPairs Nop x = nopPairs
+pseudoPairs Abs x = absPairs (x .0) (x .1)
+pseudoPairs (BranchCustom greater result unsigned) x = branchCustomPairs greater result unsigned (x .0) (x .1) (x .2)
+pseudoPairs (SetCustom greater result unsigned) x = setCustomPairs greater result unsigned (x .0) (x .1) (x .2)
+pseudoPairs Beqz x = branchZeroPairs (Op 4) (x .0) (x .1)
+pseudoPairs Bnez x = branchZeroPairs (Op 5) (x .0) (x .1)
+pseudoPairs Seq x = seqPairs (x .0) (x .1) (x .2)
+pseudoPairs Sne x = snePairs (x .0) (x .1) (x .2)
+pseudoPairs Neg x = negPairs (Func 34) (x .0) (x .1)
+pseudoPairs Negu x = negPairs (Func 35) (x .0) (x .1)
+pseudoPairs Not x = movePairs (Func 39) (x .0) (x .1)
+pseudoPairs Li x = liPairs (x .0) (x .1)
+pseudoPairs La x = laPairs (x .0) (x .1)
+pseudoPairs Move x = movePairs (Func 33) (x .0) (x .1)
+pseudoPairs B x = bPairs (x .0)
+pseudoPairs Subi x = subiPairs (Op 8) (Func 32) (x .0) (x .1) (x .2)
+pseudoPairs Subiu x = subiPairs (Op 9) (Func 33) (x .0) (x .1) (x .2)
+
+-- ---- the range of an immediate operand: "9. An immediate without alternative lies outside -32,768 to 32,767"
+
+abbrev pub encodingRange : (e : Encoding) → AskedAll (encodingWants e) → Range
+encodingRange Register x = Within
+encodingRange RegisterShift x = Within
+encodingRange Source x = Within
+encodingRange Destination x = Within
+encodingRange Inputs x = Within
+encodingRange Sham x = Within
+encodingRange SpecialBranch x = Within
+encodingRange (Immediate alt) x = immediateRange alt (x .2)
+encodingRange LoadImmediate x = Within
+encodingRange Jump x = Within
+encodingRange Branch x = Within
+encodingRange BranchZero x = Within
+encodingRange Parameterless x = Within
+encodingRange Offset x = Within
+encodingRange FPOffset x = Within
+encodingRange (FP3Register fmt) x = Within
+encodingRange (FP2Register fmt) x = Within
+encodingRange (FPMove fmt flag) x = Within
+encodingRange (FPCond fmt) x = Within
+encodingRange (FPCrossMove flag) x = Within
+encodingRange (FPBranch flag) x = Within
+
+-- ---- the line
+
+-- the answer, the words with their labels, and the index behind the operands
+pub record Line : Type 0 where
+  pub answer : LineAnswer
+  pub pairs : List InstructionPair
+  pub index : ℕ
+
+abbrev pub rangeAnswer : Range → LineAnswer
+rangeAnswer Within = Made
+rangeAnswer Outside = OutOfRange
+
+-- operands that were read make the words; where one was missed there are none
+abbrev pub lineBy : {A : Type 0} → Answer A → ℕ → (A → Range) → (A → List InstructionPair) → Line
+lineBy (Got x) i range pairs = record { answer = rangeAnswer (range x); pairs = pairs x; index = i }
+lineBy (Missed m) i range pairs = record { answer = MissedOperand m; pairs = []; index = i }
+
+-- the line of an instruction of the table
+unfoldable pub encodingLine : Encoding → Opcode → List Token → ℕ → Line
+unfolding readOperands
+encodingLine e op ts i =
+    let read = readOperands (encodingWants e) ts i in
+    lineBy (read .answer) (read .index) (encodingRange e) (encodingPairs e op)
+
+-- the line of a pseudo-instruction: each immediate that it takes has an alternative
+unfoldable pub pseudoLine : Pseudo → List Token → ℕ → Line
+unfolding readOperands
+pseudoLine p ts i =
+    let read = readOperands (pseudoWants p) ts i in
+    lineBy (read .answer) (read .index) (λ x. Within) (pseudoPairs p)

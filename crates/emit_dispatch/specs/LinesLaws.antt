@@ -1,0 +1,53 @@
+-- Laws of a line: the words of an encoding by its case, and the line by what was read. Assumes nothing.
+use Prim.Native.Nat.{ℕ}
+use mathlib.Core.Path.{_≡_, refl, sym, subst}
+use mathlib.Core.List.{List, []}
+use Rattle.instructions.specs.declared.Opcode.{Opcode}
+use Rattle.instructions.specs.declared.Encoding.{Encoding}
+use Rattle.pseudo_names.specs.declared.Pseudo.{Pseudo}
+use Rattle.cursor.specs.declared.Cursor.{Cursor}
+use Rattle.cursor.specs.Cursors.{At}
+use Rattle.cursor.specs.CursorsLaws.{cursor-eta}
+use Rattle.cursor.specs.Reads.{ReadAs}
+use Rattle.operand.specs.declared.Miss.{Miss}
+use Rattle.operand.specs.Answers.{Answer}
+use Rattle.operand_list.specs.declared.Wants.{Wants}
+use Rattle.operand_list.specs.declared.Operands.{Operands}
+use Rattle.operand_list.specs.declared.OperandsAnswer.{OperandsAnswer}
+use Rattle.operand_list.specs.declared.OperandsAnswer.the-variants.{Got as GotOperands, Missed as MissedOperands}
+use Rattle.operand_list.specs.OperandLists.{AskedAll, givenAll}
+use Rattle.operand_list.specs.HeldOperands.{heldAll}
+use Rattle.operand_list.specs.HeldOperandsLaws.{all-given, none-given}
+use Rattle.emit_pairs.specs.declared.EmitInstruction.{EmitInstruction}
+use Rattle.emit_pairs.specs.declared.InstructionPair.{InstructionPair}
+use Rattle.emit_pairs.specs.declared.Range.{Range}
+use Rattle.emit_pairs.specs.Pairs.{EmitIs}
+use Rattle.emit_dispatch.specs.declared.LineAnswer.{LineAnswer}
+use Rattle.emit_dispatch.specs.declared.LineAnswer.the-variants.{Missed as MissedOperand}
+use Rattle.emit_dispatch.specs.Wants.{encodingWants, pseudoWants}
+use Rattle.emit_dispatch.specs.Lines.{encodingPairs, pseudoPairs, rangeAnswer, lineBy}
+use Rattle.emit_dispatch.specs.Contract.{LineAs}
+
+-- ---- words, by the case that the encoding or the pseudo-instruction is
+
+pub encoding-as : {r : EmitInstruction} {e is : Encoding} (op : Opcode) (o : Operands) → e ≡ is → EmitIs r (encodingPairs is op (heldAll (encodingWants is) o))
+    → EmitIs r (encodingPairs e op (heldAll (encodingWants e) o))
+encoding-as {r} op o e i = subst (λ (x : Encoding). EmitIs r (encodingPairs x op (heldAll (encodingWants x) o))) (sym e) i
+
+pub pseudo-as : {r : EmitInstruction} {p is : Pseudo} (o : Operands) → p ≡ is → EmitIs r (pseudoPairs is (heldAll (pseudoWants is) o)) → EmitIs r (pseudoPairs p (heldAll (pseudoWants p) o))
+pseudo-as {r} o e i = subst (λ (x : Pseudo). EmitIs r (pseudoPairs x (heldAll (pseudoWants x) o))) (sym e) i
+
+-- ---- the line, by what was read
+
+module _ (w : Wants) {s : List ℕ} (x : At (Answer (AskedAll w))) {given : OperandsAnswer} {cursor : Cursor} (r : ReadAs s (givenAll w x) given cursor)
+    (range : AskedAll w → Range) (pairs : AskedAll w → List InstructionPair) {answer : LineAnswer} {emit : EmitInstruction} where
+  pub line-missed : (m : Miss) → given ≡ MissedOperands m → answer ≡ MissedOperand m → EmitIs emit [] → LineAs s (lineBy (x .answer) (x .index) range pairs) answer emit cursor
+  line-missed m e a i =
+      subst (λ (y : At (Answer (AskedAll w))). LineAs s (lineBy (y .answer) (y .index) range pairs) answer emit cursor) (sym (none-given w x r m e))
+      (record { answer-is = a; words-are = i; cursor-is = cursor-eta s cursor (r .placed); placed = r .placed })
+
+  pub line-read : (o : Operands) → given ≡ GotOperands o → answer ≡ rangeAnswer (range (heldAll w o)) → EmitIs emit (pairs (heldAll w o))
+      → LineAs s (lineBy (x .answer) (x .index) range pairs) answer emit cursor
+  line-read o e a i =
+      subst (λ (y : At (Answer (AskedAll w))). LineAs s (lineBy (y .answer) (y .index) range pairs) answer emit cursor) (sym (all-given w x r o e))
+      (record { answer-is = a; words-are = i; cursor-is = cursor-eta s cursor (r .placed); placed = r .placed })

@@ -1,4 +1,0 @@
-pub mod Lines
-pub mod Encodings
-pub mod Contract
-pub mod LinesLaws

@@ -1,2 +1,0 @@
-pub mod OperandReads
-pub mod OperandReadsLaws

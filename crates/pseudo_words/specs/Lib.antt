@@ -1,2 +1,0 @@
-pub mod PseudoWords
-pub mod PseudoWordsLaws
