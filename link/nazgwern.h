@@ -1,9 +1,9 @@
 /* The library nazgwern: the two functions of the MIPS32 assembler core, for C and Rust on x86-64.
 
-   A list is a sequence of records. Every record begins with a 2-byte length (of the bytes after
-   the head) and a 2-byte kind. All numbers are little-endian. A location is a 4-byte source and a
-   4-byte index. Names and texts use bytes 0x20 to 0x7E. In brackets stands how many bytes a field
-   has; document 01 has the rest.
+   RECORDS. A list is a sequence of records. Every record begins with a 2-byte length (of the bytes
+   after the head) and a 2-byte kind. All numbers are little-endian. A location is a 4-byte source
+   and a 4-byte index. Names and texts use bytes 0x20 to 0x7E. In brackets stands how many bytes a
+   field has.
 
      kind      record      body
      0 to 15   token       location, payload
@@ -13,26 +13,76 @@
      34        label       address (4), name of 1 to 64
      35        region      address (4), data
      36        pending     region (2), offset (4), location, patch kind (1), form (1), value or
-                           added offset (8), the name's location, name of 1 to 64 in form 1
-     37        breakpoint  location, one pc (4) a word
-     38        entry       form (1), value or added offset (8), the name's location, name of 1 to
-                           64 in form 1
+                           added offset (8), the name's location, name of 1 to 64
+     37        breakpoint  location, 1 to 5 pcs (4 each), one a word
+     38        entry       form (1), value or added offset (8), the name's location, name of 1 to 64
 
-   Tokens are, from kind 0: Comment, Directive, Parameter, Register (1), FPRegister (1),
-   IntegerLiteral (8), FloatLiteral (8), StringLiteral, Symbol, Plus, Minus, Comma, Colon, NewLine,
-   LeftBrace, RightBrace. Symbol has 1 to 64 bytes, the other texts 0 to 64, the rest no payload.
+   token         0 Comment, 1 Directive, 2 Parameter, 7 StringLiteral: a text of 0 to 64 bytes
+                 3 Register, 4 FPRegister: one byte, 0 to 31
+                 5 IntegerLiteral: eight bytes; 6 FloatLiteral: eight bytes, the bits of a double
+                 8 Symbol: 1 to 64 bytes
+                 9 Plus, 10 Minus, 11 Comma, 12 Colon, 13 NewLine, 14 LeftBrace, 15 RightBrace:
+                 no payload
+   opcode class  0 Op, 1 Func, 2 Special, 3 Algebra, 4 Cop1, 5 Cop1I; a key is any byte
+   encoding      0 Register, 1 RegisterShift, 2 Source, 3 Destination, 4 Inputs, 5 Sham,
+                 6 SpecialBranch, 7 Immediate, 8 LoadImmediate, 9 Jump, 10 Branch, 11 BranchZero,
+                 12 Parameterless, 13 Offset, 14 FPOffset, 15 FP3Register, 16 FP2Register,
+                 17 FPMove, 18 FPCond, 19 FPCrossMove, 20 FPBranch
+   size          0 Single, 1 Double, 2 Word, for encodings 15 to 18; else 0
+   flag          0 or 1, for encodings 17, 19 and 20; else 0
+   alternative   present is 0 or 1, for encoding 7; else, and where it is 0, class and key are 0
+   patch kind    0 Branch, 1 Jump, 2 Lower, 3 Upper, 4 Full
+   form          0 constant: the name's location is zero and there is no name; 1 name
 
-   Each buffer goes as a pointer, then its length in bytes. The caller answers for three things
+   LIMITS. A buffer has at most 65,536 bytes, and a region's data at most 65,528. One accepted line
+   adds at most 20 bytes to the data (five words), 200 to the pending list (two records with names
+   of 64 bytes) and 32 to the breakpoints (a record of five pcs); and with as much room left in
+   each, and data of at most 65,508 bytes, no line is refused with 12. Both are proved: line-grows
+   and room-enough in crates/routine/specs. A refused call adds nothing.
+
+   BUFFERS. Each goes as a pointer, then its length in bytes. The caller answers for three things
    that no call can test: a pointer is not null, also where the length is 0; behind it are as many
-   bytes as the length says; a buffer that is not const overlaps no other. Whatever the bytes and
-   the numbers are, a call ends and has an answer.
+   bytes as the length says; and no buffer that a call may write (one that is not const here)
+   overlaps any other of the call, while those that are only read may. Nothing needs to be aligned.
+   Whatever the bytes and the numbers are, a call ends and has an answer. It keeps nothing behind:
+   all state is in the buffers.
 
-   The answer is six numbers of four bytes: number, source, index, a, b, and a line's position or a
-   build's entry. Number 0 is an accepted call; 1 to 16 are document 01's refusals, with the
-   refusal's location, a (of which these are the low 32 bits) and b. The number is returned too.
-   On refusal the answer is written and no other lent byte changes. If the answer has fewer than
-   24 bytes, or the counts fewer than 12, the call returns 1 and changes nothing at all. Bytes
-   behind the 24 and the 12 stay as they are. */
+   ANSWER. Six numbers of four bytes: number, source, index, a, b, and a line's position or a
+   build's entry. Number 0 is an accepted call, 1 to 16 are refusals; source and index are the
+   refusal's location, a is given by its low 32 bits, and numbers that are not named here are 0. The
+   number is returned too. On refusal the answer is written and no other lent byte changes. If the
+   answer has fewer than 24 bytes, or the counts fewer than 12, the call returns NAZGWERN_TOO_SHORT
+   and changes nothing at all. Bytes behind the 24 and the 12 stay as they are.
+
+      1  A record breaks the layout or sits in the wrong list, a buffer is over 65,536 bytes, a fill
+         count is over its buffer's length, or the region's number is none (a: buffer in argument
+         order from 0, b: the byte place in it).
+      2  Two descriptors or two labels share a name (a: buffer, b: place of the later).
+      3  Neither descriptor nor pseudo-instruction has the mnemonic.
+      4  The tokens end before an operand does.
+      5  A register was due (a: kind of the token that was met).
+      6  A constant was due (a: the same).
+      7  A label was due (a: the same).
+      8  A right brace was due (a: the same).
+      9  An immediate without alternative lies outside -32,768 to 32,767 (a: -8000, b: 32767).
+     10  No region is selected.
+     11  Region address plus data length before some word exceeds 2^32 - 1 (a: address, b: that
+         length).
+     12  The words, pending or breakpoint records lack space, or data would exceed 65,528 bytes
+         (a: 0, 1 or 2, the first that is short).
+     13  The build's entry name is unknown.
+     14  A patch ends past its region's data.
+     15  A patch's name is unknown.
+     16  A branch or jump is out of range (a: destination, b: pc).
+
+   The location is zero for 1 and 2; the mnemonic's for 3, 4 and 9 to 12; for 5 to 8 that of the
+   token that was met, or the mnemonic's at a NewLine; the name's for 13 and 15, and the pending's
+   for 14 and 16. docs/REFUSALS.md says what to do about each.
+
+   STACK. Measured, not proved, on x86-64 with gcc as the caller's compiler: link/stack ran over a
+   million calls of nazgwern_do_instruction, of which none took more than 4,152 bytes of stack, and
+   731 of nazgwern_build, of which none took more than 160; arguments and return address counted.
+   The code may also use the 128 bytes below its stack pointer, as the x86-64 convention allows. */
 #ifndef NAZGWERN_H
 #define NAZGWERN_H
 
@@ -46,6 +96,14 @@ extern "C" {
 #define NAZGWERN_ANSWER_BYTES 24
 #define NAZGWERN_COUNTS_BYTES 12
 #define NAZGWERN_NO_REGION 65535
+#define NAZGWERN_TOO_SHORT UINT32_C(0xFFFFFFFF)
+
+/* The limits above. */
+#define NAZGWERN_MOST_BYTES 65536
+#define NAZGWERN_MOST_DATA 65528
+#define NAZGWERN_LINE_DATA 20
+#define NAZGWERN_LINE_PENDING 200
+#define NAZGWERN_LINE_BREAKPOINTS 32
 
 /* Emits one line: appends its words to the region data, and its records to the filled parts of
    pending and breakpoints.

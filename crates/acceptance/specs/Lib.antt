@@ -1,3 +1,2 @@
-pub mod Lists
 pub mod Marked
-pub mod LinesLoad
+pub mod Demands

@@ -1,13 +1,15 @@
--- Document 01's table 'Marked for proof', every row, as one statement about the definitions of an emit call and of a build.
+-- Document 01's table 'Marked for proof', every row with its whole outcome, as one statement about the definitions of an emit call and of a
+-- build.
 -- Assumes nothing.
 use mathlib.Core.Path.{_≡_, refl}
-use mathlib.Core.List.{[], _∷_, _++_}
+use Prim.Native.Nat.{ℕ}
+use lib.IntN.{ℤ, pos}
+use mathlib.Core.List.{List, [], _∷_, _++_}
 use Rattle.field.specs.Field.{setField}
 use Rattle.record.specs.Bytes.{all, sameBytes}
 use Rattle.record.specs.Records.{placesF, placesFrom, places, firstBad, firstBadOf, withinLimit}
 use Rattle.refusal.specs.Numbers.{zeroLocation}
 use Rattle.refusal.specs.Verdicts.{firstStop}
-use Rattle.refusal.specs.declared.Refusal.the-variants.{ExpectedLabel, JumpOutOfRange}
 use Rattle.names.specs.Names.{firstNamed, firstLater, firstRepeat}
 use Rattle.loading.specs.Load.{isSmall, wideWords, loadWords}
 use Rattle.lexer.specs.Tokens.{payloadOf, payloadOk, tokenOk, tokenLayout, tokens}
@@ -17,9 +19,10 @@ use Rattle.address_label.specs.AddressLabels.{addressLabelOk}
 use Rattle.address_label.specs.Entries.{entryOk, entryLayout}
 use Rattle.pending.specs.Pendings.{pendingOk, pendingLayout, kindFrom}
 use Rattle.patch.specs.Patches.{destination, fieldWidth, fieldValue, branchInRange, jumpInRange, inRange, reachVerdict, pendingVerdict, writePending}
-use Rattle.build_outcome.specs.Build.{keep, orderFrom, layoutVerdicts, buildVerdict, writePatches, buildOutcome}
-use Rattle.build_outcome.specs.declared.Built.the-variants.{Refused}
-use Rattle.cursor.specs.Cursors.{passed, peek, step, nextAdjacent}
+use Rattle.build_outcome.specs.Build.{keep, orderFrom, layoutVerdicts, buildVerdict, writePatches, BuildOutcome, buildOutcome}
+use Rattle.build_outcome.specs.Returned.{returned as buildReturned}
+use Rattle.build_outcome.specs.declared.Built.the-variants.{Entry}
+use Rattle.cursor.specs.Cursors.{passed, peek, step, nextAdjacent, peekAdjacent}
 use Rattle.operands.specs.Operands.{getRegister, signed, getInteger, getConstant, getValue}
 use Rattle.assembler_util.specs.LabelOperands.{symbolLabel, toLabel, getLabel, braced, afterLabel, getOffsetOrLabel}
 use Rattle.operand_list.specs.OperandLists.{readOperand, readOperands}
@@ -32,49 +35,71 @@ use Rattle.emit_dispatch.specs.Lines.{encodingLine, pseudoLine}
 use Rattle.record.specs.Stores.{append}
 use Rattle.breakpoints.specs.BreakpointBytes.{pcsBytes}
 use Rattle.emit_bytes.specs.Appended.{wordBytes, pendingsBytes}
-use Rattle.emit_outcome.specs.declared.EmitAnswer.the-variants.{Refused as LineRefused}
+use Rattle.emit_outcome.specs.Call.{Call}
+use Rattle.emit_outcome.specs.Returned.{returned as lineReturned}
 use Rattle.emit_outcome.specs.Dispatch.{meaning, tableLine}
 use Rattle.emit_outcome.specs.Checks.{layoutStop, listStop}
 use Rattle.emit_outcome.specs.Room.{edgeStop, roomStop}
 use Rattle.emit_outcome.specs.Emit.{lineOutcome, emitOutcome}
-use Rattle.acceptance.specs.Lists.{register, integer, minus, comma, leftBrace, rightBrace, descriptor, line, wordsIn, emitted, region, patch}
+use Rattle.example_lists.specs.Lists.{register, integer, minus, comma, leftBrace, rightBrace, «addu», «li», «lw», «abs», «sll», descriptor, line, asBytes, pcsFrom, emits, region, patch}
+
+-- ---- a refused call, by document 01's numbers; every lent byte and count is as at entry
+
+pub record LineRefuses (call : Call) (number : ℕ) (a : ℤ) (b position : ℕ) : Type 0 where
+  pub returned-is : lineReturned (emitOutcome call .answer) ≡ record { number = number; location = zeroLocation; a = a; b = b; position = position }
+  pub counts-stay : emitOutcome call .counts ≡ call .numbers .counts
+  pub lent-stays : emitOutcome call .lent ≡ call .lent
+
+pub record BuildRefuses (regions pending : List ℕ) (number : ℕ) (a : ℤ) (b : ℕ) : Type 0 where
+  pub returned-is : buildReturned (buildOutcome [] [] regions pending .answer) ≡ record { number = number; location = zeroLocation; a = a; b = b; entry = 0 }
+  pub regions-stay : buildOutcome [] [] regions pending .regions ≡ regions
+
+-- an accepted build without an entry record
+abbrev pub builds : (regions : List ℕ) → BuildOutcome
+builds regions = record { answer = Entry 0x00400000; regions = regions }
+
+-- ---- the table
+
+-- lw's descriptor (Op 35)
+abbrev pub lwTable : List ℕ
+lwTable = descriptor 0 35 13 «lw»
 
 pub record MarkedTable : Type 0 where
   -- addu $t0,$t1,$t2 (Func 33)
-  pub addu : emitted (emitOutcome (line (97 ∷ 100 ∷ 100 ∷ 117 ∷ []) (descriptor 1 33 0 (97 ∷ 100 ∷ 100 ∷ 117 ∷ [])) (register 8 ++ comma ++ register 9 ++ comma ++ register 10))) ≡ 0x012a4021 ∷ []
+  pub addu : emitOutcome (line «addu» (descriptor 1 33 0 «addu») (register 8 ++ comma ++ register 9 ++ comma ++ register 10)) ≡ emits 5 (0x012a4021 ∷ [])
   -- li $t0,-32768
-  pub li-least : emitted (emitOutcome (line (108 ∷ 105 ∷ []) [] (register 8 ++ comma ++ minus ++ integer 32768))) ≡ 0x24088000 ∷ []
+  pub li-least : emitOutcome (line «li» [] (register 8 ++ comma ++ minus ++ integer 32768)) ≡ emits 4 (0x24088000 ∷ [])
   -- li $t0,32768
-  pub li-past : emitted (emitOutcome (line (108 ∷ 105 ∷ []) [] (register 8 ++ comma ++ integer 32768))) ≡ 0x34088000 ∷ []
+  pub li-past : emitOutcome (line «li» [] (register 8 ++ comma ++ integer 32768)) ≡ emits 3 (0x34088000 ∷ [])
   -- li $t0,0x12340000
-  pub li-upper : emitted (emitOutcome (line (108 ∷ 105 ∷ []) [] (register 8 ++ comma ++ integer 0x12340000))) ≡ 0x3c081234 ∷ []
+  pub li-upper : emitOutcome (line «li» [] (register 8 ++ comma ++ integer 0x12340000)) ≡ emits 3 (0x3c081234 ∷ [])
   -- li $t0,0x12345678
-  pub li-both : emitted (emitOutcome (line (108 ∷ 105 ∷ []) [] (register 8 ++ comma ++ integer 0x12345678))) ≡ 0x3c081234 ∷ 0x35085678 ∷ []
+  pub li-both : emitOutcome (line «li» [] (register 8 ++ comma ++ integer 0x12345678)) ≡ emits 3 (0x3c081234 ∷ 0x35085678 ∷ [])
   -- lw $t0,32768($t1) (Op 35)
-  pub lw-far : emitted (emitOutcome (line (108 ∷ 119 ∷ []) (descriptor 0 35 13 (108 ∷ 119 ∷ [])) (register 8 ++ comma ++ integer 32768 ++ leftBrace ++ register 9 ++ rightBrace))) ≡ 0x34018000 ∷ 0x00290820 ∷ 0x8c280000 ∷ []
+  pub lw-far : emitOutcome (line «lw» lwTable (register 8 ++ comma ++ integer 32768 ++ leftBrace ++ register 9 ++ rightBrace)) ≡ emits 6 (0x34018000 ∷ 0x00290820 ∷ 0x8c280000 ∷ [])
   -- lw $t0,$t2($t1)
-  pub lw-dropped : emitted (emitOutcome (line (108 ∷ 119 ∷ []) (descriptor 0 35 13 (108 ∷ 119 ∷ [])) (register 8 ++ comma ++ register 10 ++ leftBrace ++ register 9 ++ rightBrace))) ≡ 0x8d280000 ∷ []
-  -- abs $t0,$t1
-  pub abs : emitted (emitOutcome (line (97 ∷ 98 ∷ 115 ∷ []) [] (register 8 ++ comma ++ register 9))) ≡ 0x0009001f ∷ 0x01214026 ∷ 0x01014023 ∷ []
-  -- sll $t0,$t1,33 (Func 0)
-  pub sll : emitted (emitOutcome (line (115 ∷ 108 ∷ 108 ∷ []) (descriptor 1 0 5 (115 ∷ 108 ∷ 108 ∷ [])) (register 8 ++ comma ++ register 9 ++ comma ++ integer 33))) ≡ 0x00094840 ∷ []
+  pub lw-dropped : emitOutcome (line «lw» lwTable (register 8 ++ comma ++ register 10 ++ leftBrace ++ register 9 ++ rightBrace)) ≡ emits 6 (0x8d280000 ∷ [])
   -- lw $t0,($t1): refusal 7, a = 14
-  pub lw-brace : emitOutcome (line (108 ∷ 119 ∷ []) (descriptor 0 35 13 (108 ∷ 119 ∷ [])) (register 8 ++ comma ++ leftBrace ++ register 9 ++ rightBrace)) .answer ≡ LineRefused (ExpectedLabel zeroLocation 14) 3
+  pub lw-brace : LineRefuses (line «lw» lwTable (register 8 ++ comma ++ leftBrace ++ register 9 ++ rightBrace)) 7 (pos 14) 0 3
+  -- abs $t0,$t1
+  pub abs : emitOutcome (line «abs» [] (register 8 ++ comma ++ register 9)) ≡ emits 3 (0x0009001f ∷ 0x01214026 ∷ 0x01014023 ∷ [])
+  -- sll $t0,$t1,33 (Func 0)
+  pub sll : emitOutcome (line «sll» (descriptor 1 0 5 «sll») (register 8 ++ comma ++ register 9 ++ comma ++ integer 33)) ≡ emits 5 (0x00094840 ∷ [])
   -- b, pc 00400000 to 00440000
-  pub b-forward : buildOutcome [] [] (region 0x00400000 0x10000000) (patch 0 0x00440000) .regions ≡ region 0x00400000 0x1000ffff
+  pub b-forward : buildOutcome [] [] (region 0x00400000 0x10000000) (patch 0 0x00440000) ≡ builds (region 0x00400000 0x1000ffff)
   -- b, pc 00400000 to 00440004: refusal 16
-  pub b-too-far : buildOutcome [] [] (region 0x00400000 0x10000000) (patch 0 0x00440004) .answer ≡ Refused (JumpOutOfRange zeroLocation 0x00440004 0x00400000)
+  pub b-too-far : BuildRefuses (region 0x00400000 0x10000000) (patch 0 0x00440004) 16 (pos 0x00440004) 0x00400000
   -- b, pc 00400000 to 003c0004
-  pub b-back : buildOutcome [] [] (region 0x00400000 0x10000000) (patch 0 0x003c0004) .regions ≡ region 0x00400000 0x10000000
+  pub b-back : buildOutcome [] [] (region 0x00400000 0x10000000) (patch 0 0x003c0004) ≡ builds (region 0x00400000 0x10000000)
   -- b, pc 00400000 to 003c0000: refusal 16
-  pub b-too-far-back : buildOutcome [] [] (region 0x00400000 0x10000000) (patch 0 0x003c0000) .answer ≡ Refused (JumpOutOfRange zeroLocation 0x003c0000 0x00400000)
+  pub b-too-far-back : BuildRefuses (region 0x00400000 0x10000000) (patch 0 0x003c0000) 16 (pos 0x003c0000) 0x00400000
   -- j (Op 2), pc 0ffffffc to 10000000
-  pub j-next-page : buildOutcome [] [] (region 0x0ffffffc 0x08000000) (patch 1 0x10000000) .regions ≡ region 0x0ffffffc 0x08000000
+  pub j-next-page : buildOutcome [] [] (region 0x0ffffffc 0x08000000) (patch 1 0x10000000) ≡ builds (region 0x0ffffffc 0x08000000)
   -- j (Op 2), pc 0ffffffc to 0ffffff8: refusal 16
-  pub j-other-page : buildOutcome [] [] (region 0x0ffffffc 0x08000000) (patch 1 0x0ffffff8) .answer ≡ Refused (JumpOutOfRange zeroLocation 0x0ffffff8 0x0ffffffc)
+  pub j-other-page : BuildRefuses (region 0x0ffffffc 0x08000000) (patch 1 0x0ffffff8) 16 (pos 0x0ffffff8) 0x0ffffffc
 
 pub marked : MarkedTable
-unfolding emitOutcome lineOutcome tableLine listStop layoutStop roomStop edgeStop meaning wordBytes pendingsBytes pcsBytes append pseudoIn pseudoLine encodingLine loadPairs labelPairs isImmediate immediatePairs breakpointOk filledLayout pendingBufferLayout breakpointBufferLayout dataBufferLayout fieldsOk descriptorOk descriptorLayout mnemonicOk oneMnemonic mnemonicLayout mnemonicName readOperand readOperands symbolLabel toLabel getLabel braced afterLabel getOffsetOrLabel getRegister signed getInteger getConstant getValue passed peek step nextAdjacent pendingOk addressLabelOk payloadOf payloadOk tokenOk tokenLayout tokens isSmall wideWords loadWords firstNamed firstLater firstRepeat firstStop placesF placesFrom places firstBad firstBadOf withinLimit all sameBytes wordsIn buildOutcome buildVerdict layoutVerdicts writePatches writePending pendingVerdict reachVerdict orderFrom keep inRange jumpInRange branchInRange fieldValue fieldWidth destination kindFrom pendingLayout entryLayout entryOk regionLayout regionRecords regionOk resolve labelLayout labelOk setField
+unfolding emitOutcome lineOutcome tableLine listStop layoutStop roomStop edgeStop meaning wordBytes pendingsBytes pcsBytes append pseudoIn pseudoLine encodingLine loadPairs labelPairs isImmediate immediatePairs breakpointOk filledLayout pendingBufferLayout breakpointBufferLayout dataBufferLayout fieldsOk descriptorOk descriptorLayout mnemonicOk oneMnemonic mnemonicLayout mnemonicName readOperand readOperands symbolLabel toLabel getLabel braced afterLabel getOffsetOrLabel getRegister signed getInteger getConstant getValue passed peek step nextAdjacent peekAdjacent pendingOk addressLabelOk payloadOf payloadOk tokenOk tokenLayout tokens isSmall wideWords loadWords firstNamed firstLater firstRepeat firstStop placesF placesFrom places firstBad firstBadOf withinLimit all sameBytes asBytes pcsFrom buildOutcome buildVerdict layoutVerdicts writePatches writePending pendingVerdict reachVerdict orderFrom keep inRange jumpInRange branchInRange fieldValue fieldWidth destination kindFrom pendingLayout entryLayout entryOk regionLayout regionRecords regionOk resolve labelLayout labelOk setField
 marked = record {
   addu = refl;
   li-least = refl;
@@ -83,13 +108,13 @@ marked = record {
   li-both = refl;
   lw-far = refl;
   lw-dropped = refl;
+  lw-brace = record { returned-is = refl; counts-stay = refl; lent-stays = refl };
   abs = refl;
   sll = refl;
-  lw-brace = refl;
   b-forward = refl;
-  b-too-far = refl;
+  b-too-far = record { returned-is = refl; regions-stay = refl };
   b-back = refl;
-  b-too-far-back = refl;
+  b-too-far-back = record { returned-is = refl; regions-stay = refl };
   j-next-page = refl;
-  j-other-page = refl;
+  j-other-page = record { returned-is = refl; regions-stay = refl };
 }

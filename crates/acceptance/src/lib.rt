@@ -1,1 +1,1 @@
-// Document 01's table 'Marked for proof', as one statement about the definitions below, and what a line that loads a constant does. This crate has no code.
+// What the customer accepts the work by: document 01's table 'Marked for proof' as one statement, and the tender's three demands. This crate has no functions.

@@ -1,7 +1,7 @@
 -- Labels and offsets: the operand readers (assembler_util.rs) on a decoded token list and an index (document 01, 'Tokens'). Assumes nothing.
-use Prim.Native.Nat.{ℕ, _+_}
+use Prim.Native.Nat.{ℕ}
 use mathlib.Core.List.{List}
-use mathlib.Core.Bool.{true, false}
+use mathlib.Core.Bool.{Bool, true, false}
 use Rattle.record.specs.declared.Location.{Location}
 use Rattle.registers.specs.declared.RegisterSlot.{RegisterSlot}
 use Rattle.lexer.specs.declared.Text.{Text}
@@ -16,12 +16,17 @@ use Rattle.address_label.specs.declared.AddressLabel.{AddressLabel}
 use Rattle.address_label.specs.declared.AddressLabel.the-variants.{Constant, Label}
 use Rattle.cursor.specs.declared.Seen.{Seen}
 use Rattle.cursor.specs.declared.Seen.the-variants.{Met, End}
-use Rattle.cursor.specs.Cursors.{At, seek, peek, nextAdjacent}
+use Rattle.cursor.specs.Cursors.{At, step, nextAdjacent, peekAdjacent}
 use Rattle.operand.specs.declared.Miss.the-variants.{EndOfFile, ExpectedLabel, ExpectedRightBrace}
 use Rattle.operands.specs.Operands.{isKind, getRegister, getInteger, getConstant}
 use Rattle.operand.specs.declared.OffsetOrLabel.{OffsetOrLabel}
 use Rattle.operand.specs.declared.OffsetOrLabel.the-variants.{Label as LabelAlone, Offset}
 use Rattle.operand.specs.Answers.{Answer, Got, Missed, here}
+
+-- a token of the kind with that number is met
+abbrev pub isMet : ℕ → Seen → Bool
+isMet n End = false
+isMet n (Met t) = isKind n t
 
 -- ---- a label: "a number, or a Symbol with an optional Plus and constant"
 
@@ -32,18 +37,17 @@ abbrev pub plusConstant : Text → Location → Answer ℕ → Answer AddressLab
 plusConstant x l (Got n) = Got (named x l n)
 plusConstant x l (Missed m) = Missed m
 
--- the Symbol x at l, with i the index behind it and j that of the next token that is not passed over
-abbrev pub plusSeen : Text → Location → List Token → ℕ → ℕ → Seen → At (Answer AddressLabel)
-plusSeen x l ts i j End = here (Got (named x l 0)) i
-plusSeen x l ts i j (Met t) =
-    elim (isKind 9 t) [
-      | true ↦ here (plusConstant x l (getConstant ts (j + 1) .answer)) (getConstant ts (j + 1) .index)
+-- the Symbol x at l, with i the index behind it and what is met ahead
+abbrev pub plusSeen : Text → Location → List Token → ℕ → At Seen → At (Answer AddressLabel)
+plusSeen x l ts i ahead =
+    elim (isMet 9 (ahead .answer)) [
+      | true ↦ here (plusConstant x l (getConstant ts (step ts (ahead .index)) .answer)) (getConstant ts (step ts (ahead .index)) .index)
       | false ↦ here (Got (named x l 0)) i
     ]
 
 unfoldable pub symbolLabel : Text → Location → List Token → ℕ → At (Answer AddressLabel)
-unfolding getConstant peek
-symbolLabel x l ts i = plusSeen x l ts i (seek ts i) (peek ts (seek ts i))
+unfolding getConstant peekAdjacent step
+symbolLabel x l ts i = plusSeen x l ts i (peekAdjacent ts i)
 
 -- "7. A label was due (a: kind met)."
 abbrev pub symbolMet : Token → List Token → ℕ → MaybeText → At (Answer AddressLabel)
@@ -91,22 +95,18 @@ abbrev pub unbraced : Answer AddressLabel → Answer OffsetOrLabel
 unbraced (Got label) = Got (LabelAlone label)
 unbraced (Missed m) = Missed m
 
-abbrev pub braceSeen : Answer AddressLabel → List Token → ℕ → Seen → At (Answer OffsetOrLabel)
-braceSeen label ts j End = here (unbraced label) j
-braceSeen label ts j (Met t) =
-    elim (isKind 14 t) [
-      | true ↦ braced (orZero label) ts (j + 1)
-      | false ↦ here (unbraced label) j
+abbrev pub braceSeen : Answer AddressLabel → List Token → At Seen → At (Answer OffsetOrLabel)
+braceSeen label ts ahead =
+    elim (isMet 14 (ahead .answer)) [
+      | true ↦ braced (orZero label) ts (step ts (ahead .index))
+      | false ↦ here (unbraced label) (ahead .index)
     ]
 
 unfoldable pub afterLabel : Answer AddressLabel → List Token → ℕ → At (Answer OffsetOrLabel)
-unfolding peek braced
-afterLabel label ts i = braceSeen label ts (seek ts i) (peek ts (seek ts i))
+unfolding peekAdjacent step braced
+afterLabel label ts i = braceSeen label ts (peekAdjacent ts i)
 
-abbrev pub offsetSeen : List Token → ℕ → Seen → At (Answer OffsetOrLabel)
-offsetSeen ts i End = here (Missed EndOfFile) i
-offsetSeen ts i (Met t) = afterLabel (toLabel t ts i .answer) ts (toLabel t ts i .index)
-
+-- a label, and what follows it: nothing does where the tokens end
 unfoldable pub getOffsetOrLabel : List Token → ℕ → At (Answer OffsetOrLabel)
-unfolding nextAdjacent toLabel afterLabel
-getOffsetOrLabel ts i = offsetSeen ts (nextAdjacent ts i .index) (nextAdjacent ts i .answer)
+unfolding getLabel afterLabel
+getOffsetOrLabel ts i = afterLabel (getLabel ts i .answer) ts (getLabel ts i .index)

@@ -4,8 +4,8 @@ ghost use Rattle.lexer.specs.Tokens.{tokens};
 ghost use Rattle.cursor.specs.Reads.{Placed, ReadAs};
 ghost use Rattle.operand.specs.Answers.{answerOf, given};
 ghost use Rattle.operand.specs.Held.{heldAnswer};
-ghost use Rattle.assembler_util.specs.LabelOperands.{named, plusConstant, symbolLabel, toLabel, getLabel};
-ghost use Rattle.assembler_util.specs.LabelOperands.{orZero, unbraced, closedSeen, braced, afterLabel, getOffsetOrLabel};
+ghost use Rattle.assembler_util.specs.LabelOperands.{isMet, named, plusConstant, symbolLabel, toLabel, getLabel};
+ghost use Rattle.assembler_util.specs.LabelOperands.{orZero, unbraced, closedSeen, braced, getOffsetOrLabel};
 use address_label::AddressLabel;
 use address_label::NamedLabel;
 use cursor::Cursor;
@@ -33,6 +33,19 @@ fn named(text: Text, location: Location, offset: u64) -> AddressLabel
     })
 }
 
+// Whether a token of the kind with that number was met.
+fn is_met(number: u8, seen: Seen) -> bool
+    ensures { λ r. ⌜ r ≡ isMet number seen ⌝ }
+{
+    match seen {
+        Seen::End => false,
+        Seen::Met(t) => {
+            let kind = t.kind;
+            lexer::strip(kind) == number
+        }
+    }
+}
+
 // The Symbol `text` at `location`, with the position behind it: an optional Plus and constant follow.
 fn symbol_label(text: Text, location: Location, list: &[u8], from: Cursor) -> OperandRead
     requires { ⌜ Placed (now list) from ⌝ }
@@ -40,23 +53,19 @@ fn symbol_label(text: Text, location: Location, list: &[u8], from: Cursor) -> Op
         (given Want.Label (symbolLabel text location (tokens (now (list .entry))) (from .index)))
         (r .answer) (r .cursor) ⌝ }
 {
-    let found = cursor::seek_without(list, from);
-    let plain = OperandRead {
-        answer: OperandAnswer::Got(Operand::Label(named(text, location, 0))),
-        cursor: from,
-    };
-    match cursor::peek(list, found) {
-        Seen::End => plain,
-        Seen::Met(t) => {
-            let kind = t.kind;
-            if lexer::strip(kind) != lexer::PLUS {
-                return plain;
-            }
-            let read = operands::get_constant(list, cursor::next(list, found));
-            let constant = read.answer;
-            let cursor = read.cursor;
-            let answer = plus_constant(text, location, constant);
-            OperandRead { answer, cursor }
+    let ahead = cursor::peek_adjacent(list, from);
+    let plus = ahead.answer;
+    let found = ahead.cursor;
+    if is_met(lexer::PLUS, plus) {
+        let read = operands::get_constant(list, cursor::next(list, found));
+        let constant = read.answer;
+        let cursor = read.cursor;
+        let answer = plus_constant(text, location, constant);
+        OperandRead { answer, cursor }
+    } else {
+        OperandRead {
+            answer: OperandAnswer::Got(Operand::Label(named(text, location, 0))),
+            cursor: from,
         }
     }
 }
@@ -184,52 +193,24 @@ fn closed_seen(label: AddressLabel, slot: RegisterSlot, seen: Seen) -> OperandAn
     }
 }
 
-// What follows a label: a register in braces, or nothing.
-fn after_label(label: OperandAnswer, list: &[u8], from: Cursor) -> OperandRead
-    requires { ⌜ Placed (now list) from ⌝ }
-    ensures { λ r. ⌜ ReadAs (now (list .entry))
-        (given Want.OffsetOrLabel (afterLabel (heldAnswer Want.Label label) (tokens (now (list .entry))) (from .index)))
-        (r .answer) (r .cursor) ⌝ }
-{
-    let found = cursor::seek_without(list, from);
-    match cursor::peek(list, found) {
-        Seen::End => OperandRead {
-            answer: unbraced(label),
-            cursor: found,
-        },
-        Seen::Met(t) => {
-            let kind = t.kind;
-            if lexer::strip(kind) == lexer::LEFT_BRACE {
-                braced(or_zero(label), list, cursor::next(list, found))
-            } else {
-                OperandRead {
-                    answer: unbraced(label),
-                    cursor: found,
-                }
-            }
-        }
-    }
-}
-
 pub fn get_offset_or_label(list: &[u8], from: Cursor) -> OperandRead
     requires { ⌜ Placed (now list) from ⌝ }
     ensures { λ r. ⌜ ReadAs (now (list .entry))
         (given Want.OffsetOrLabel (getOffsetOrLabel (tokens (now (list .entry))) (from .index)))
         (r .answer) (r .cursor) ⌝ }
 {
-    let read = cursor::next_adjacent(list, from);
-    let seen = read.answer;
-    let cursor = read.cursor;
-    match seen {
-        Seen::End => OperandRead {
-            answer: OperandAnswer::Missed(Miss::EndOfFile),
-            cursor,
-        },
-        Seen::Met(t) => {
-            let read = to_label(t, list, cursor);
-            let label = read.answer;
-            let behind = read.cursor;
-            after_label(label, list, behind)
+    let read = get_label(list, from);
+    let label = read.answer;
+    let behind = read.cursor;
+    let ahead = cursor::peek_adjacent(list, behind);
+    let brace = ahead.answer;
+    let found = ahead.cursor;
+    if is_met(lexer::LEFT_BRACE, brace) {
+        braced(or_zero(label), list, cursor::next(list, found))
+    } else {
+        OperandRead {
+            answer: unbraced(label),
+            cursor: found,
         }
     }
 }

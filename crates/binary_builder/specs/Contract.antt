@@ -1,16 +1,19 @@
--- What `build` promises: its answer, every byte of the region list, and that the patches read back. Assumes nothing.
+-- What `build` promises: its answer in document 01's numbers, every byte of the region list, and that the patches read back. Assumes nothing.
 use mathlib.Core.Path.{_≡_}
 use mathlib.Core.List.{List}
 use Prim.Native.Nat.{ℕ}
 use Rattle.build_outcome.specs.declared.Built.{Built}
 use Rattle.build_outcome.specs.Build.{buildOutcome}
+use Rattle.build_outcome.specs.Returned.{returned}
 use Rattle.reading.specs.Reading.{imageOf, readings, destinations}
 use Rattle.reading.specs.Premises.{Premises}
 
--- the answer and the region list at exit, for a build of these lists; demand 3's claim on two label tables is about the same outcome:
--- `never-shared` in crates/reading/specs/Demand.antt
+-- The answer and the region list at exit, for a build of these lists. Of the same outcome are demand 3's claim on two label tables,
+-- `differing-apart` in crates/reading/specs/Demand.antt, and every finished word, `finished` in crates/finished_words/specs/Finished.antt.
 pub record BuildIs (labels entry regions pending : List ℕ) (answer : Built) (exit : List ℕ) : Type 0 where
   pub answer-is : answer ≡ buildOutcome labels entry regions pending .answer
+  -- number, location, a, b and entry
+  pub returned-is : returned answer ≡ returned (buildOutcome labels entry regions pending .answer)
   pub bytes-are : exit ≡ buildOutcome labels entry regions pending .regions
   -- demand 3: under the tender's premises the readings of the whole pending list are its destinations
   pub reads-back : Premises labels entry regions pending → readings (imageOf exit) pending ≡ destinations labels pending

@@ -25,6 +25,7 @@ use Rattle.build_outcome.specs.declared.Built.{Built}
 use Rattle.build_outcome.specs.declared.Built.the-variants.{Entry as BuiltEntry, Refused}
 use Rattle.patch.specs.Patches.{destination, nameEnd, nameLocation, addressOr}
 use Rattle.build_outcome.specs.Build.{patchOrder, patchVerdict, reachEntry, entryVerdict, entryAddress, layoutVerdicts, buildVerdict, patchedRegions, buildOutcome}
+use Rattle.build_outcome.specs.Returned.{returned}
 use Rattle.build_outcome.specs.BuildLaws.{outcome-accepted, outcome-refused}
 use Rattle.reading.specs.Reading.{imageOf, readings}
 use Rattle.reading.specs.Demand.{reads-back}
@@ -73,7 +74,12 @@ module _ (labels entry regions pending : List ℕ) where
   build-is : (answer : Built) (exit : List ℕ) → answer ≡ buildOutcome labels entry regions pending .answer → exit ≡ buildOutcome labels entry regions pending .regions
       → BuildIs labels entry regions pending answer exit
   build-is answer exit a b =
-      record { answer-is = a; bytes-are = b; reads-back = λ pr. ap (λ (r : List ℕ). readings (imageOf r) pending) b ∙ reads-back labels entry regions pending pr }
+      record {
+        answer-is = a;
+        returned-is = ap returned a;
+        bytes-are = b;
+        reads-back = λ pr. ap (λ (r : List ℕ). readings (imageOf r) pending) b ∙ reads-back labels entry regions pending pr;
+      }
 
   pub refused-is : (r : Refusal) → buildVerdict labels entry regions pending ≡ Stop r → BuildIs labels entry regions pending (Refused r) regions
   refused-is r e =

@@ -1,3 +1,4 @@
 pub mod Build
+pub mod Returned
 pub mod BuildLaws
 pub mod KeptLaws

@@ -5,7 +5,7 @@ use native.Mathlib.Omega.{arith}
 use mathlib.Core.List.{List, [], _∷_, map}
 use mathlib.Core.Bool.{Bool, true, false}
 use mathlib.Core.Path.{_≡_, refl, sym, ap, _∙_}
-use lib.ListN.{length, getD, drop, length-map, drop-of-length-le, List·getD-eq-default}
+use lib.ListN.{length, getD, length-map, drop-of-length-le, List·getD-eq-default}
 use lib.Seq.{drop-cons}
 use lib.Dec.{ltb}
 use borrow.Author.Tests.{lt-ltb, le-ltb, ltb-true, ltb-false}
@@ -17,12 +17,12 @@ use Rattle.lexer.specs.Tokens.{tokenOk, TokenIs, tokenLayout, tokenAt, tokens}
 use Rattle.lexer.specs.TokensLaws.{token-is, token-good}
 use Rattle.cursor.specs.declared.Cursor.{Cursor}
 use Rattle.cursor.specs.declared.Seen.the-variants.{Met, End}
-use Rattle.cursor.specs.Cursors.{isAdjacentKind, passed, seek, noToken, peek, step, nextAdjacent, cursorAt}
+use Rattle.cursor.specs.Cursors.{isAdjacentKind, passed, seek, noToken, peek, step, cursorAt}
 use Rattle.cursor.specs.Reads.{Placed}
 
 -- ---- the tokens and their places
 
-pub tokens-length : (s : List ℕ) → length (tokens s) ≡ length (places s)
+tokens-length : (s : List ℕ) → length (tokens s) ≡ length (places s)
 unfolding tokens
 tokens-length s = length-map (places s) (tokenAt s)
 
@@ -35,7 +35,7 @@ map-at f (q ∷ ps) (suc i) p t h = map-at f ps i p t (omega arith)
 abbrev pub place : List ℕ → ℕ → ℕ
 place s i = getD (places s) i (length s)
 
-pub token-at-place : (s : List ℕ) (i : ℕ) → i < length (tokens s) → getD (tokens s) i noToken ≡ tokenAt s (place s i)
+token-at-place : (s : List ℕ) (i : ℕ) → i < length (tokens s) → getD (tokens s) i noToken ≡ tokenAt s (place s i)
 unfolding tokens
 token-at-place s i h = map-at (tokenAt s) (places s) i (length s) noToken (omega (arith, tokens-length s))
 
@@ -69,7 +69,7 @@ each-from s (suc i) at g h =
     rw e (each-from s i (next s at) (good-next (tokenOk s) s at b (t .whole-at) g) (omega (arith, rw e at h)))
 
 module _ (s : List ℕ) (good : tokenLayout s ≡ Good) where
-  pub place-each : (i : ℕ) → i < length (tokens s) → (place s i < length s) × TokenIs s (place s i) × (place s (suc i) ≡ next s (place s i))
+  place-each : (i : ℕ) → i < length (tokens s) → (place s i < length s) × TokenIs s (place s i) × (place s (suc i) ≡ next s (place s i))
   place-each i h =
       let e = places-all s in
       let k : i < length (places s) = omega (arith, tokens-length s) in
@@ -80,7 +80,7 @@ module _ (s : List ℕ) (good : tokenLayout s ≡ Good) where
   place-least zero h = omega arith
   place-least (suc i) h = omega (arith, place-least i (omega arith), place-each i (omega arith) .2)
 
-pub place-first : (s : List ℕ) → place s 0 ≡ 0
+place-first : (s : List ℕ) → place s 0 ≡ 0
 place-first s = rw (places-all s) (first-from s 0 (omega arith))
 
 pub place-end : (s : List ℕ) (i : ℕ) → length (tokens s) ≤ i → place s i ≡ length s
@@ -122,15 +122,10 @@ pub step-end : (ts : List Token) (i : ℕ) → length ts ≤ i → step ts i ≡
 unfolding step
 step-end ts i h = rw (le-ltb i (length ts) h, step)
 
-pub adjacent-answer : (ts : List Token) (i : ℕ) → nextAdjacent ts i .answer ≡ peek ts (seek ts i)
-unfolding nextAdjacent
-adjacent-answer ts i = refl
-
-pub adjacent-index : (ts : List Token) (i : ℕ) → nextAdjacent ts i .index ≡ step ts (seek ts i)
-unfolding nextAdjacent
-adjacent-index ts i = refl
-
 -- ---- cursors
+
+pub index-at : (s : List ℕ) (i : ℕ) {c : Cursor} → c ≡ cursorAt s i → i ≡ c .index
+index-at s i e = sym (ap (λ (c : Cursor). c .index) e)
 
 pub cursor-is : (s : List ℕ) (c : Cursor) (i : ℕ) → Placed s c → c .index ≡ i → c ≡ cursorAt s i
 cursor-is s c i p e = ap (λ (n : ℕ). record { index = c .index; at = n }) (p .place-is) ∙ ap (cursorAt s) e

@@ -46,7 +46,7 @@ pub fn start(list: &[u8], position: usize) -> Cursor
 }
 
 // What stands at the position.
-pub fn peek(list: &[u8], position: Cursor) -> Seen
+fn peek(list: &[u8], position: Cursor) -> Seen
     requires { ⌜ Placed (now list) position ⌝ }
     ensures { λ r. ⌜ r ≡ peek (tokens (now (list .entry))) (position .index) ⌝ }
 {
@@ -75,7 +75,7 @@ pub fn next(list: &[u8], position: Cursor) -> Cursor
 }
 
 // Comment and Comma are passed over.
-pub fn is_adjacent_kind(kind: TokenKind) -> bool
+fn is_adjacent_kind(kind: TokenKind) -> bool
     ensures { λ r. ⌜ r ≡ isAdjacentKind kind ⌝ }
 {
     let n = lexer::strip(kind);
@@ -83,7 +83,7 @@ pub fn is_adjacent_kind(kind: TokenKind) -> bool
 }
 
 // The position of the next token that is not passed over, or the list's end.
-pub fn seek_without(list: &[u8], position: Cursor) -> Cursor
+fn seek_without(list: &[u8], position: Cursor) -> Cursor
     requires { ⌜ Placed (now list) position ⌝ }
     ensures { λ r. ⌜ (r ≡ cursorAt (now (list .entry)) (seek (tokens (now (list .entry))) (position .index))) × Placed (now (list .entry)) r ⌝ }
 {
@@ -102,7 +102,7 @@ pub fn seek_without(list: &[u8], position: Cursor) -> Cursor
 }
 
 // What stands at a position, and the position behind it.
-pub fn step_at(list: &[u8], position: Cursor) -> TokenRead
+fn step_at(list: &[u8], position: Cursor) -> TokenRead
     requires { ⌜ Placed (now list) position ⌝ }
     ensures { λ r. ⌜ (r .answer ≡ peek (tokens (now (list .entry))) (position .index))
         × (r .cursor ≡ cursorAt (now (list .entry)) (step (tokens (now (list .entry))) (position .index)))

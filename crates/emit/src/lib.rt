@@ -1,8 +1,8 @@
 // The entry of an emit call: the caller's fill counts are lent, and the work is done by value below.
-ghost use mathlib.Core.Path.{_≡_};
-ghost use Rattle.emit_outcome.specs.Call.{lentOf, callOf, outcomeOf};
-ghost use Rattle.emit_outcome.specs.Emit.{emitOutcome};
+ghost use Rattle.emit_outcome.specs.Call.{lentOf, callOf};
+ghost use Rattle.emit_outcome.specs.Contract.{EmittedIs};
 use emit_outcome::EmitAnswer;
+use emit_outcome::Emitted;
 use emit_outcome::FillCounts;
 use emit_outcome::LinePlace;
 
@@ -17,9 +17,9 @@ pub fn do_instruction(
     breakpoints: &mut [u8],
     place: LinePlace,
 ) -> EmitAnswer
-    ensures { λ r. ⌜ emitOutcome (callOf (now (tokens .entry)) (now (mnemonic .entry)) (now (descriptors .entry))
+    ensures { λ r. ⌜ EmittedIs (callOf (now (tokens .entry)) (now (mnemonic .entry)) (now (descriptors .entry))
         (lentOf (now («data» .entry)) (now (pending .entry)) (now (breakpoints .entry))) (now (counts .entry)) place)
-        ≡ outcomeOf r (now (counts .exit)) (lentOf (now («data» .exit)) (now (pending .exit)) (now (breakpoints .exit))) ⌝ }
+        r (now (counts .exit)) (lentOf (now («data» .exit)) (now (pending .exit)) (now (breakpoints .exit))) ⌝ }
 {
     let out = emit_core::do_instruction(
         *counts,
@@ -33,4 +33,36 @@ pub fn do_instruction(
     );
     *counts = out.counts;
     out.answer
+}
+
+// The entry, for callers that keep the counts by value: they need no proof by hand.
+pub fn do_line(
+    counts: FillCounts,
+    tokens: &[u8],
+    mnemonic: &[u8],
+    descriptors: &[u8],
+    data: &mut [u8],
+    pending: &mut [u8],
+    breakpoints: &mut [u8],
+    place: LinePlace,
+) -> Emitted
+    ensures { λ r. ⌜ EmittedIs (callOf (now (tokens .entry)) (now (mnemonic .entry)) (now (descriptors .entry))
+        (lentOf (now («data» .entry)) (now (pending .entry)) (now (breakpoints .entry))) counts place)
+        (r .answer) (r .counts) (lentOf (now («data» .exit)) (now (pending .exit)) (now (breakpoints .exit))) ⌝ }
+{
+    let mut held = counts;
+    let answer = do_instruction(
+        &mut held,
+        tokens,
+        mnemonic,
+        descriptors,
+        data,
+        pending,
+        breakpoints,
+        place,
+    );
+    Emitted {
+        answer,
+        counts: held,
+    }
 }

@@ -32,7 +32,11 @@ use Rattle.emit_dispatch.specs.Lines.{pseudoLine}
 use Rattle.emit_outcome.specs.declared.Meaning.{Meaning}
 use Rattle.emit_outcome.specs.declared.Meaning.the-variants.{Table, Builtin}
 use Rattle.emit_outcome.specs.Dispatch.{meaning, orNeither, orPseudo, tableLine}
-use Rattle.emit_outcome.specs.Call.{Call}
+use Rattle.emit_outcome.specs.declared.EmitAnswer.{EmitAnswer}
+use Rattle.emit_outcome.specs.declared.FillCounts.{FillCounts}
+use Rattle.emit_outcome.specs.Call.{Lent, Call, EmitOutcome, outcomeOf}
+use Rattle.emit_outcome.specs.Returned.{returned}
+use Rattle.emit_outcome.specs.Contract.{EmittedIs}
 use Rattle.emit_outcome.specs.Checks.{listStop}
 use Rattle.emit_outcome.specs.Emit.{startOf, callLine, callRefused, listOutcome, meaningOutcome, emitOutcome}
 use Rattle.emit_checks.specs.Made.{lineMade, MadeGood}
@@ -107,3 +111,7 @@ module _ (c : Call) where
     pub by-builtin : (p : Pseudo) → meaning (c .descriptors) (mnemonicName (c .mnemonic)) ≡ Builtin p
         → LineAs (c .token-list) (pseudoLine p (tokens (c .token-list)) (at .index)) (made .answer) (made .emit) (made .cursor) → emitOutcome c ≡ callLine c (lineMade made)
     by-builtin p f a = by-meaning pass f ∙ started (pseudoLine p (tokens (c .token-list))) a
+
+-- an outcome that is the call's is all that a call promises
+pub emitted : {call : Call} {answer : EmitAnswer} {counts : FillCounts} {lent : Lent} → emitOutcome call ≡ outcomeOf answer counts lent → EmittedIs call answer counts lent
+emitted e = record { outcome-is = e; returned-is = ap (λ (o : EmitOutcome). returned (o .answer)) (sym e) }

@@ -11,6 +11,7 @@ ghost use Rattle.emit_outcome.specs.Dispatch.{meaning, tableLine};
 ghost use Rattle.emit_outcome.specs.Call.{lentOf, callOf, outcomeOf};
 ghost use Rattle.emit_outcome.specs.Checks.{listStop};
 ghost use Rattle.emit_outcome.specs.Emit.{emitOutcome};
+ghost use Rattle.emit_outcome.specs.Contract.{EmittedIs};
 use cursor::Cursor;
 use emit_dispatch::LineEmit;
 use emit_outcome::Emitted;
@@ -103,9 +104,9 @@ pub fn do_instruction(
     breakpoints: &mut [u8],
     place: LinePlace,
 ) -> Emitted
-    ensures { λ r. ⌜ emitOutcome (callOf (now (tokens .entry)) (now (mnemonic .entry)) (now (descriptors .entry))
+    ensures { λ r. ⌜ EmittedIs (callOf (now (tokens .entry)) (now (mnemonic .entry)) (now (descriptors .entry))
         (lentOf (now («data» .entry)) (now (pending .entry)) (now (breakpoints .entry))) counts place)
-        ≡ outcomeOf (r .answer) (r .counts) (lentOf (now («data» .exit)) (now (pending .exit)) (now (breakpoints .exit))) ⌝ }
+        (r .answer) (r .counts) (lentOf (now («data» .exit)) (now (pending .exit)) (now (breakpoints .exit))) ⌝ }
 {
     match emit_checks::check_lists(
         tokens,

@@ -1,1 +1,1 @@
-// The manual's formats, read back from the word of each encoding: one statement for each format, as definitions and theorems. This crate has no code.
+// The manual's formats, which constant each line loads, and the format of every word that is emitted, as definitions and theorems. This crate has no code.

@@ -1,12 +1,12 @@
 -- What the linked calls give back and leave in their lent buffers. Assumes nothing.
-use Prim.Native.Nat.{ℕ}
+use Prim.Native.Nat.{ℕ, _-_, _^_}
 use mathlib.Core.List.{List, [], _∷_}
 use mathlib.Core.Bool.{true, false, _&&_}
 use lib.ListN.{length}
 use lib.Dec.{leb}
 use Rattle.record.specs.Stores.{append}
 use Rattle.record.specs.Bytes.{le32}
-use Rattle.linked_answer.specs.Words.{builtWords, emittedWords, numberOf, wordsAsBytes}
+use Rattle.nazgwern.specs.Words.{builtWords, emittedWords, numberOf, wordsAsBytes}
 use Rattle.build_outcome.specs.Build.{BuildOutcome, buildOutcome}
 use Rattle.emit_outcome.specs.declared.FillCounts.{FillCounts}
 use Rattle.emit_outcome.specs.declared.EmitAnswer.{EmitAnswer}
@@ -22,23 +22,27 @@ answerBytes = 24
 abbrev pub countsBytes : ℕ
 countsBytes = 12
 
+-- what a call returns that has no room for them: no refusal's number
+abbrev pub tooShort : ℕ
+tooShort = 2 ^ 32 - 1
+
 -- ---- a build
 pub record Linked : Type 0 where
-  pub number : ℕ
+  pub result : ℕ
   pub regions : List ℕ
   pub answer : List ℕ
 
 abbrev pub answered : BuildOutcome → List ℕ → Linked
 answered outcome answer =
     let words = builtWords (outcome .answer) in
-    record { number = numberOf words; regions = outcome .regions; answer = append answer 0 (wordsAsBytes words) }
+    record { result = numberOf words; regions = outcome .regions; answer = append answer 0 (wordsAsBytes words) }
 
--- an answer of fewer than 24 bytes: 1, and nothing is changed
+-- with an answer of fewer than 24 bytes nothing is done
 unfoldable pub linkedBuild : (labels entry regions pending answer : List ℕ) → Linked
 linkedBuild labels entry regions pending answer =
     elim (leb answerBytes (length answer)) [
       | true ↦ answered (buildOutcome labels entry regions pending) answer
-      | false ↦ record { number = 1; regions = regions; answer = answer }
+      | false ↦ record { result = tooShort; regions = regions; answer = answer }
     ]
 
 -- ---- a line
@@ -55,7 +59,7 @@ countsAfter (Done position) c counts = append counts 0 (wordsAsBytes (countWords
 countsAfter (LineRefused r position) c counts = counts
 
 pub record LinkedLine : Type 0 where
-  pub number : ℕ
+  pub result : ℕ
   pub lent : Lent
   pub counts : List ℕ
   pub answer : List ℕ
@@ -64,16 +68,16 @@ abbrev pub lineAnswered : EmitOutcome → (counts answer : List ℕ) → LinkedL
 lineAnswered outcome counts answer =
     let words = emittedWords (outcome .answer) in
     record {
-      number = numberOf words;
+      result = numberOf words;
       lent = outcome .lent;
       counts = countsAfter (outcome .answer) (outcome .counts) counts;
       answer = append answer 0 (wordsAsBytes words);
     }
 
--- an answer of fewer than 24 bytes, or counts of fewer than 12: 1, and nothing is changed
+-- with an answer of fewer than 24 bytes, or counts of fewer than 12, nothing is done
 unfoldable pub linkedLine : (token-list mnemonic descriptors : List ℕ) → Lent → (counts : List ℕ) → LinePlace → (answer : List ℕ) → LinkedLine
 linkedLine token-list mnemonic descriptors lent counts place answer =
     elim (leb answerBytes (length answer) && leb countsBytes (length counts)) [
       | true ↦ lineAnswered (emitOutcome (callOf token-list mnemonic descriptors lent (countsAt counts) place)) counts answer
-      | false ↦ record { number = 1; lent = lent; counts = counts; answer = answer }
+      | false ↦ record { result = tooShort; lent = lent; counts = counts; answer = answer }
     ]

@@ -7,7 +7,7 @@ use lib.ListN.{length}
 use lib.Dec.{leb}
 use borrow.Author.Tests.{le-leb, lt-leb}
 use Rattle.record.specs.Stores.{append}
-use Rattle.linked_answer.specs.Words.{builtWords, emittedWords, numberOf, wordsAsBytes}
+use Rattle.nazgwern.specs.Words.{builtWords, emittedWords, numberOf, wordsAsBytes}
 use Rattle.build_outcome.specs.declared.Built.{Built}
 use Rattle.build_outcome.specs.Build.{buildOutcome}
 use Rattle.emit_outcome.specs.declared.FillCounts.{FillCounts}
@@ -15,30 +15,30 @@ use Rattle.emit_outcome.specs.declared.LinePlace.{LinePlace}
 use Rattle.emit_outcome.specs.declared.EmitAnswer.{EmitAnswer}
 use Rattle.emit_outcome.specs.Call.{Lent, callOf, outcomeOf}
 use Rattle.emit_outcome.specs.Emit.{emitOutcome}
-use Rattle.nazgwern.specs.Answer.{answerBytes, countsBytes, linkedBuild, countsAt, countsAfter, linkedLine}
+use Rattle.nazgwern.specs.Answer.{answerBytes, countsBytes, tooShort, linkedBuild, countsAt, countsAfter, linkedLine}
 
 -- ---- a build
 module _ (labels entry regions pending answer : List ℕ) where
-  pub linked-short : length answer < answerBytes → linkedBuild labels entry regions pending answer ≡ (record { number = 1; regions = regions; answer = answer })
+  pub linked-short : length answer < answerBytes → linkedBuild labels entry regions pending answer ≡ (record { result = tooShort; regions = regions; answer = answer })
   unfolding linkedBuild
   linked-short h = rw (lt-leb answerBytes (length answer) h, linkedBuild)
 
   pub linked-answered : (built : Built) (words patched written : List ℕ) → answerBytes ≤ length answer → built ≡ buildOutcome labels entry regions pending .answer
       → patched ≡ buildOutcome labels entry regions pending .regions → words ≡ builtWords built → written ≡ append answer 0 (wordsAsBytes words)
-      → linkedBuild labels entry regions pending answer ≡ (record { number = numberOf words; regions = patched; answer = written })
+      → linkedBuild labels entry regions pending answer ≡ (record { result = numberOf words; regions = patched; answer = written })
   unfolding linkedBuild
   linked-answered built words patched written h b p w e = rw (le-leb answerBytes (length answer) h, linkedBuild, e, w, p, b)
 
 -- ---- a line
 module _ (token-list mnemonic descriptors : List ℕ) (lent : Lent) (counts : List ℕ) (place : LinePlace) (answer : List ℕ) where
   pub line-short : (leb answerBytes (length answer) && leb countsBytes (length counts)) ≡ false
-      → linkedLine token-list mnemonic descriptors lent counts place answer ≡ (record { number = 1; lent = lent; counts = counts; answer = answer })
+      → linkedLine token-list mnemonic descriptors lent counts place answer ≡ (record { result = tooShort; lent = lent; counts = counts; answer = answer })
   unfolding linkedLine
   line-short e = rw (e, linkedLine)
 
   pub line-answered : {given : EmitAnswer} {filled : FillCounts} {lent' : Lent} {counts' words answer' : List ℕ} (c : FillCounts) → answerBytes ≤ length answer → countsBytes ≤ length counts
       → c ≡ countsAt counts → emitOutcome (callOf token-list mnemonic descriptors lent c place) ≡ outcomeOf given filled lent'
       → words ≡ emittedWords given → counts' ≡ countsAfter given filled counts → answer' ≡ append answer 0 (wordsAsBytes words)
-      → linkedLine token-list mnemonic descriptors lent counts place answer ≡ (record { number = numberOf words; lent = lent'; counts = counts'; answer = answer' })
+      → linkedLine token-list mnemonic descriptors lent counts place answer ≡ (record { result = numberOf words; lent = lent'; counts = counts'; answer = answer' })
   unfolding linkedLine
   line-answered c h k e o w n a = rw (le-leb answerBytes (length answer) h, le-leb countsBytes (length counts) k, linkedLine, a, n, w, ← e, o)

@@ -7,7 +7,7 @@ use borrow.Author.Tests.{le-leb}
 use Rattle.record.specs.Stores.{append}
 use Rattle.refusal.specs.declared.Refusal.{Refusal}
 use Rattle.refusal.specs.Numbers.{numbered}
-use Rattle.linked_answer.specs.Words.{refusalWords, wordsAsBytes}
+use Rattle.nazgwern.specs.Words.{emittedWords, wordsAsBytes}
 use Rattle.emit_outcome.specs.declared.LinePlace.{LinePlace}
 use Rattle.emit_outcome.specs.declared.EmitAnswer.the-variants.{Refused}
 use Rattle.emit_outcome.specs.Call.{Lent, callOf}
@@ -18,7 +18,7 @@ use Rattle.nazgwern.specs.Answer.{answerBytes, countsBytes, countsAt, li
 pub line-refused : (token-list mnemonic descriptors : List ℕ) (lent : Lent) (counts : List ℕ) (place : LinePlace) (answer : List ℕ) (r : Refusal) (p : ℕ)
     → answerBytes ≤ length answer → countsBytes ≤ length counts → emitOutcome (callOf token-list mnemonic descriptors lent (countsAt counts) place) .answer ≡ Refused r p
     → linkedLine token-list mnemonic descriptors lent counts place answer
-    ≡ (record { number = numbered r .number; lent = lent; counts = counts; answer = append answer 0 (wordsAsBytes (refusalWords (numbered r) p)) })
+    ≡ (record { result = numbered r .number; lent = lent; counts = counts; answer = append answer 0 (wordsAsBytes (emittedWords (Refused r p))) })
 unfolding linkedLine
 line-refused token-list mnemonic descriptors lent counts place answer r p h k e =
     rw (le-leb answerBytes (length answer) h, le-leb countsBytes (length counts) k, linkedLine, refused-stays (callOf token-list mnemonic descriptors lent (countsAt counts) place) r p e)

@@ -4,6 +4,9 @@ ghost use Prim.Native.Nat.{_≤_};
 ghost use lib.ListN.{length};
 ghost use Rattle.emit_outcome.specs.Call.{lentOf};
 ghost use Rattle.nazgwern.specs.Answer.{countsBytes, countsAt, countsAfter, linkedBuild, linkedLine};
+
+pub mod answer;
+
 use emit_outcome::EmitAnswer;
 use emit_outcome::FillCounts;
 use emit_outcome::LinePlace;
@@ -14,8 +17,11 @@ const ANSWER_BYTES: usize = 24;
 // The fill counts of the region data, the pending and the breakpoint buffer, each four bytes.
 const COUNTS_BYTES: usize = 12;
 
+// No refusal has this number.
+const TOO_SHORT: u32 = 0xFFFF_FFFF;
+
 // Patches the regions in place or refuses, writes the answer and returns its number: 0 for an accepted build.
-// Where the answer is too short it returns 1 and changes nothing.
+// Where the answer is too short it returns TOO_SHORT and changes nothing.
 #[no_mangle]
 pub extern "C" fn nazgwern_build(
     labels: &[u8],
@@ -25,14 +31,14 @@ pub extern "C" fn nazgwern_build(
     answer: &mut [u8],
 ) -> u32
     ensures { λ r. ⌜ linkedBuild (now (labels .entry)) (now (entry .entry)) (now (regions .entry)) (now (pending .entry)) (now (answer .entry))
-        ≡ (record { number = r; regions = now (regions .exit); answer = now (answer .exit) }) ⌝ }
+        ≡ (record { result = r; regions = now (regions .exit); answer = now (answer .exit) }) ⌝ }
 {
     if answer.len() < ANSWER_BYTES {
-        return 1;
+        return TOO_SHORT;
     }
     let built = binary_builder::build(labels, entry, regions, pending);
-    let words = linked_answer::built_words(built);
-    linked_answer::put_words(answer, &words[..]);
+    let words = answer::built_words(built);
+    answer::store_words(answer, &words[..]);
     words[0]
 }
 
@@ -58,14 +64,14 @@ fn put_counts(counts: &mut [u8], answer: EmitAnswer, filled: FillCounts)
     match answer {
         EmitAnswer::Done(_) => {
             let words = [filled.data_len, filled.pending, filled.breakpoints];
-            linked_answer::put_words(counts, &words[..]);
+            answer::store_words(counts, &words[..]);
         }
         EmitAnswer::Refused(_, _) => {}
     }
 }
 
 // Emits a line into the buffers or refuses it, writes the answer and returns its number: 0 for an accepted line.
-// Where the answer or the counts are too short it returns 1 and changes nothing.
+// Where the answer or the counts are too short it returns TOO_SHORT and changes nothing.
 #[no_mangle]
 pub extern "C" fn nazgwern_do_instruction(
     tokens: &[u8],
@@ -84,20 +90,20 @@ pub extern "C" fn nazgwern_do_instruction(
         (lentOf (now («data» .entry)) (now (pending .entry)) (now (breakpoints .entry))) (now (counts .entry))
         (record { position = position; region = region; address = address }) (now (answer .entry))
         ≡ (record {
-          number = r;
+          result = r;
           lent = lentOf (now («data» .exit)) (now (pending .exit)) (now (breakpoints .exit));
           counts = now (counts .exit);
           answer = now (answer .exit);
         }) ⌝ }
 {
     if answer.len() < ANSWER_BYTES {
-        return 1;
+        return TOO_SHORT;
     }
     if counts.len() < COUNTS_BYTES {
-        return 1;
+        return TOO_SHORT;
     }
     let held = counts_at(&*counts);
-    let emitted = emit_core::do_instruction(
+    let emitted = emit::do_line(
         held,
         tokens,
         mnemonic,
@@ -113,8 +119,8 @@ pub extern "C" fn nazgwern_do_instruction(
     );
     let given = emitted.answer;
     let filled = emitted.counts;
-    let words = linked_answer::emitted_words(given);
+    let words = answer::emitted_words(given);
     put_counts(counts, given, filled);
-    linked_answer::put_words(answer, &words[..]);
+    answer::store_words(answer, &words[..]);
     words[0]
 }

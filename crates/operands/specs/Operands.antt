@@ -1,5 +1,5 @@
 -- The operand readers (assembler_util.rs) on a decoded token list and an index (document 01, 'Tokens'). Assumes nothing.
-use Prim.Native.Nat.{ℕ, _+_, _-_, _%_, _^_}
+use Prim.Native.Nat.{ℕ, _-_, _%_, _^_}
 use mathlib.Core.List.{List}
 use mathlib.Core.Bool.{Bool, true, false}
 use mathlib.Core.Option.{Option, none, some}
@@ -10,7 +10,7 @@ use Rattle.lexer.specs.declared.Token.{Token}
 use Rattle.lexer.specs.Tokens.{strip}
 use Rattle.cursor.specs.declared.Seen.{Seen}
 use Rattle.cursor.specs.declared.Seen.the-variants.{Met, End}
-use Rattle.cursor.specs.Cursors.{At, seek, peek, nextAdjacent}
+use Rattle.cursor.specs.Cursors.{At, nextAdjacent, peekAdjacent}
 use Rattle.operand.specs.declared.Miss.{Miss}
 use Rattle.operand.specs.declared.Miss.the-variants.{EndOfFile, ExpectedRegister, ExpectedConstant}
 use Rattle.operand.specs.declared.InstructionValue.{InstructionValue}
@@ -100,19 +100,20 @@ unfolding signed
 getInteger t ts i =
     elim (isKind 9 t) [ true ↦ signed false ts i | false ↦ elim (isKind 10 t) [ true ↦ signed true ts i | false ↦ here (asInteger (t .kind)) i ] ]
 
+-- what is made of the next token and the number that begins with it
+abbrev pub numberSeen : {A : Type 0} → (Token → MaybeInteger → Answer A) → List Token → ℕ → Seen → At (Answer A)
+numberSeen make ts i End = here (Missed EndOfFile) i
+numberSeen make ts i (Met t) = here (make t (getInteger t ts i .answer)) (getInteger t ts i .index)
+
 -- ---- a constant
 
 abbrev pub constantMet : Token → MaybeInteger → Answer ℕ
 constantMet t (SomeInteger n) = Got n
 constantMet t NoInteger = Missed (noConstant t)
 
-abbrev pub constantSeen : List Token → ℕ → Seen → At (Answer ℕ)
-constantSeen ts i End = here (Missed EndOfFile) i
-constantSeen ts i (Met t) = here (constantMet t (getInteger t ts i .answer)) (getInteger t ts i .index)
-
 unfoldable pub getConstant : List Token → ℕ → At (Answer ℕ)
 unfolding nextAdjacent getInteger
-getConstant ts i = constantSeen ts (nextAdjacent ts i .index) (nextAdjacent ts i .answer)
+getConstant ts i = numberSeen constantMet ts (nextAdjacent ts i .index) (nextAdjacent ts i .answer)
 
 -- ---- a register or a number
 
@@ -125,27 +126,15 @@ abbrev pub valueMet : Token → MaybeInteger → Answer InstructionValue
 valueMet t (SomeInteger n) = Got (Literal n)
 valueMet t NoInteger = slotMet t (asRegister (t .kind))
 
-abbrev pub valueSeen : List Token → ℕ → Seen → At (Answer InstructionValue)
-valueSeen ts i End = here (Missed EndOfFile) i
-valueSeen ts i (Met t) = here (valueMet t (getInteger t ts i .answer)) (getInteger t ts i .index)
-
 unfoldable pub getValue : List Token → ℕ → At (Answer InstructionValue)
 unfolding nextAdjacent getInteger
-getValue ts i = valueSeen ts (nextAdjacent ts i .index) (nextAdjacent ts i .answer)
+getValue ts i = numberSeen valueMet ts (nextAdjacent ts i .index) (nextAdjacent ts i .answer)
 
--- the optional third operand of Inputs: where there is none, reading stands at the token that is not passed over
-abbrev pub maybeSlot : ℕ → MaybeRegister → At (Answer (Option InstructionValue))
-maybeSlot j (SomeRegister r) = here (Got (some (Slot r))) (j + 1)
-maybeSlot j NoRegister = here (Got none) j
-
-abbrev pub maybeMet : ℕ → Token → ℕ → MaybeInteger → At (Answer (Option InstructionValue))
-maybeMet j t i (SomeInteger n) = here (Got (some (Literal n))) i
-maybeMet j t i NoInteger = maybeSlot j (asRegister (t .kind))
-
-abbrev pub maybeSeen : List Token → ℕ → Seen → At (Answer (Option InstructionValue))
-maybeSeen ts j End = here (Got none) j
-maybeSeen ts j (Met t) = maybeMet j t (getInteger t ts (j + 1) .index) (getInteger t ts (j + 1) .answer)
+-- the optional third operand of Inputs: a value, with i the index behind it, or none, with j that of the token that is not passed over
+abbrev pub maybeMet : ℕ → ℕ → Answer InstructionValue → At (Answer (Option InstructionValue))
+maybeMet j i (Got v) = here (Got (some v)) i
+maybeMet j i (Missed m) = here (Got none) j
 
 unfoldable pub maybeGetValue : List Token → ℕ → At (Answer (Option InstructionValue))
-unfolding peek getInteger
-maybeGetValue ts i = maybeSeen ts (seek ts i) (peek ts (seek ts i))
+unfolding peekAdjacent getValue
+maybeGetValue ts i = maybeMet (peekAdjacent ts i .index) (getValue ts i .index) (getValue ts i .answer)

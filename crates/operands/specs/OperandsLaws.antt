@@ -1,28 +1,30 @@
 -- Laws of the operand readers: a reading as an equation, and what each reader answers, case by case. Assumes nothing.
-use Prim.Native.Nat.{ℕ, _+_, _<_, _≤_}
+use Prim.Native.Nat.{ℕ}
 use native.Mathlib.Omega.{arith}
 use mathlib.Core.List.{List}
 use mathlib.Core.Bool.{Bool, true, false}
 use mathlib.Core.Path.{_≡_, refl, sym, ap, _∙_}
-use lib.ListN.{length}
-use lib.Dec.{ltb}
-use borrow.Author.Tests.{eq-eqb, ne-eqb, ltb-true, ltb-false}
+use mathlib.Core.Option.{none}
+use borrow.Author.Tests.{eq-eqb, ne-eqb}
 use Rattle.lexer.specs.declared.Token.{Token}
-use Rattle.lexer.specs.declared.MaybeInteger.{MaybeInteger}
-use Rattle.lexer.specs.Tokens.{tokens, strip}
+use Rattle.lexer.specs.Tokens.{strip}
 use Rattle.lexer.specs.Views.{asInteger}
 use Rattle.cursor.specs.declared.Cursor.{Cursor}
 use Rattle.cursor.specs.declared.Seen.{Seen}
-use Rattle.cursor.specs.declared.Seen.the-variants.{Met}
-use Rattle.cursor.specs.Cursors.{At, seek, peek, nextAdjacent}
-use Rattle.cursor.specs.CursorsLaws.{cursor-is, peek-end}
+use Rattle.cursor.specs.Cursors.{At, nextAdjacent, peekAdjacent}
+use Rattle.cursor.specs.CursorsLaws.{cursor-is}
 use Rattle.cursor.specs.Reads.{Placed, ReadAs}
 use Rattle.operand.specs.declared.Want.{Want}
+use Rattle.operand.specs.declared.Want.the-variants.{Value, MaybeValue}
+use Rattle.operand.specs.declared.InstructionValue.{InstructionValue}
+use Rattle.operand.specs.declared.Miss.{Miss}
+use Rattle.operand.specs.declared.Operand.{Operand}
 use Rattle.operand.specs.declared.OperandAnswer.{OperandAnswer}
-use Rattle.operand.specs.Answers.{Answer, Asked, here, given}
+use Rattle.operand.specs.declared.OperandAnswer.the-variants.{Got as GotOperand, Missed as MissedOperand}
+use Rattle.operand.specs.Answers.{Answer, Got, Missed, Asked, answerOf, here, given}
 use Rattle.operand.specs.Held.{heldAnswer}
 use Rattle.operand.specs.HeldLaws.{answer-held}
-use Rattle.operands.specs.Operands.{signed, literalSeen, getInteger, constantSeen, getConstant, valueSeen, getValue, maybeMet, maybeSeen, maybeGetValue}
+use Rattle.operands.specs.Operands.{signed, literalSeen, getInteger, numberSeen, constantMet, getConstant, valueMet, getValue, maybeMet, maybeGetValue}
 
 -- ---- readings
 
@@ -34,10 +36,6 @@ read-at {A} s x answer cursor p e =
 module _ {A : Type 0} {s : List ℕ} {x : At A} {answer : A} {cursor : Cursor} (r : ReadAs s x answer cursor) where
   pub read-index : cursor .index ≡ x .index
   read-index = ap (λ (c : Cursor). c .index) (r .cursor-is)
-
-  -- what is read stands within the list
-  pub read-most : x .index ≤ length (tokens s)
-  read-most = omega (arith, read-index, r .placed .index-within)
 
   pub read-is : (b : A) → answer ≡ b → x ≡ here b (cursor .index)
   read-is b e = ap (λ (a : A). here a (x .index)) (sym (r .answer-is) ∙ e) ∙ ap (here b) (sym read-index)
@@ -57,21 +55,21 @@ pub held-made : (w : Want) {B : Type 0} {s : List ℕ} {x : At (Answer (Asked w)
     → (f : Answer (Asked w) → B) (b : B) → b ≡ f (heldAnswer w answer) → ReadAs s (here (f (x .answer)) (x .index)) b cursor
 held-made w r f b e = record { answer-is = e ∙ ap f (sym (answer-held w (r .answer-is))); cursor-is = r .cursor-is; placed = r .placed }
 
--- ---- numbers
+-- ---- by what is met
 
 module _ (ts : List Token) (i : ℕ) where
-  module _ (seen : Seen) (j : ℕ) (e : nextAdjacent ts i ≡ here seen j) where
+  module _ {seen : Seen} {j : ℕ} (e : nextAdjacent ts i ≡ here seen j) where
     pub signed-is : (minus : Bool) → signed minus ts i ≡ literalSeen minus i j seen
     unfolding signed
     signed-is minus = ap (λ (x : At Seen). literalSeen minus i (x .index) (x .answer)) e
 
-    pub constant-is : getConstant ts i ≡ constantSeen ts j seen
+    pub constant-is : getConstant ts i ≡ numberSeen constantMet ts j seen
     unfolding getConstant
-    constant-is = ap (λ (x : At Seen). constantSeen ts (x .index) (x .answer)) e
+    constant-is = ap (λ (x : At Seen). numberSeen constantMet ts (x .index) (x .answer)) e
 
-    pub value-is : getValue ts i ≡ valueSeen ts j seen
+    pub value-is : getValue ts i ≡ numberSeen valueMet ts j seen
     unfolding getValue
-    value-is = ap (λ (x : At Seen). valueSeen ts (x .index) (x .answer)) e
+    value-is = ap (λ (x : At Seen). numberSeen valueMet ts (x .index) (x .answer)) e
 
   module _ (t : Token) where
     pub integer-plus : strip (t .kind) ≡ 9 → getInteger t ts i ≡ signed false ts i
@@ -86,23 +84,21 @@ module _ (ts : List Token) (i : ℕ) where
     unfolding getInteger
     integer-bare g h = rw (ne-eqb (strip (t .kind)) 9 g, ne-eqb (strip (t .kind)) 10 h, getInteger)
 
--- ---- the optional operand
+-- ---- the optional operand, by what was read as a value
 
--- a token that is met stands within the list
-pub peek-met : (ts : List Token) (j : ℕ) (t : Token) → peek ts j ≡ Met t → j < length ts
-peek-met ts j t e = go (ltb j (length ts)) refl
-  where
-    go : (b : Bool) → ltb j (length ts) ≡ b → j < length ts
-    go true b = ltb-true j (length ts) b
-    go false b =
-        let h = peek-end ts j (ltb-false j (length ts) b) in
-        let z : _≡_ {A = ℕ} 0 1 = cc in
-        absurd (omega arith)
+some-made : (j i : ℕ) (a : Answer InstructionValue) {o : Operand} → GotOperand o ≡ answerOf Value a → given MaybeValue (maybeMet j i a) ≡ given Value (here a i)
+some-made j i (Got v) e = refl
+some-made j i (Missed m) e = cc
 
-module _ (ts : List Token) (i j : ℕ) (at : seek ts i ≡ j) where
-  pub maybe-is : (seen : Seen) → peek ts j ≡ seen → maybeGetValue ts i ≡ maybeSeen ts j seen
+none-made : (j i : ℕ) (a : Answer InstructionValue) {m : Miss} → MissedOperand m ≡ answerOf Value a → maybeMet j i a ≡ here (Got none) j
+none-made j i (Got v) e = cc
+none-made j i (Missed m) e = refl
+
+module _ (ts : List Token) (i : ℕ) where
+  pub maybe-some : {o : Operand} → GotOperand o ≡ answerOf Value (getValue ts i .answer) → given MaybeValue (maybeGetValue ts i) ≡ given Value (getValue ts i)
   unfolding maybeGetValue
-  maybe-is seen e = ap (λ (k : ℕ). maybeSeen ts k (peek ts k)) at ∙ ap (maybeSeen ts j) e
+  maybe-some e = some-made (peekAdjacent ts i .index) (getValue ts i .index) (getValue ts i .answer) e
 
-  pub maybe-met : (t : Token) (number : MaybeInteger) (k : ℕ) → peek ts j ≡ Met t → getInteger t ts (j + 1) ≡ here number k → maybeGetValue ts i ≡ maybeMet j t k number
-  maybe-met t number k e h = maybe-is (Met t) e ∙ ap (λ (x : At MaybeInteger). maybeMet j t (x .index) (x .answer)) h
+  pub maybe-none : {m : Miss} → MissedOperand m ≡ answerOf Value (getValue ts i .answer) → maybeGetValue ts i ≡ here (Got none) (peekAdjacent ts i .index)
+  unfolding maybeGetValue
+  maybe-none e = none-made (peekAdjacent ts i .index) (getValue ts i .index) (getValue ts i .answer) e

@@ -244,40 +244,21 @@ fn value_met(t: Token, number: MaybeInteger) -> OperandAnswer
     }
 }
 
-// The optional third operand of Inputs.
+// The optional third operand of Inputs: where no value is read, reading stands at the token that is not passed over.
 pub fn maybe_get_value(list: &[u8], from: Cursor) -> OperandRead
     requires { ⌜ Placed (now list) from ⌝ }
     ensures { λ r. ⌜ ReadAs (now (list .entry)) (given Want.MaybeValue (maybeGetValue (tokens (now (list .entry))) (from .index))) (r .answer) (r .cursor) ⌝ }
 {
-    let found = cursor::seek_without(list, from);
-    let absent = OperandRead {
-        answer: OperandAnswer::Got(Operand::Absent),
-        cursor: found,
-    };
-    match cursor::peek(list, found) {
-        Seen::End => absent,
-        Seen::Met(t) => {
-            let next = cursor::next(list, found);
-            let read = get_integer(t, list, next);
-            let number = read.answer;
-            let behind = read.cursor;
-            match number {
-                MaybeInteger::Some(n) => OperandRead {
-                    answer: OperandAnswer::Got(Operand::Value(InstructionValue::Literal(n))),
-                    cursor: behind,
-                },
-                MaybeInteger::Nothing => {
-                    let kind = t.kind;
-                    match lexer::as_register(kind) {
-                        MaybeRegister::Some(slot) => OperandRead {
-                            answer: OperandAnswer::Got(Operand::Value(InstructionValue::Slot(
-                                slot,
-                            ))),
-                            cursor: next,
-                        },
-                        MaybeRegister::Nothing => absent,
-                    }
-                }
+    let read = get_value(list, from);
+    let value = read.answer;
+    match value {
+        OperandAnswer::Got(_) => read,
+        OperandAnswer::Missed(_) => {
+            let ahead = cursor::peek_adjacent(list, from);
+            let cursor = ahead.cursor;
+            OperandRead {
+                answer: OperandAnswer::Got(Operand::Absent),
+                cursor,
             }
         }
     }

@@ -25,7 +25,7 @@ use Rattle.regions.specs.declared.Region.{Region}
 use Rattle.patch.specs.Patches.{wrap32, pcOf, after, fieldWidth, fieldValue, jumpInRange, inRange, patchedWord, plusOffset, destination, nameLocation, reachVerdict, pendingVerdict}
 
 -- a destination of 32 bits has a field of the kind's width
-value-fits : (kind : InstructionLabelKind) (pc dest : ℕ) → dest < 2 ^ 32 → fieldValue kind pc dest < 2 ^ fieldWidth kind
+pub value-fits : (kind : InstructionLabelKind) (pc dest : ℕ) → dest < 2 ^ 32 → fieldValue kind pc dest < 2 ^ fieldWidth kind
 unfolding fieldWidth fieldValue
 value-fits Branch pc dest h = omega arith
 value-fits Jump pc dest h = omega arith

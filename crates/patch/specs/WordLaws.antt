@@ -49,9 +49,10 @@ module _ (d : List ℕ) (i w : ℕ) (room : i + 4 ≤ length d) where
           let n₃ : j ≢ i + 3 = omega arith in
           simp getD-set-other
 
-  -- the word that was stored is read, by its low 32 bits
-  pub read-same : le32 (append d i (le32Bytes w)) i ≡ w % 4294967296
-  read-same =
+  -- the bytes that were stored
+  pub bytes-in : (byteAt (append d i (le32Bytes w)) i ≡ w % 256) × (byteAt (append d i (le32Bytes w)) (i + 1) ≡ w / 256 % 256)
+      × (byteAt (append d i (le32Bytes w)) (i + 2) ≡ w / 65536 % 256) × (byteAt (append d i (le32Bytes w)) (i + 3) ≡ w / 16777216 % 256)
+  bytes-in =
       let d₁ = set d i (w % 256) in
       let d₂ = set d₁ (i + 1) (w / 256 % 256) in
       let d₃ = set d₂ (i + 2) (w / 65536 % 256) in
@@ -69,12 +70,11 @@ module _ (d : List ℕ) (i w : ℕ) (room : i + 4 ≤ length d) where
       let m₂ : i + 1 ≢ i + 2 = omega arith in
       let m₃ : i + 1 ≢ i + 3 = omega arith in
       let k₃ : i + 2 ≢ i + 3 = omega arith in
-      let b₀ : byteAt d₄ i ≡ w % 256 = simp (getD-set-other, getD-set-same) in
-      let b₁ : byteAt d₄ (i + 1) ≡ w / 256 % 256 = simp (getD-set-other, getD-set-same) in
-      let b₂ : byteAt d₄ (i + 2) ≡ w / 65536 % 256 = simp (getD-set-other, getD-set-same) in
-      let b₃ : byteAt d₄ (i + 3) ≡ w / 16777216 % 256 = simp getD-set-same in
-      let e : le32 d₄ i ≡ w % 4294967296 = omega (arith, digits w) in
-      ap (λ (l : List ℕ). le32 l i) stores ∙ e
+      rw stores (simp (getD-set-other, getD-set-same), simp (getD-set-other, getD-set-same), simp (getD-set-other, getD-set-same), simp getD-set-same)
+
+  -- the word that was stored is read, by its low 32 bits
+  pub read-same : le32 (append d i (le32Bytes w)) i ≡ w % 4294967296
+  read-same = omega (arith, digits w, bytes-in)
 
   -- a word that shares no byte with it
   pub read-other : (j : ℕ) → (i + 4 ≤ j) ⊎ (j + 4 ≤ i) → le32 (append d i (le32Bytes w)) j ≡ le32 d j

@@ -7,9 +7,10 @@ use Rattle.record.specs.Records.{places}
 use Rattle.address_label.specs.Entries.{entryOf}
 use Rattle.build_outcome.specs.Build.{buildOutcome, entryAddress}
 use Rattle.build_outcome.specs.BuildLaws.{outcome-accepted}
+use Rattle.finished_words.specs.Listed.{Bytes}
 use Rattle.reading.specs.Reading.{imageOf, readings, destinations}
 use Rattle.reading.specs.Premises.{Premises}
-use Rattle.reading.specs.Used.{Bytes, SameUsed}
+use Rattle.reading.specs.Used.{SameUsed}
 use Rattle.reading.specs.ReadBackLaws.{read-back}
 use Rattle.reading.specs.TablesLaws.{same-used}
 

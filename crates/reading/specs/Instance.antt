@@ -1,13 +1,12 @@
--- The premises of the theorems can be met: two tables that meet them, and what the theorems say there. Assumes nothing.
-use Prim.Native.Nat.{ℕ, zero, suc, _+_, _%_, _≤_}
+-- The premises of the theorems can be met: three tables that meet them, and what the theorems say there. Assumes nothing.
+use Prim.Native.Nat.{ℕ, _%_}
 use native.Mathlib.Omega.{arith}
-use mathlib.Core.List.{List, [], _∷_, List·Memᴰ, List·Memᴰ·head, List·Memᴰ·tail, List·Memᴰ·cases-cons}
-use mathlib.Core.Logic.{_⊎_, inl, inr}
-use mathlib.Core.Bool.{Bool, true, false, _&&_, and-eq-true-iff}
+use mathlib.Core.List.{List, [], _∷_, List·Memᴰ·head, List·Memᴰ·tail}
+use mathlib.Core.Bool.{true, _&&_, and-eq-true-iff}
 use mathlib.Core.Path.{_≡_, refl, sym, ap, _∙_}
-use lib.Dec.{leb, ltb, eqb}
-use borrow.Author.Tests.{leb-true, ltb-true, eqb-true, eq-eqb, ne-eqb}
-use Rattle.record.specs.Bytes.{all}
+use lib.ListN.{take}
+use lib.Dec.{eqb}
+use borrow.Author.Tests.{leb-true, eqb-true}
 use Rattle.record.specs.Records.{places}
 use Rattle.labels.specs.Labels.{resolve}
 use Rattle.labels.specs.declared.Address.{Address}
@@ -15,31 +14,16 @@ use Rattle.labels.specs.declared.Address.the-variants.{Known}
 use Rattle.pending.specs.declared.InstructionLabelKind.{InstructionLabelKind}
 use Rattle.pending.specs.declared.InstructionLabelKind.the-variants.{Branch, Jump, Lower, Upper}
 use Rattle.pending.specs.Pendings.{kindFrom, pendingAt}
-use Rattle.build_outcome.specs.Build.{writePatches, BuildOutcome, buildOutcome}
+use Rattle.build_outcome.specs.Build.{patchOrder, writePatches, BuildOutcome, buildOutcome}
 use Rattle.build_outcome.specs.declared.Built.the-variants.{Entry}
 use Rattle.reading.specs.Reading.{imageOf, readings, destinations}
-use Rattle.reading.specs.Premises.{In, pcAt, destinationAt, Pair, Premises}
-use Rattle.reading.specs.Used.{Bytes, SameUsed}
-use Rattle.reading.specs.Demand.{reads-back, never-shared}
-use Rattle.reading.specs.InstanceTables.{idle, labels₁, labels₂, entry, regions, pending, exampleRegions, examplePending, exampleFinished}
-use Rattle.reading.specs.InstanceLaws.{onWord, notFarBack, notFarOn, fits, away, clear, Computed, evaluated}
-
--- a test that all elements pass holds of each
-each : (test : ℕ → Bool) (ps : List ℕ) → all test ps ≡ true → (p : ℕ) → List·Memᴰ p ps → test p ≡ true
-unfolding all
-each test [] e p m = elim m [ ]
-each test (q ∷ ps) e p m = go (and-eq-true-iff (test q) (all test ps) .0 e) (List·Memᴰ·cases-cons m) (each test ps)
-  where
-    go : (test q ≡ true) × (all test ps ≡ true) → (p ≡ q) ⊎ List·Memᴰ p ps → (all test ps ≡ true → (p : ℕ) → List·Memᴰ p ps → test p ≡ true) → test p ≡ true
-    go h (inl s) ih = ap test s ∙ h .0
-    go h (inr t) ih = ih (h .1) p t
-
--- a list whose elements are below 256 is one of bytes
-bytes : (s : List ℕ) → all (λ (b : ℕ). ltb b 256) s ≡ true → Bytes s
-unfolding all
-bytes [] e i = omega arith
-bytes (b ∷ s) e zero = ltb-true b 256 (and-eq-true-iff (ltb b 256) (all (λ (b : ℕ). ltb b 256) s) .0 e .0)
-bytes (b ∷ s) e (suc i) = bytes s (and-eq-true-iff (ltb b 256) (all (λ (b : ℕ). ltb b 256) s) .0 e .1) i
+use Rattle.finished_words.specs.Listed.{In, pcAt, destinationAt}
+use Rattle.finished_words.specs.InstanceTables.{loop, idle, labels₁, labels₂, labels₃, entry, regions, pending, exampleRegions, examplePending, exampleFinished}
+use Rattle.finished_words.specs.Instance.{each, bytes, apart}
+use Rattle.reading.specs.Premises.{Pair, Premises}
+use Rattle.reading.specs.Used.{SameUsed}
+use Rattle.reading.specs.Demand.{reads-back, never-shared, differing-apart}
+use Rattle.reading.specs.InstanceLaws.{onWord, notFarBack, notFarOn, fits, Computed, evaluated}
 
 -- ---- the premises
 pair : Pair pending 116 0
@@ -54,19 +38,6 @@ pair =
       later = refl;
       target = record { form = refl; value = refl; name = refl };
     }
-
-apart : (p q : ℕ) → In pending p → In pending q → (p ≡ q → ⊥) → pendingAt pending p .region ≡ pendingAt pending q .region
-    → (pendingAt pending p .offset + 4 ≤ pendingAt pending q .offset) ⊎ (pendingAt pending q .offset + 4 ≤ pendingAt pending p .offset)
-apart p q m k n s = go (leb (pendingAt pending p .offset + 4) (pendingAt pending q .offset)) refl
-  where
-    test : away false true (leb (pendingAt pending p .offset + 4) (pendingAt pending q .offset)) (leb (pendingAt pending q .offset + 4) (pendingAt pending p .offset)) ≡ true
-    test = rw (ne-eqb p q n, eq-eqb (pendingAt pending p .region) (pendingAt pending q .region) s) at
-        (each (clear p) (places pending) (each (λ (p : ℕ). all (clear p) (places pending)) (places pending) (evaluated .cleared) p m) q k)
-
-    go : (b : Bool) → leb (pendingAt pending p .offset + 4) (pendingAt pending q .offset) ≡ b
-        → (pendingAt pending p .offset + 4 ≤ pendingAt pending q .offset) ⊎ (pendingAt pending q .offset + 4 ≤ pendingAt pending p .offset)
-    go true e = inl (leb-true (pendingAt pending p .offset + 4) (pendingAt pending q .offset) e)
-    go false e = inr (leb-true (pendingAt pending q .offset + 4) (pendingAt pending p .offset) (rw e at test))
 
 module _ (labels : List ℕ) (computed : Computed labels) where
   fitting : (kind : InstructionLabelKind) (p : ℕ) → In pending p → pendingAt pending p .kind ≡ kind → fits labels kind p ≡ true
@@ -101,39 +72,64 @@ instance₁ = premises labels₁ (evaluated .first)
 pub instance₂ : Premises labels₂ entry regions pending
 instance₂ = premises labels₂ (evaluated .second)
 
+pub instance₃ : Premises labels₃ entry regions pending
+instance₃ = premises labels₃ (evaluated .third)
+
 -- the six readings, in list order
 pub instance-reads : readings (imageOf (buildOutcome labels₁ entry regions pending .regions)) pending ≡ destinations labels₁ pending
 instance-reads = reads-back labels₁ entry regions pending instance₁
 
 pub instance-numbers : destinations labels₁ pending
     ≡ Known 0x0040C008 ∷ Known 0x00400008 ∷ Known 0x12345678 ∷ Known 0x0040C008 ∷ Known 0x00400004 ∷ Known 0x003E0010 ∷ []
-instance-numbers = evaluated .first .destined
+instance-numbers = evaluated .destined
 
--- Two other builds do not read back here: the one that hands the regions back unpatched, and the one that patches the first record only,
--- which in patch order is that at 40.
-fails : (r : List ℕ) (rest : List Address) → readings (imageOf r) pending ≡ Known 0 ∷ rest → readings (imageOf r) pending ≡ destinations labels₁ pending → ⊥
-fails r rest c e =
+-- ---- other builds, which do not read back here
+fails : (r : List ℕ) (a : ℕ) (rest : List Address) → readings (imageOf r) pending ≡ Known a ∷ rest → (a ≡ 0x0040C008 → ⊥)
+    → readings (imageOf r) pending ≡ destinations labels₁ pending → ⊥
+fails r a rest c n e =
     let d = instance-numbers in
-    let z : _≡_ {A = ℕ} 0 1 = cc in
-    absurd (omega arith)
+    let z : a ≡ 0x0040C008 = cc in
+    n z
 
+-- the one that hands the regions back unpatched
 pub unpatched-fails : readings (imageOf regions) pending ≡ destinations labels₁ pending → ⊥
-unpatched-fails e = fails regions _ (evaluated .unpatched) e
+unpatched-fails e = fails regions _ _ (evaluated .unpatched) (λ z. omega arith) e
 
-pub first-only-fails : readings (imageOf (writePatches labels₁ regions pending (40 ∷ []) regions)) pending ≡ destinations labels₁ pending → ⊥
-first-only-fails e = fails (writePatches labels₁ regions pending (40 ∷ []) regions) _ (evaluated .first-only) e
+-- the one that patches the first record only: the first in patch order, or the first of the list
+pub first-only-fails : readings (imageOf (writePatches labels₁ regions pending (take 1 (patchOrder regions pending)) regions)) pending ≡ destinations labels₁ pending → ⊥
+first-only-fails e = fails (writePatches labels₁ regions pending (take 1 (patchOrder regions pending)) regions) _ _ (evaluated .first-only) (λ z. omega arith) e
 
--- the two tables differ, share an image with its entry, and agree on the used address
+pub first-listed-only-fails : readings (imageOf (writePatches labels₁ regions pending (take 1 (places pending)) regions)) pending ≡ destinations labels₁ pending → ⊥
+first-listed-only-fails e = fails (writePatches labels₁ regions pending (take 1 (places pending)) regions) _ _ (evaluated .first-listed-only) (λ z. omega arith) e
+
+-- ---- the first two tables differ, share an image with its entry, and agree on the used address
 same-outcome : buildOutcome labels₁ entry regions pending ≡ buildOutcome labels₂ entry regions pending
-same-outcome = evaluated .first .outcome ∙ sym (evaluated .second .outcome)
+same-outcome = evaluated .first-outcome ∙ sym (evaluated .second-outcome)
 
 pub tables-differ : (resolve labels₁ idle ≡ Known 0x00001000) × (resolve labels₂ idle ≡ Known 0x00002000)
-tables-differ = (evaluated .idle₁, evaluated .idle₂)
+tables-differ = evaluated .idle-addresses
 
 pub instance-used : SameUsed labels₁ labels₂ entry pending
 instance-used =
     never-shared labels₁ labels₂ entry regions pending (bytes labels₁ (evaluated .first .bytes-fit)) (bytes labels₂ (evaluated .second .bytes-fit)) instance₁ instance₂
     (ap (λ (o : BuildOutcome). imageOf (o .regions)) same-outcome) (ap (λ (o : BuildOutcome). o .answer) same-outcome)
+
+-- ---- the first and the third differ in a used address, and so do not share an image with its entry
+pub used-differs : (resolve labels₁ loop ≡ Known 0x00400008) × (resolve labels₃ loop ≡ Known 0x0040000C)
+used-differs = evaluated .loop-addresses
+
+not-same-used : SameUsed labels₁ labels₃ entry pending → ⊥
+not-same-used u =
+    let m : In pending 40 = rw (evaluated .places-are) (List·Memᴰ·tail (List·Memᴰ·head refl)) in
+    let s : resolve labels₁ loop ≡ resolve labels₃ loop = rw (evaluated .loop-named .1) at (u .by-pending 40 m (λ z. omega (arith, evaluated .loop-named .0))) in
+    let r = used-differs in
+    let z : _≡_ {A = ℕ} 0x00400008 0x0040000C = cc in
+    omega arith
+
+pub instance-apart : imageOf (buildOutcome labels₁ entry regions pending .regions) ≡ imageOf (buildOutcome labels₃ entry regions pending .regions)
+    → buildOutcome labels₁ entry regions pending .answer ≡ buildOutcome labels₃ entry regions pending .answer → ⊥
+instance-apart =
+    differing-apart labels₁ labels₃ entry regions pending (bytes labels₁ (evaluated .first .bytes-fit)) (bytes labels₃ (evaluated .third .bytes-fit)) instance₁ instance₃ not-same-used
 
 -- document 01's example of a build
 pub example : buildOutcome [] [] exampleRegions examplePending ≡ record { answer = Entry 0x00400000; regions = exampleFinished }

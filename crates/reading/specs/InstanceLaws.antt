@@ -1,11 +1,12 @@
 -- What computes on the lists of the instance: its builds, its destinations, and the premises as tests. Assumes nothing.
 use Prim.Native.Nat.{ℕ, _+_, _/_, _%_}
-use mathlib.Core.List.{List, [], _∷_, map}
-use mathlib.Core.Bool.{Bool, true, false, _&&_}
+use mathlib.Core.List.{List, [], _∷_}
+use mathlib.Core.Bool.{Bool, true, _&&_}
 use mathlib.Core.Path.{_≡_, refl}
+use lib.ListN.{take}
 use lib.Dec.{leb, ltb, eqb}
 use Rattle.field.specs.Field.{setField}
-use Rattle.record.specs.Bytes.{all, sameBytes}
+use Rattle.record.specs.Bytes.{byteAt, all, sameBytes}
 use Rattle.record.specs.Records.{placesF, placesFrom, places, firstBad, firstBadOf, withinLimit}
 use Rattle.refusal.specs.Verdicts.{firstStop}
 use Rattle.refusal.specs.declared.Verdict.the-variants.{Pass}
@@ -17,14 +18,15 @@ use Rattle.address_label.specs.AddressLabels.{addressLabelOk}
 use Rattle.address_label.specs.Entries.{entryOk, entryLayout}
 use Rattle.pending.specs.declared.InstructionLabelKind.{InstructionLabelKind}
 use Rattle.pending.specs.declared.InstructionLabelKind.the-variants.{Branch, Jump, Lower, Upper, Full}
-use Rattle.pending.specs.Pendings.{pendingOk, pendingLayout, patchKindOf, kindFrom, pendingAt}
+use Rattle.pending.specs.Pendings.{pendingOk, pendingLayout, kindFrom, pendingAt}
 use Rattle.record.specs.Stores.{append}
 use Rattle.patch.specs.Patches.{after, destination, fieldWidth, fieldValue, branchInRange, jumpInRange, inRange, pendingVerdict, reachVerdict, writePending}
-use Rattle.build_outcome.specs.Build.{keep, orderFrom, patchOrder, layoutVerdicts, buildVerdict, writePatches, buildOutcome}
+use Rattle.build_outcome.specs.Build.{keep, orderFrom, patchOrder, layoutVerdicts, buildVerdict, writePatches, BuildOutcome, buildOutcome}
 use Rattle.build_outcome.specs.declared.Built.the-variants.{Entry}
+use Rattle.finished_words.specs.Listed.{pcAt, destinationAt}
+use Rattle.reading.specs.Used.{pendingName}
 use Rattle.reading.specs.Reading.{imageOf, signedBytes, readBy, readings, destinations}
-use Rattle.reading.specs.Premises.{pcAt, destinationAt}
-use Rattle.reading.specs.InstanceTables.{idle, labels₁, labels₂, entry, regions, pending, finished, exampleRegions, examplePending, exampleFinished}
+use Rattle.finished_words.specs.InstanceTables.{loop, idle, labels₁, labels₂, labels₃, entry, regions, pending, finished, exampleRegions, examplePending, exampleFinished}
 
 -- ---- tests that say a premise at one place
 abbrev pub onWord : List ℕ → ℕ → Bool
@@ -44,58 +46,56 @@ fits labels Lower p = eqb p 0
 fits labels Upper p = eqb p 116
 fits labels Full p = true
 
--- two places are one, or of two regions, or their patches share no byte
-abbrev pub away : (one same before later : Bool) → Bool
-away true same before later = true
-away false false before later = true
-away false true true later = true
-away false true false later = later
-
-abbrev pub clear : ℕ → ℕ → Bool
-clear p q =
-    away (eqb p q) (eqb (pendingAt pending p .region) (pendingAt pending q .region)) (leb (pendingAt pending p .offset + 4) (pendingAt pending q .offset))
-    (leb (pendingAt pending q .offset + 4) (pendingAt pending p .offset))
-
 -- ---- by computation
 
--- of a label table: its build, its destinations in list order, the tests
+-- of a label table: its build is accepted, the tests hold
 pub record Computed (labels : List ℕ) : Type 0 where
   pub accepted : buildVerdict labels entry regions pending ≡ Pass
-  pub outcome : buildOutcome labels entry regions pending ≡ record { answer = Entry 0x00400008; regions = finished }
-  pub destined : destinations labels pending ≡ Known 0x0040C008 ∷ Known 0x00400008 ∷ Known 0x12345678 ∷ Known 0x0040C008 ∷ Known 0x00400004 ∷ Known 0x003E0010 ∷ []
   pub fit : all (λ (p : ℕ). fits labels (pendingAt pending p .kind) p) (places pending) ≡ true
   pub bytes-fit : all (λ (b : ℕ). ltb b 256) labels ≡ true
 
--- of both tables and the other lists; the last readings are of the regions unpatched, and with the first patch of the order only
+-- what the builds of the first two tables leave
+abbrev pub outcome : BuildOutcome
+outcome = record { answer = Entry 0x00400008; regions = finished }
+
+-- of the tables and the other lists; the last readings are of the regions unpatched, with the first patch of the order only, and with the
+-- first of the list only
 pub record Evaluated : Type 0 where
   pub first : Computed labels₁
   pub second : Computed labels₂
+  pub third : Computed labels₃
+  pub first-outcome : buildOutcome labels₁ entry regions pending ≡ outcome
+  pub second-outcome : buildOutcome labels₂ entry regions pending ≡ outcome
+  pub destined : destinations labels₁ pending ≡ Known 0x0040C008 ∷ Known 0x00400008 ∷ Known 0x12345678 ∷ Known 0x0040C008 ∷ Known 0x00400004 ∷ Known 0x003E0010 ∷ []
   pub places-are : places pending ≡ 0 ∷ 40 ∷ 80 ∷ 116 ∷ 156 ∷ 196 ∷ []
-  pub kinds-are : map (patchKindOf pending) (places pending) ≡ 2 ∷ 0 ∷ 4 ∷ 3 ∷ 1 ∷ 0 ∷ []
-  pub order-is : patchOrder regions pending ≡ 40 ∷ 156 ∷ 196 ∷ 0 ∷ 80 ∷ 116 ∷ []
   pub aligned : all (λ (p : ℕ). eqb (pcAt regions pending p % 4) 0) (places pending) ≡ true
-  pub cleared : all (λ (p : ℕ). all (clear p) (places pending)) (places pending) ≡ true
-  pub idle₁ : resolve labels₁ idle ≡ Known 0x00001000
-  pub idle₂ : resolve labels₂ idle ≡ Known 0x00002000
+  pub idle-addresses : (resolve labels₁ idle ≡ Known 0x00001000) × (resolve labels₂ idle ≡ Known 0x00002000)
+  pub loop-addresses : (resolve labels₁ loop ≡ Known 0x00400008) × (resolve labels₃ loop ≡ Known 0x0040000C)
+  pub loop-named : (byteAt pending 59 ≡ 1) × (pendingName pending 40 ≡ loop)
   pub unpatched : readings (imageOf regions) pending ≡ Known 0x00000000 ∷ Known 0x00400004 ∷ Known 0x00000000 ∷ Known 0x00000000 ∷ Known 0x00000000 ∷ Known 0x00400010 ∷ []
-  pub first-only : readings (imageOf (writePatches labels₁ regions pending (40 ∷ []) regions)) pending
+  pub first-only : readings (imageOf (writePatches labels₁ regions pending (take 1 (patchOrder regions pending)) regions)) pending
       ≡ Known 0x00000000 ∷ Known 0x00400008 ∷ Known 0x00000000 ∷ Known 0x00000000 ∷ Known 0x00000000 ∷ Known 0x00400010 ∷ []
+  pub first-listed-only : readings (imageOf (writePatches labels₁ regions pending (take 1 (places pending)) regions)) pending
+      ≡ Known 0x0000C008 ∷ Known 0x00400004 ∷ Known 0x00000000 ∷ Known 0x0000C008 ∷ Known 0x00000000 ∷ Known 0x00400010 ∷ []
   pub example : buildOutcome [] [] exampleRegions examplePending ≡ record { answer = Entry 0x00400000; regions = exampleFinished }
 
 pub evaluated : Evaluated
-unfolding labels₁ labels₂ entry regions pending finished exampleRegions examplePending exampleFinished destinations readings imageOf readBy signedBytes buildOutcome buildVerdict layoutVerdicts writePatches writePending pendingVerdict reachVerdict orderFrom keep append inRange jumpInRange branchInRange fieldValue fieldWidth destination kindFrom pendingLayout pendingOk entryLayout entryOk addressLabelOk regionLayout regionRecords regionOk resolve labelLayout labelOk firstRepeat firstLater firstNamed firstStop withinLimit firstBadOf firstBad places placesFrom placesF all sameBytes setField
+unfolding labels₁ labels₂ labels₃ entry regions pending finished exampleRegions examplePending exampleFinished destinations readings imageOf readBy signedBytes buildOutcome buildVerdict layoutVerdicts writePatches writePending pendingVerdict reachVerdict orderFrom keep append inRange jumpInRange branchInRange fieldValue fieldWidth destination kindFrom pendingLayout pendingOk entryLayout entryOk addressLabelOk regionLayout regionRecords regionOk resolve labelLayout labelOk firstRepeat firstLater firstNamed firstStop withinLimit firstBadOf firstBad places placesFrom placesF all sameBytes setField
 evaluated =
     record {
-      first = record { accepted = refl; outcome = refl; destined = refl; fit = refl; bytes-fit = refl };
-      second = record { accepted = refl; outcome = refl; destined = refl; fit = refl; bytes-fit = refl };
+      first = record { accepted = refl; fit = refl; bytes-fit = refl };
+      second = record { accepted = refl; fit = refl; bytes-fit = refl };
+      third = record { accepted = refl; fit = refl; bytes-fit = refl };
+      first-outcome = refl;
+      second-outcome = refl;
+      destined = refl;
       places-are = refl;
-      kinds-are = refl;
-      order-is = refl;
       aligned = refl;
-      cleared = refl;
-      idle₁ = refl;
-      idle₂ = refl;
+      idle-addresses = (refl, refl);
+      loop-addresses = (refl, refl);
+      loop-named = (refl, refl);
       unpatched = refl;
       first-only = refl;
+      first-listed-only = refl;
       example = refl;
     }

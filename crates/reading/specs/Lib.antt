@@ -1,12 +1,10 @@
 pub mod Reading
 pub mod Premises
 pub mod ArithmeticLaws
-pub mod HeldLaws
 pub mod ImageLaws
 pub mod ReadBackLaws
 pub mod Used
 pub mod TablesLaws
 pub mod Demand
-pub mod InstanceTables
 pub mod InstanceLaws
 pub mod Instance

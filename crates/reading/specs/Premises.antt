@@ -1,25 +1,15 @@
 -- What the tender asks beforehand: the premises of reading back. Assumes nothing.
 use Prim.Native.Nat.{ℕ, _+_, _-_, _/_, _%_, _≤_}
 use mathlib.Core.Path.{_≡_}
-use mathlib.Core.List.{List, List·Memᴰ}
-use mathlib.Core.Logic.{_⊎_}
+use mathlib.Core.List.{List}
 use Rattle.record.specs.Bytes.{byteAt, le64, part}
-use Rattle.record.specs.Records.{bodyLen, places}
+use Rattle.record.specs.Records.{bodyLen}
 use Rattle.refusal.specs.declared.Verdict.the-variants.{Pass}
 use Rattle.pending.specs.declared.InstructionLabelKind.the-variants.{Branch, Jump, Lower, Upper}
 use Rattle.pending.specs.Pendings.{pendingAt}
-use Rattle.patch.specs.Patches.{destination, after, pcOf, regionFor, addressOr}
+use Rattle.patch.specs.Patches.{after}
 use Rattle.build_outcome.specs.Build.{buildVerdict}
-
--- the patch of the record at p
-abbrev pub In : List ℕ → ℕ → Type 0
-In pending p = List·Memᴰ p (places pending)
-
-abbrev pub pcAt : (regions pending : List ℕ) → ℕ → ℕ
-pcAt regions pending p = pcOf (regionFor regions (pendingAt pending p)) (pendingAt pending p)
-
-abbrev pub destinationAt : (labels pending : List ℕ) → ℕ → ℕ
-destinationAt labels pending p = addressOr 0 (destination labels pending (pendingAt pending p .label))
+use Rattle.finished_words.specs.Listed.{In, pcAt, destinationAt, Apart}
 
 -- "equal form, value and name"
 pub record SameTarget (pending : List ℕ) (p q : ℕ) : Type 0 where
@@ -43,9 +33,8 @@ pub record Premises (labels entry regions pending : List ℕ) : Type 0 where
   pub accepted : buildVerdict labels entry regions pending ≡ Pass
   -- "patch addresses multiples of four": "A patch's address is its pc"
   pub aligned : (p : ℕ) → In pending p → pcAt regions pending p % 4 ≡ 0
-  -- "patches not overlapping": "two patches overlap if their four bytes in one region share any"
-  pub apart : (p q : ℕ) → In pending p → In pending q → (p ≡ q → ⊥) → pendingAt pending p .region ≡ pendingAt pending q .region
-      → (pendingAt pending p .offset + 4 ≤ pendingAt pending q .offset) ⊎ (pendingAt pending q .offset + 4 ≤ pendingAt pending p .offset)
+  -- "patches not overlapping"
+  pub apart : Apart pending
   -- "branch and jump destinations multiples of four"
   pub branch-target : (p : ℕ) → In pending p → pendingAt pending p .kind ≡ Branch → destinationAt labels pending p % 4 ≡ 0
   pub jump-target : (p : ℕ) → In pending p → pendingAt pending p .kind ≡ Jump → destinationAt labels pending p % 4 ≡ 0

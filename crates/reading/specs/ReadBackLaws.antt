@@ -1,16 +1,14 @@
 -- Reading back: in the image of an accepted build, under the tender's premises, the readings of the whole pending list are its
 -- destinations. Assumes nothing.
-use Prim.Native.Nat.{ℕ, _+_, _-_, _*_, _/_, _%_, _^_, _<_}
+use Prim.Native.Nat.{ℕ, _+_, _-_, _*_, _/_, _%_, _^_}
 use native.Mathlib.Omega.{arith}
-use native.Mathlib.Nat.{mod-eq-of-lt}
-use mathlib.Core.List.{List, [], _∷_, map, List·Memᴰ, List·Memᴰ·head, List·Memᴰ·tail}
+use mathlib.Core.List.{List}
 use mathlib.Core.Bool.{Bool, true, false}
 use mathlib.Core.Path.{_≡_, refl, sym, ap, ap₂, _∙_}
 use lib.Dec.{eqb}
 use borrow.Author.Tests.{eqb-true, eqb-false}
 use Rattle.record.specs.Bytes.{byteAt, le32, le64, part}
 use Rattle.record.specs.Records.{bodyLen, next, places}
-use Rattle.labels.specs.declared.Address.{Address}
 use Rattle.labels.specs.declared.Address.the-variants.{Known}
 use Rattle.address_label.specs.AddressLabels.{addressLabelAt}
 use Rattle.address_label.specs.AddressLabelsLaws.{at-constant, at-named}
@@ -18,18 +16,18 @@ use Rattle.pending.specs.declared.InstructionLabelKind.{InstructionLabelKind}
 use Rattle.pending.specs.declared.InstructionLabelKind.the-variants.{Branch, Jump, Lower, Upper, Full}
 use Rattle.pending.specs.Pendings.{pendingAt, labelOf}
 use Rattle.labels.specs.Labels.{resolve}
-use Rattle.patch.specs.Patches.{destination, plusOffset, wrap32, after, fieldWidth, fieldValue, slotOf, inRange, addressOr}
+use Rattle.patch.specs.Patches.{destination, plusOffset, wrap32, after, fieldWidth, fieldValue, inRange, addressOr}
 use Rattle.patch.specs.PatchesLaws.{jump-page}
 use Rattle.build_outcome.specs.Build.{patchedRegions}
+use Rattle.finished_words.specs.Listed.{In, kindOf, slotAt, destinationAt, pcAt}
+use Rattle.finished_words.specs.Words.{finishedWord, finishedAt}
+use Rattle.finished_words.specs.WordsLaws.{finished-field}
+use Rattle.finished_words.specs.AcceptedLaws.{has-region, reaches, known, dest-lt, in-range, finished-kept}
+use Rattle.finished_words.specs.FinishedLaws.{map-same, word-finished}
 use Rattle.reading.specs.Reading.{imageOf, pcIn, wordIn, half, signedBytes, readBy, reading, readings, destinations}
-use Rattle.reading.specs.Premises.{In, Premises, Pair, SameTarget, destinationAt, pcAt}
+use Rattle.reading.specs.Premises.{Premises, Pair, SameTarget}
 use Rattle.reading.specs.ArithmeticLaws.{branch-reads, jump-reads, halves-read}
-use Rattle.reading.specs.HeldLaws.{has-region, reaches, known, dest-lt, in-range, finished-kept, finished-holds}
 use Rattle.reading.specs.ImageLaws.{image-word, image-pc}
-
-map-same : {f g : ℕ → Address} (ps : List ℕ) → ((p : ℕ) → List·Memᴰ p ps → f p ≡ g p) → map f ps ≡ map g ps
-map-same [] h = refl
-map-same (p ∷ ps) h = ap₂ (λ (x : Address) (xs : List Address). x ∷ xs) (h p (List·Memᴰ·head refl)) (map-same ps (λ q m. h q (List·Memᴰ·tail m)))
 
 -- the destination of a record's label, by its form
 constant-is : (labels pending : List ℕ) (at : ℕ) → byteAt pending (at + 19) ≡ 0 → destination labels pending (labelOf pending at) ≡ Known (wrap32 (le64 pending (at + 20)))
@@ -67,22 +65,25 @@ target-same labels pending p q t = ap (addressOr 0) (go (eqb (byteAt pending (p 
 module _ (labels entry regions pending : List ℕ) (premises : Premises labels entry regions pending) where
   -- the word of each patch in the image
   word-at : (p : ℕ) → In pending p
-      → wordIn (imageOf (patchedRegions labels regions pending)) (pendingAt pending p .region) (pendingAt pending p .offset)
-      ≡ le32 (patchedRegions labels regions pending) (slotOf regions (pendingAt pending p))
+      → wordIn (imageOf (patchedRegions labels regions pending)) (pendingAt pending p .region) (pendingAt pending p .offset) ≡ finishedAt labels regions pending p
   word-at p m =
-      image-word regions (patchedRegions labels regions pending) (finished-kept labels entry regions pending premises) (pendingAt pending p .region)
-      (has-region labels entry regions pending premises p m) (pendingAt pending p .offset) (reaches labels entry regions pending premises p m .inside)
+      image-word regions (patchedRegions labels regions pending) (finished-kept labels entry regions pending (premises .accepted)) (pendingAt pending p .region)
+      (has-region labels entry regions pending (premises .accepted) p m) (pendingAt pending p .offset) (reaches labels entry regions pending (premises .accepted) p m .inside)
+      ∙ word-finished labels entry regions pending (premises .accepted) (premises .apart) p m
 
   pc-at : (p : ℕ) → In pending p → pcIn (imageOf (patchedRegions labels regions pending)) (pendingAt pending p) ≡ pcAt regions pending p
   pc-at p m =
-      image-pc regions (patchedRegions labels regions pending) (pendingAt pending p) (finished-kept labels entry regions pending premises)
-      (has-region labels entry regions pending premises p m)
+      image-pc regions (patchedRegions labels regions pending) (pendingAt pending p) (finished-kept labels entry regions pending (premises .accepted))
+      (has-region labels entry regions pending (premises .accepted) p m)
 
   -- its low bits are the patch's field
   field-at : (p : ℕ) → In pending p
       → wordIn (imageOf (patchedRegions labels regions pending)) (pendingAt pending p .region) (pendingAt pending p .offset) % 2 ^ fieldWidth (pendingAt pending p .kind)
       ≡ fieldValue (pendingAt pending p .kind) (pcAt regions pending p) (destinationAt labels pending p)
-  field-at p m = ap (λ (w : ℕ). w % 2 ^ fieldWidth (pendingAt pending p .kind)) (word-at p m) ∙ finished-holds labels entry regions pending premises p m .1
+  field-at p m =
+      ap (λ (w : ℕ). w % 2 ^ fieldWidth (kindOf pending p)) (word-at p m)
+      ∙ finished-field (kindOf pending p) (pcAt regions pending p) (destinationAt labels pending p) (le32 regions (slotAt regions pending p))
+      (dest-lt labels entry regions pending (premises .accepted) p m)
 
   branch-back : (p : ℕ) → In pending p → pendingAt pending p .kind ≡ Branch
       → readBy Branch (imageOf (patchedRegions labels regions pending)) (pendingAt pending p) ≡ destinationAt labels pending p
@@ -92,7 +93,7 @@ module _ (labels entry regions pending : List ℕ) (premises : Premises labels e
       ≡ fieldValue Branch (pcAt regions pending p) (destinationAt labels pending p) = rw e at (field-at p m) in
       ap₂ (λ (pc n : ℕ). wrap32 (after pc + signedBytes n)) (pc-at p m) f
       ∙ branch-reads (pcAt regions pending p) (destinationAt labels pending p) (omega (arith, premises .aligned p m)) (omega (arith, premises .branch-target p m e))
-      (dest-lt labels entry regions pending premises p m) (omega (arith, premises .near p m e .0)) (omega (arith, premises .near p m e .1))
+      (dest-lt labels entry regions pending (premises .accepted) p m) (omega (arith, premises .near p m e .0)) (omega (arith, premises .near p m e .1))
 
   jump-back : (p : ℕ) → In pending p → pendingAt pending p .kind ≡ Jump
       → readBy Jump (imageOf (patchedRegions labels regions pending)) (pendingAt pending p) ≡ destinationAt labels pending p
@@ -100,19 +101,16 @@ module _ (labels entry regions pending : List ℕ) (premises : Premises labels e
   jump-back p m e =
       let f : wordIn (imageOf (patchedRegions labels regions pending)) (pendingAt pending p .region) (pendingAt pending p .offset) % 2 ^ fieldWidth Jump
       ≡ fieldValue Jump (pcAt regions pending p) (destinationAt labels pending p) = rw e at (field-at p m) in
-      let r : inRange Jump (pcAt regions pending p) (destinationAt labels pending p) ≡ true = rw e at (in-range labels entry regions pending premises p m) in
+      let r : inRange Jump (pcAt regions pending p) (destinationAt labels pending p) ≡ true = rw e at (in-range labels entry regions pending (premises .accepted) p m) in
       ap₂ (λ (pc n : ℕ). after pc / 2 ^ 28 * 2 ^ 28 + n * 4) (pc-at p m) f
       ∙ jump-reads (pcAt regions pending p) (destinationAt labels pending p) (omega (arith, premises .jump-target p m e)) (jump-page (pcAt regions pending p) (destinationAt labels pending p) r)
 
   full-back : (p : ℕ) → In pending p → pendingAt pending p .kind ≡ Full
       → readBy Full (imageOf (patchedRegions labels regions pending)) (pendingAt pending p) ≡ destinationAt labels pending p
-  unfolding readBy fieldWidth fieldValue
+  unfolding readBy finishedWord
   full-back p m e =
-      let h = finished-holds labels entry regions pending premises p m in
-      let f : wordIn (imageOf (patchedRegions labels regions pending)) (pendingAt pending p .region) (pendingAt pending p .offset) % 2 ^ fieldWidth Full
-      ≡ fieldValue Full (pcAt regions pending p) (destinationAt labels pending p) = rw e at (field-at p m) in
-      let s : le32 (patchedRegions labels regions pending) (slotOf regions (pendingAt pending p)) < 2 ^ 32 = h .0 in
-      sym (mod-eq-of-lt (rw (word-at p m) s)) ∙ f
+      word-at p m
+      ∙ ap (λ (k : InstructionLabelKind). finishedWord k (pcAt regions pending p) (destinationAt labels pending p) (le32 regions (slotAt regions pending p))) e
 
   -- a half of each kind
   upper-half : (p : ℕ) → In pending p → pendingAt pending p .kind ≡ Upper
@@ -173,7 +171,7 @@ module _ (labels entry regions pending : List ℕ) (premises : Premises labels e
 
   each-back : (p : ℕ) → In pending p
       → Known (reading (imageOf (patchedRegions labels regions pending)) (pendingAt pending p)) ≡ destination labels pending (pendingAt pending p .label)
-  each-back p m = ap Known (by-kind (pendingAt pending p .kind) p m refl) ∙ sym (known labels entry regions pending premises p m)
+  each-back p m = ap Known (by-kind (pendingAt pending p .kind) p m refl) ∙ sym (known labels entry regions pending (premises .accepted) p m)
 
   -- One claim on the whole pending list: the list of readings is the list of destinations.
   pub read-back : readings (imageOf (patchedRegions labels regions pending)) pending ≡ destinations labels pending

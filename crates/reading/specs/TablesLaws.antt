@@ -22,11 +22,12 @@ use Rattle.pending.specs.Pendings.{pendingAt, labelOf}
 use Rattle.patch.specs.Patches.{destination, plusOffset, addressOr}
 use Rattle.build_outcome.specs.Build.{patchedRegions, entryAddress, reachEntry}
 use Rattle.build_outcome.specs.BuildLaws.{accepted-is}
+use Rattle.finished_words.specs.Listed.{In, Bytes}
+use Rattle.finished_words.specs.AcceptedLaws.{known}
 use Rattle.reading.specs.Reading.{imageOf, readings, destinations}
-use Rattle.reading.specs.Premises.{In, Premises}
-use Rattle.reading.specs.Used.{Bytes, pendingName, entryName, SameUsed}
+use Rattle.reading.specs.Premises.{Premises}
+use Rattle.reading.specs.Used.{pendingName, entryName, SameUsed}
 use Rattle.reading.specs.ReadBackLaws.{label-is, named-is, read-back}
-use Rattle.reading.specs.HeldLaws.{known}
 
 -- equal lists of values have equal values
 map-at : (f g : ℕ → Address) (ps : List ℕ) → map f ps ≡ map g ps → (p : ℕ) → List·Memᴰ p ps → f p ≡ g p
@@ -79,7 +80,7 @@ module _ (labels₁ labels₂ entry regions pending : List ℕ) (b₁ : Bytes la
       let d : destination labels₁ pending (labelOf pending p) ≡ destination labels₂ pending (labelOf pending p) = map-at
       (λ (at : ℕ). destination labels₁ pending (pendingAt pending at .label)) (λ (at : ℕ). destination labels₂ pending (pendingAt pending at .label))
       (places pending) (same-destinations i) p m in
-      let k = known labels₁ entry regions pending pr₁ p m in
+      let k = known labels₁ entry regions pending (pr₁ .accepted) p m in
       offset-same labels₁ labels₂ (pendingName pending p) (le64 pending (p + 20)) _ b₁ b₂
       (sym (named-is labels₁ pending p n) ∙ k) (sym (named-is labels₂ pending p n) ∙ sym d ∙ k)
 

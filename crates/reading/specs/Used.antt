@@ -1,15 +1,11 @@
 -- The addresses that a build uses: "A used address is that of a label which a pending or the entry names." Assumes nothing.
-use Prim.Native.Nat.{ℕ, _+_, _-_, _<_}
+use Prim.Native.Nat.{ℕ, _+_, _-_}
 use mathlib.Core.Path.{_≡_}
 use mathlib.Core.List.{List}
 use Rattle.record.specs.Bytes.{byteAt, part}
 use Rattle.record.specs.Records.{bodyLen}
 use Rattle.labels.specs.Labels.{resolve}
-use Rattle.reading.specs.Premises.{In}
-
--- every element is a byte
-abbrev pub Bytes : List ℕ → Type 0
-Bytes s = (i : ℕ) → byteAt s i < 256
+use Rattle.finished_words.specs.Listed.{In}
 
 abbrev pub pendingName : List ℕ → ℕ → List ℕ
 pendingName pending p = part pending (p + 36) (bodyLen pending p - 32)

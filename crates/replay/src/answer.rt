@@ -23,7 +23,7 @@ pub(crate) fn is_expected(met: [u32; 6]) -> bool {
 pub(crate) fn is_line_expected(met: Emitted) -> bool {
     let answer = met.answer;
     let counts = met.counts;
-    let is_answer_met = is_expected(linked_answer::emitted_words(answer));
+    let is_answer_met = is_expected(nazgwern::answer::emitted_words(answer));
     let expected = read_counts();
     is_answer_met
         && counts.data_len == expected.data_len

@@ -79,7 +79,7 @@ fn is_build_met() -> bool {
 fn is_built(labels: &[u8], entry: &[u8], regions: &mut [u8], pending: &[u8]) -> bool {
     let mut exit = lent::copy(&*regions);
     let built = binary_builder::build(labels, entry, &mut *regions, pending);
-    let is_answer_met = answer::is_expected(linked_answer::built_words(built));
+    let is_answer_met = answer::is_expected(nazgwern::answer::built_words(built));
     let are_regions_met = lent::are_expected(&*regions, &mut exit);
     is_answer_met && are_regions_met
 }

@@ -1,5 +1,4 @@
 -- The record of a token ends where the next position is. Assumes nothing.
-use borrow.Author.Needs.{needs}
 use native.Mathlib.Omega.{arith}
 use Prim.Native.Nat.{_+_}
 use mathlib.Core.Path.{sym, _∙_}

@@ -1,6 +1,6 @@
 -- `cursor::next_adjacent` meets its contract: a walk of its MIR, by hand. A `LexerCursor` is made, moved to the next token that is not passed over, and held in a local, which is lent to `next` and read afterwards. All that the proof knows of `new`, `seek_without` and `next` is that each meets its contract. Assumes nothing.
 -- In a local of a body MIR erases the lifetime of the struct's type, so a value is shown to have the type at `erased`: what the struct owns does not say the lifetime's name.
-use mathlib.Core.Path.{_≡_, refl, ap, sym, subst, _∙_}
+use mathlib.Core.Path.{_≡_, refl, ap, subst, _∙_}
 use Prim.Native.Nat.{ℕ}
 use mathlib.Core.List.{List, [], _∷_}
 use lib.Dec.{T as Holds}
@@ -46,7 +46,6 @@ use denote.Exit.{yes}
 use Rattle.lexer.specs.Tokens.{tokens}
 use Rattle.cursor.specs.Cursors as Cursors
 use Rattle.cursor.specs.Cursors.{cursorAt, step, seek, nextAdjacent}
-use Rattle.cursor.specs.CursorsLaws.{adjacent-answer, adjacent-index}
 use Rattle.cursor.specs.Reads.{Placed, ReadAs}
 use Rattle.cursor.specs.declared.Cursor.{Cursor}
 use Rattle.cursor.specs.declared.Seen.{Seen}
@@ -95,13 +94,10 @@ module _ {M : Type 1} (𝓤 : URA M) (H : Heap 𝓤) (A : Atoms 𝓤) (mem : Mem
 
 -- the three contracts together: where the search ends, what stands there, and the position behind it
 joined : (s : List ℕ) (i : ℕ) (c₁ c₂ : Cursor) (t : Seen) → let ts = tokens s in c₁ ≡ cursorAt s (seek ts i) → t ≡ Cursors.peek ts (c₁ .index) → c₂ ≡ cursorAt s (step ts (c₁ .index)) → Placed s c₂ → ReadAs s (nextAdjacent ts i) t c₂
+unfolding nextAdjacent
 joined s i c₁ c₂ t e f g p =
     let ts = tokens s in
-    record {
-      answer-is = f ∙ ap (λ (x : Cursor). Cursors.peek ts (x .index)) e ∙ sym (adjacent-answer ts i);
-      cursor-is = g ∙ ap (λ (x : Cursor). cursorAt s (step ts (x .index))) e ∙ ap (cursorAt s) (sym (adjacent-index ts i));
-      placed = p;
-    }
+    record { answer-is = f ∙ ap (λ (x : Cursor). Cursors.peek ts (x .index)) e; cursor-is = g ∙ ap (λ (x : Cursor). cursorAt s (step ts (x .index))) e; placed = p }
 
 -- what is returned of a token and of the cursor's last value, whose machine values are shown
 abbrev result : Seen → LexerCursor → TokenRead

@@ -3,7 +3,7 @@ use mathlib.Core.Path.{sym, ap, _∙_}
 use borrow.Author.Needs.{needs}
 use Rattle.emit_outcome.specs.declared.Emitted.{Emitted}
 use Rattle.emit_outcome.specs.Call.{Lent, Call, lentOf, callOf, outcomeOf}
-use Rattle.emit_core.specs.EmitLaws.{by-lists}
+use Rattle.emit_core.specs.EmitLaws.{by-lists, emitted}
 use Rattle.emit_core.proofs.do_instruction.Statement.{statement}
 use Rattle.emit_core.proofs.do_instruction.Tie as tie
 
@@ -16,8 +16,8 @@ call c = let a = c .args in callOf (a .tokens .now) (a .mnemonic .now) (a .descr
 returns : tie.Need-returns
 returns c =
     let s = c .before .before .before .before .before .before .before .before .before .before .before .before .before .before in
-    by-lists (call s) (sym (c .before .before .before .before .check-lists .ensures) ∙ c .before .before .refusal .given .1)
-    ∙ sym (ap (λ (x : Emitted). outcomeOf (x .answer) (x .counts) (lent s)) (c .refused .ensures))
+    emitted (by-lists (call s) (sym (c .before .before .before .before .check-lists .ensures) ∙ c .before .before .refusal .given .1)
+    ∙ sym (ap (λ (x : Emitted). outcomeOf (x .answer) (x .counts) (lent s)) (c .refused .ensures)))
 
 pub do-instruction-spec : {M : Type 1} → statement M
 do-instruction-spec =
@@ -35,4 +35,4 @@ do-instruction-spec =
     (λ c. search needs)
     (λ c. search needs)
     (λ c. search needs)
-    (λ c. c .before .before .before .before .before .before .emit-named .ensures))
+    (λ c. emitted (c .before .before .before .before .before .before .emit-named .ensures)))

@@ -11,7 +11,7 @@ returns c = linked-short _ _ _ _ _ (omega arith)
 returns-2 : tie.Need-returns-2
 returns-2 c =
     let b = c .before .before .before .before .before .before .before .before .build .ensures in
-    linked-answered _ _ _ _ _ _ _ _ _ (omega arith) (b .answer-is) (b .bytes-are) (c .before .before .before .before .before .built-words .ensures) (c .before .before .put-words .ensures)
+    linked-answered _ _ _ _ _ _ _ _ _ (omega arith) (b .answer-is) (b .bytes-are) (c .before .before .before .before .before .built-words .ensures) (c .before .before .store-words .ensures)
 
 pub nazgwern-build-spec : {M : Type 1} → statement M
 nazgwern-build-spec =

@@ -23,9 +23,9 @@ returns-2 c =
 returns-3 : tie.Need-returns-3
 returns-3 c =
     let e = c .before .before .before .before .before .before .before .before .before .before .before .before .before .before .before .before .before in
-    line-answered _ _ _ _ _ _ _ _ (omega arith) (omega arith) (e .before .before .before .before .counts-at .ensures) (e .do-instruction .ensures)
+    line-answered _ _ _ _ _ _ _ _ (omega arith) (omega arith) (e .before .before .before .before .counts-at .ensures) (e .do-line .ensures .outcome-is)
     (c .before .before .before .before .before .before .before .before .before .emitted-words .ensures) (c .before .before .before .before .before .before .before .put-counts .ensures)
-    (c .before .before .put-words .ensures)
+    (c .before .before .store-words .ensures)
 
 pub nazgwern-do-instruction-spec : {M : Type 1} → statement M
 nazgwern-do-instruction-spec =

@@ -9,7 +9,7 @@ use Rattle.nazgwern.proofs.put_counts.Tie as tie
 returns : tie.Need-returns
 returns c =
     let a = c .before .before .before .before .before .before .before .before .args in
-    c .before .before .put-words .ensures ∙ sym (ap (λ (x : EmitAnswer). countsAfter x (a .filled) (a .counts .now)) (c .before .before .before .before .before .enum-told .given .1))
+    c .before .before .store-words .ensures ∙ sym (ap (λ (x : EmitAnswer). countsAfter x (a .filled) (a .counts .now)) (c .before .before .before .before .before .enum-told .given .1))
 
 returns-2 : tie.Need-returns-2
 returns-2 c = search needs

@@ -12,13 +12,13 @@ use Rattle.operands.proofs.get_constant.Tie as tie
 returns : tie.Need-returns
 returns c =
     let r = c .before .before .before .next-adjacent .ensures in
-    read-at _ _ _ _ (r .placed) (ap (given Constant) (constant-is _ _ _ _ (read-is r _ (c .enum-told .given .1))))
+    read-at _ _ _ _ (r .placed) (ap (given Constant) (constant-is _ _ (read-is r _ (c .enum-told .given .1))))
 
 returns-2 : tie.Need-returns-2
 returns-2 c =
     let seen = c .before .before .before .before .seen .given in
     let r = c .before .before .before .before .before .before .before .next-adjacent .ensures in
-    rw (constant-is _ _ _ _ (read-is r _ (seen .1))) (read-made (c .before .before .get-integer .ensures) (λ (n : MaybeInteger). answerOf Constant (constantMet (seen .0 .0) n)) _ (c .constant-met .ensures))
+    rw (constant-is _ _ (read-is r _ (seen .1))) (read-made (c .before .before .get-integer .ensures) (λ (n : MaybeInteger). answerOf Constant (constantMet (seen .0 .0) n)) _ (c .constant-met .ensures))
 
 pub get-constant-spec : {M : Type 1} → statement M
 get-constant-spec =

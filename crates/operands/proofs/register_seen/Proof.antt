@@ -2,7 +2,7 @@
 use borrow.Author.Needs.{needs}
 use Rattle.operand.specs.declared.OperandAnswer.the-variants.{Missed}
 use Rattle.operand.specs.declared.Want.the-variants.{Register}
-use Rattle.operand.specs.Answers.{Answer, Asked, answerOf}
+use Rattle.operand.specs.Answers.{answerOf}
 use Rattle.cursor.specs.declared.Seen.{Seen}
 use mathlib.Core.Path.{sym, ap, _∙_}
 use Rattle.operands.specs.Operands.{registerSeen, registerMet}

@@ -13,14 +13,14 @@ returns : tie.Need-returns
 returns c =
     let p = c .before .before .before .before .before in
     let r = c .before .before .before .next-adjacent .ensures in
-    read-at _ _ _ _ (p .pre) (signed-is _ _ _ _ (read-is r _ (c .enum-told .given .1)) (p .args .minus))
+    read-at _ _ _ _ (p .pre) (signed-is _ _ (read-is r _ (c .enum-told .given .1)) (p .args .minus))
 
 returns-2 : tie.Need-returns-2
 returns-2 c =
     let seen = c .before .before .before .before in
     let p = seen .before .before .before .before .before in
     let r = seen .before .before .before .next-adjacent in
-    let e = signed-is _ _ _ _ (read-is (r .ensures) _ (seen .seen .given .1)) (p .args .minus) in
+    let e = signed-is _ _ (read-is (r .ensures) _ (seen .seen .given .1)) (p .args .minus) in
     read-at _ _ _ _ (p .pre) (e ∙ ap (literalMet (p .args .minus) (p .args .from .index) (r .result .cursor .index)) (sym (c .before .before .as-integer .ensures) ∙ c .enum-told2 .given .1))
 
 returns-3 : tie.Need-returns-3
@@ -29,7 +29,7 @@ returns-3 c =
     let p = seen .before .before .before .before .before in
     let r = seen .before .before .before .next-adjacent in
     let j = r .result .cursor .index in
-    let e = signed-is _ _ _ _ (read-is (r .ensures) _ (seen .seen .given .1)) (p .args .minus) in
+    let e = signed-is _ _ (read-is (r .ensures) _ (seen .seen .given .1)) (p .args .minus) in
     let n = ap (literalMet (p .args .minus) (p .args .from .index) j) (sym (c .before .before .before .before .as-integer .ensures) ∙ c .before .before .n .given .1) in
     read-at _ _ _ _ (r .ensures .placed) (e ∙ n ∙ ap (λ (k : ℕ). here (Some k) j) (sym (c .with-sign .ensures)))
 

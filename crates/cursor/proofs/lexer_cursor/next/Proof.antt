@@ -148,7 +148,7 @@ module _ {M : Type 1} (𝓤 : URA M) (H : Heap 𝓤) (A : Atoms 𝓤) (W : Given
         assigns ! (of-opd ! (load ! (from ! (hop ! (look ! 17 refl) (fld ! {τ = tyInt w64} {d = 16} refl (stop !)))) (look-in ! 0 {τ = tyInt w64} (sub ! 1 {τ = tyInt w64} {d = 16} refl (whole !))))) (from ! (stop !)) (init ! 11 refl (tt, wt .1 .0)) $
         assigns ! (of-opd ! (load ! (from ! (hop ! (look ! 17 refl) (fld ! {τ = tyInt w64} {d = 24} refl (stop !)))) (look-in ! 0 {τ = tyInt w64} (sub ! 2 {τ = tyInt w64} {d = 24} refl (whole !))))) (from ! (stop !)) (init ! 9 refl (tt, wt .1 .1 .0)) $
         assigns ! (agg ! (and-then ! (load ! (from ! (stop !)) (look ! 11 refl)) (and-then ! (load ! (from ! (stop !)) (look ! 9 refl)) (no-more !)))) (from ! (stop !)) (init ! 15 refl (tt, wt .1)) $
-        assigns ! (of-opd ! (load ! (from ! (hop ! (look ! 17 refl) (fld ! refl (stop !)))) (look-in ! 0 (sub ! 0 refl (whole !))))) (from ! (stop !)) (init ! 7 refl (tt, wt .0)) $
+        assigns ! (of-opd ! (load ! (from ! (hop ! (look ! 17 refl) (fld ! {τ = held.slice erased} {d = 0} refl (stop !)))) (look-in ! 0 {τ = held.slice erased} (sub ! 0 {τ = held.slice erased} {d = 0} refl (whole !))))) (from ! (stop !)) (init ! 7 refl (tt, wt .0)) $
         move ! (1 ∷ 5 ∷ []) $ use2 W (raw (Core 𝓤 H A at-mem run .pre to) ⊛ ‵ Own) (held.apart (named 1) κ′ 𝓤 H A W h q′ (held.fits (named 1) κ′ h _ was) placed) $ split ! $
         -- [what the callee asks; what the struct owns; its cell; the open borrow; obs; auth; true; _6; …; _5; …; _4; …; _3; …; _2; …; _1; …; room for _0; …]
         calls-at ! fm (Core 𝓤 H A at-mem run) known to (and-then ! (load ! (from ! (stop !)) (look ! 7 refl)) (and-then ! (load ! (from ! (stop !)) (look ! 15 refl)) (no-more !))) (λ u.
@@ -157,9 +157,9 @@ module _ {M : Type 1} (𝓤 : URA M) (H : Heap 𝓤) (A : Atoms 𝓤) (W : Given
         facts ! R.the-row (Is R.the-row) (shows 𝓤 H A R.the-row) r (u ∷ []) (λ is.
         -- ['a's token; what the struct owns; its cell; the open borrow; obs; auth; true; _6; …; _5; …; _4; …; room for _3; …; _2; …; _1; …; room for _0; …]
         land ! (from ! (stop !)) (init ! 13 refl (LL.lawful R.the-type R′.the-laws 𝓤 H A W .typed r _ is .0)) $ rewrite ! 13 (λ (y : Val). ‵ (fat fullShare R′.mir l₃ 0 y)) (ap only (R′.lowers .val-is r _ is)) refl $
-        assigns ! (of-opd ! (load ! (from ! (fld ! {d = 40} refl (fld ! {τ = tyInt w64} {d = 0} refl (stop !)))) (look-in ! 13 (sub ! 0 {τ = tyInt w64} {d = 0} refl (sub ! 1 {d = 40} refl (whole !)))))) (from ! (hop ! (look ! 17 refl) (fld ! {τ = tyInt w64} {d = 16} refl (stop !)))) (store-in ! 2 {τ = tyInt w64} (sub ! 1 {τ = tyInt w64} {d = 16} refl (whole !)) (tt, record { fits = fits r u is .0 })) $
-        assigns ! (of-opd ! (load ! (from ! (fld ! {d = 40} refl (fld ! {τ = tyInt w64} {d = 8} refl (stop !)))) (look-in ! 13 (sub ! 1 {τ = tyInt w64} {d = 8} refl (sub ! 1 {d = 40} refl (whole !)))))) (from ! (hop ! (look ! 17 refl) (fld ! {τ = tyInt w64} {d = 24} refl (stop !)))) (store-in ! 2 {τ = tyInt w64} (sub ! 2 {τ = tyInt w64} {d = 24} refl (whole !)) (tt, record { fits = fits r u is .1 })) $
-        assigns ! (of-opd ! (load ! (from ! (fld ! refl (stop !))) (look-in ! 13 (sub ! 0 refl (whole !))))) (from ! (stop !)) (init ! 19 refl (EL.lawful S.the-type S′.the-laws 𝓤 H A W tt .typed (r .answer) _ (answer-is r u is) .0)) $
+        assigns ! (of-opd ! (load ! (from ! (fld ! {τ = K′.mir} {d = 40} refl (fld ! {τ = tyInt w64} {d = 0} refl (stop !)))) (look-in ! 13 (sub ! 0 {τ = tyInt w64} {d = 0} refl (sub ! 1 {τ = K′.mir} {d = 40} refl (whole !)))))) (from ! (hop ! (look ! 17 refl) (fld ! {τ = tyInt w64} {d = 16} refl (stop !)))) (store-in ! 2 {τ = tyInt w64} (sub ! 1 {τ = tyInt w64} {d = 16} refl (whole !)) (tt, record { fits = fits r u is .0 })) $
+        assigns ! (of-opd ! (load ! (from ! (fld ! {τ = K′.mir} {d = 40} refl (fld ! {τ = tyInt w64} {d = 8} refl (stop !)))) (look-in ! 13 (sub ! 1 {τ = tyInt w64} {d = 8} refl (sub ! 1 {τ = K′.mir} {d = 40} refl (whole !)))))) (from ! (hop ! (look ! 17 refl) (fld ! {τ = tyInt w64} {d = 24} refl (stop !)))) (store-in ! 2 {τ = tyInt w64} (sub ! 2 {τ = tyInt w64} {d = 24} refl (whole !)) (tt, record { fits = fits r u is .1 })) $
+        assigns ! (of-opd ! (load ! (from ! (fld ! {τ = S′.mir} {d = 0} refl (stop !))) (look-in ! 13 {τ = S′.mir} (sub ! 0 {τ = S′.mir} {d = 0} refl (whole !))))) (from ! (stop !)) (init ! 19 refl (EL.lawful S.the-type S′.the-laws 𝓤 H A W tt .typed (r .answer) _ (answer-is r u is) .0)) $
         move ! (1 ∷ []) $ use1 W (‵ (B κ′ .own (h′ r u is) (T′.lowered (h′ r u is) ∷ []))) (held.moved (named 1) κ′ 𝓤 H A W h (r .cursor) (fits r u is)) $
         move ! (2 ∷ []) $ use1 W (‵ (cellAt fullShare (B κ′ .mir) (T′.lowered (h′ r u is) ∷ []) b o)) (W .laws .at-raw fullShare (T′.mir erased) b o (T′.lowered (h′ r u is))) $
         move ! (0 ∷ 1 ∷ 3 ∷ 4 ∷ 5 ∷ []) $ closes ! tt (B κ′) (h′ r u is) (T′.lowered (h′ r u is) ∷ []) b o $

@@ -1,0 +1,83 @@
+-- The tender's three demands, as statements about the definitions of an emit call (`emitOutcome`) and of a build (`buildOutcome`), which the
+-- entries' contracts equate with what they do (`EmittedIs`, `BuildIs`). Assumes nothing.
+use Prim.Native.Nat.{ℕ, _<_}
+use mathlib.Core.Path.{_≡_, ap}
+use mathlib.Core.List.{List}
+use mathlib.Core.Option.{some}
+use lib.ListN.{length}
+use Rattle.refusal.specs.declared.Refusal.{Refusal}
+use Rattle.refusal.specs.declared.Verdict.{Verdict}
+use Rattle.refusal.specs.declared.Verdict.the-variants.{Pass, Stop}
+use Rattle.loading.specs.Run.{Registers}
+use Rattle.loading.specs.Loading.{Loads, loads}
+use Rattle.lexer.specs.declared.Token.{Token}
+use Rattle.operand_list.specs.OperandLists.{readOperands}
+use Rattle.emit_dispatch.specs.declared.LineAnswer.the-variants.{Made}
+use Rattle.emit_outcome.specs.declared.EmitAnswer.the-variants.{Done, Refused as LineRefused}
+use Rattle.emit_outcome.specs.Call.{Call, EmitOutcome}
+use Rattle.emit_outcome.specs.Checks.{listStop}
+use Rattle.emit_outcome.specs.Emit.{refuse, listOutcome, emitOutcome}
+use Rattle.emit_outcome.specs.Refused.{refused-stays}
+use Rattle.build_outcome.specs.Build.{buildVerdict, BuildOutcome, outcomeBy, buildOutcome}
+use Rattle.build_outcome.specs.declared.Built.{Built}
+use Rattle.build_outcome.specs.declared.Built.the-variants.{Refused as BuildRefused}
+use Rattle.finished_words.specs.Listed.{Bytes}
+use Rattle.finished_words.specs.Finished.{Finished, finished}
+use Rattle.reading.specs.Reading.{imageOf, readings, destinations}
+use Rattle.reading.specs.Premises.{Premises}
+use Rattle.reading.specs.Used.{SameUsed}
+use Rattle.reading.specs.Demand.{reads-back, differing-apart}
+use Rattle.formats.specs.LineLoads.{LoadedConstant}
+use Rattle.formats.specs.Operations.{Operation, wantsOf, lineOf, wordsOf}
+use Rattle.formats.specs.LineFormats.{LineWords}
+use Rattle.formats.specs.EveryWord.{every-word}
+use Rattle.loaded_lines.specs.Loaded.{callLoads, ConstantAppended}
+use Rattle.loaded_lines.specs.LinesLoad.{constant-appended}
+use Rattle.acceptance.specs.Marked.{MarkedTable, marked}
+
+-- refusals 1 and 2 of an emit call
+abbrev listsOf : Call → Verdict
+listsOf c = listStop (c .token-list) (c .mnemonic) (c .descriptors) (c .lent) (c .numbers .place .region) (c .numbers .counts)
+
+-- 1. "If a record list is damaged, cut short or senseless, each public entry returns the numbered refusal of document 01 and changes no lent byte."
+pub record Demand1 : Type 0 where
+  pub line-lists : (c : Call) (r : Refusal) → listsOf c ≡ Stop r → emitOutcome c ≡ refuse (c .numbers .counts) (c .lent) (c .numbers .place .position) r
+  pub line-refused : (c : Call) (r : Refusal) (p : ℕ) → emitOutcome c .answer ≡ LineRefused r p → emitOutcome c ≡ refuse (c .numbers .counts) (c .lent) p r
+  pub build-refused : (labels entry regions pending : List ℕ) (r : Refusal) → buildVerdict labels entry regions pending ≡ Stop r
+      → buildOutcome labels entry regions pending ≡ record { answer = BuildRefused r; regions = regions }
+
+-- 2. "refusal, position, words, pending patches, breakpoints, image and entry equal the Rust's, shown by differential runs and proved against the
+-- MIPS32 field layouts": what is proved of it.
+pub record Demand2 : Type 1 where
+  pub table : MarkedTable
+  pub words : (o : Operation) (ts : List Token) (i : ℕ) → lineOf o ts i .answer ≡ Made
+      → LineWords o (readOperands (wantsOf o) ts i .answer) (wordsOf (lineOf o ts i .pairs))
+  pub patched : (labels entry regions pending : List ℕ) → buildVerdict labels entry regions pending ≡ Pass
+      → Finished labels regions pending (buildOutcome labels entry regions pending .regions)
+
+-- 3. "document 01's MIPS32 reading of each patch in the finished words, by its kind, equals its destination, and two label tables that differ in a
+-- used address never share an image with its entry"; "the words emitted to load the constant .. leave its low 32 bits in the chosen register,
+-- unless that is $zero, and alter no other."
+pub record Demand3 : Type 0 where
+  pub read-back : (labels entry regions pending : List ℕ) → Premises labels entry regions pending
+      → readings (imageOf (buildOutcome labels entry regions pending .regions)) pending ≡ destinations labels pending
+  pub apart : (labels₁ labels₂ entry regions pending : List ℕ) → Bytes labels₁ → Bytes labels₂
+      → Premises labels₁ entry regions pending → Premises labels₂ entry regions pending → (SameUsed labels₁ labels₂ entry pending → ⊥)
+      → imageOf (buildOutcome labels₁ entry regions pending .regions) ≡ imageOf (buildOutcome labels₂ entry regions pending .regions)
+      → buildOutcome labels₁ entry regions pending .answer ≡ buildOutcome labels₂ entry regions pending .answer → ⊥
+  pub constants : (c t : ℕ) (g : Registers) → t < 32 → length g ≡ 32 → Loads c t g
+  pub lines : (c : Call) (position : ℕ) → emitOutcome c .answer ≡ Done position → (l : LoadedConstant) → callLoads c ≡ some l → ConstantAppended c l
+
+pub demand-1 : Demand1
+unfolding emitOutcome buildOutcome
+demand-1 = record {
+  line-lists = λ c r e. ap (listOutcome c) e;
+  line-refused = refused-stays;
+  build-refused = λ labels entry regions pending r e. rw e;
+}
+
+pub demand-2 : Demand2
+demand-2 = record { table = marked; words = every-word; patched = finished }
+
+pub demand-3 : Demand3
+demand-3 = record { read-back = reads-back; apart = differing-apart; constants = loads; lines = constant-appended }

@@ -1,0 +1,89 @@
+-- The lists on which the theorems' premises are met: three label tables, an entry record, two regions, six pendings. Assumes nothing.
+use Prim.Native.Nat.{ℕ, _/_, _%_}
+use mathlib.Core.List.{List, [], _∷_, _++_}
+use lib.ListN.{length}
+
+-- ---- numbers and records as document 01 lays them out
+abbrev two : ℕ → List ℕ
+two n = n % 256 ∷ n / 256 % 256 ∷ []
+
+abbrev four : ℕ → List ℕ
+four n = two n ++ two (n / 65536)
+
+abbrev eight : ℕ → List ℕ
+eight n = four n ++ four (n / 4294967296)
+
+abbrev kinded : ℕ → List ℕ → List ℕ
+kinded kind body = two (length body) ++ two kind ++ body
+
+abbrev label : ℕ → List ℕ → List ℕ
+label address name = kinded 34 (four address ++ name)
+
+abbrev region : ℕ → List ℕ → List ℕ
+region address words = kinded 35 (four address ++ words)
+
+abbrev pub loop : List ℕ
+loop = 0x6C ∷ 0x6F ∷ 0x6F ∷ 0x70 ∷ []
+
+abbrev pub idle : List ℕ
+idle = 0x69 ∷ 0x64 ∷ 0x6C ∷ 0x65 ∷ []
+
+-- form, value, location and name: a constant, or `loop` with an offset, its location 1, 2
+abbrev constant : ℕ → List ℕ
+constant value = 0 ∷ eight value ++ four 0 ++ four 0
+
+abbrev loopPlus : ℕ → List ℕ
+loopPlus offset = 1 ∷ eight offset ++ four 1 ++ four 2 ++ loop
+
+-- region, offset, location 1, 1, patch kind, target
+abbrev patch : ℕ → ℕ → ℕ → List ℕ → List ℕ
+patch number offset kind target = kinded 36 (two number ++ four offset ++ four 1 ++ four 1 ++ kind ∷ target)
+
+-- ---- the lists
+
+-- the second table differs from the first in the address of `idle`, which neither a pending nor the entry names, and the third in that of
+-- `loop`, which both name
+unfoldable pub labels₁ : List ℕ
+labels₁ = label 0x00400008 loop ++ label 0x00001000 idle
+
+unfoldable pub labels₂ : List ℕ
+labels₂ = label 0x00400008 loop ++ label 0x00002000 idle
+
+unfoldable pub labels₃ : List ℕ
+labels₃ = label 0x0040000C loop ++ label 0x00001000 idle
+
+unfoldable pub entry : List ℕ
+entry = kinded 38 (loopPlus 0)
+
+unfoldable pub regions : List ℕ
+regions =
+    region 0x00400000 (four 0x10000000 ++ four 0 ++ four 0x08000000 ++ four 0x15090000)
+    ++ region 0x10010000 (four 0x3C010000 ++ four 0x34210000 ++ four 0)
+
+-- Six patches, of the regions 1, 0, 1, 1, 0, 0: a Lower to loop + 0xC000; a Branch forward to loop; a Full, to the low 32 bits of its
+-- constant; the Lower's Upper; a Jump to loop - 4, by a sum that wraps; a Branch back by 32,768 words, to a constant.
+unfoldable pub pending : List ℕ
+pending =
+    patch 1 4 2 (loopPlus 0xC000)
+    ++ patch 0 0 0 (loopPlus 0)
+    ++ patch 1 8 4 (constant 0xFFFFFFFF12345678)
+    ++ patch 1 0 3 (loopPlus 0xC000)
+    ++ patch 0 8 1 (loopPlus 0xFFFFFFFFFFFFFFFC)
+    ++ patch 0 12 0 (constant 0x003E0010)
+
+-- the regions after the build with the first table, or the second
+unfoldable pub finished : List ℕ
+finished =
+    region 0x00400000 (four 0x10000001 ++ four 0 ++ four 0x08100001 ++ four 0x15098000)
+    ++ region 0x10010000 (four 0x3C010040 ++ four 0x3421C008 ++ four 0x12345678)
+
+-- document 01's example: "region 0x00400000 with bytes 00 00 00 10, and one Branch pending at 0 to constant 0x00400000"
+unfoldable pub exampleRegions : List ℕ
+exampleRegions = region 0x00400000 (0 ∷ 0 ∷ 0 ∷ 0x10 ∷ [])
+
+unfoldable pub examplePending : List ℕ
+examplePending = kinded 36 (two 0 ++ four 0 ++ four 0 ++ four 0 ++ 0 ∷ constant 0x00400000)
+
+-- "00400000 1000ffff"
+unfoldable pub exampleFinished : List ℕ
+exampleFinished = region 0x00400000 (four 0x1000FFFF)

@@ -1,0 +1,10 @@
+pub mod Listed
+pub mod Words
+pub mod WordsLaws
+pub mod AcceptedLaws
+pub mod FinishedLaws
+pub mod BitsLaws
+pub mod Finished
+pub mod InstanceTables
+pub mod InstanceLaws
+pub mod Instance

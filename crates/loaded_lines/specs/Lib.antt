@@ -1,0 +1,4 @@
+pub mod Loaded
+pub mod CallsLaws
+pub mod LinesLoad
+pub mod Instance

@@ -1,0 +1,37 @@
+-- The patches of a line lie inside the data that its words are appended to. Assumes nothing.
+use Prim.Native.Nat.{ℕ, _+_, _*_, _≤_}
+use native.Mathlib.Omega.{arith}
+use mathlib.Core.Path.{_≡_, refl}
+use mathlib.Core.List.{List, [], _∷_, _++_}
+use lib.ListN.{length}
+use Rattle.pending.specs.declared.Origin.{Origin}
+use Rattle.emit_pairs.specs.declared.InstructionPair.{InstructionPair}
+use Rattle.emit_pairs.specs.declared.PairLabel.{PairLabel}
+use Rattle.emit_pairs.specs.declared.PairLabel.the-variants.{Nothing, Some}
+use Rattle.routine.specs.PatchValues.{Patch, originAt, pairPatches, patchesFrom}
+use Rattle.routine.specs.Run.{Each}
+
+module _ {A : Type 0} where
+  pub each-append : (P : A → Type 0) (xs ys : List A) → Each P xs → Each P ys → Each P (xs ++ ys)
+  each-append P [] ys h k = k
+  each-append P (x ∷ xs) ys h k = (h .0, each-append P xs ys (h .1) k)
+
+  pub each-so : (P Q : A → Type 0) → ((x : A) → P x → Q x) → (xs : List A) → Each P xs → Each Q xs
+  each-so P Q f [] h = tt
+  each-so P Q f (x ∷ xs) h = (f x (h .0), each-so P Q f xs (h .1))
+
+-- a patch of the region that ends at most there
+abbrev pub Before : (region end : ℕ) → Patch → Type 0
+Before region end p = (p .region ≡ region) × (p .offset + 4 ≤ end)
+
+one-before : (token-list : List ℕ) (word : Origin) (end : ℕ) (waits : PairLabel) → word .offset + 4 ≤ end → Each (Before (word .region) end) (pairPatches token-list word waits)
+one-before token-list word end Nothing h = tt
+one-before token-list word end (Some waits) h = ((refl, h), tt)
+
+pub patches-before : (token-list : List ℕ) (origin : Origin) (i end : ℕ) (ps : List InstructionPair) → origin .offset + 4 * (i + length ps) ≤ end
+    → Each (Before (origin .region) end) (patchesFrom token-list origin i ps)
+unfolding patchesFrom
+patches-before token-list origin i end [] h = tt
+patches-before token-list origin i end (p ∷ ps) h =
+    each-append (Before (origin .region) end) (pairPatches token-list (originAt origin i) (p .label)) (patchesFrom token-list origin (i + 1) ps)
+    (one-before token-list (originAt origin i) end (p .label) (omega arith)) (patches-before token-list origin (i + 1) end ps (omega arith))

@@ -1,0 +1,596 @@
+/* Makes generated calls of each entry with every buffer between pages that cannot be touched, and
+   lists that are only read in pages that cannot be written, so that an access outside a buffer, or
+   a write to such a list, ends the program. After each call it compares every byte: of a refused
+   call all but the answer's, and of an accepted one all that may not change.
+
+   A buffer ends where its pages end, or starts where they start, by chance; on its other side
+   stand some marked bytes, which no call may change either.
+
+   Each entry is one function, which makes one call; `entries` below lists them.
+   Usage: guard SEED */
+#define _GNU_SOURCE
+#include "nazgwern.h"
+
+#include <signal.h>
+#include <stdbool.h>
+#include <stdio.h>
+#include <stdlib.h>
+#include <string.h>
+#include <sys/mman.h>
+#include <unistd.h>
+
+enum { PAGE = 4096, ROOM = 18 * PAGE, EDGE = 64, MARK = 0xa5, REFUSALS = 16 };
+enum { PSEUDOS = 29, ENCODINGS = 21, NAMES = 4 };
+
+/* A letter stands for an operand: r and f registers, v a register or number, i a number, s a label,
+   a an offset before b, a register in brackets. */
+static const char *const pseudos[PSEUDOS][2] = {
+    {"nop", ""},     {"abs", "rr"},   {"blt", "rvs"},  {"bgt", "rvs"},  {"ble", "rvs"},
+    {"bge", "rvs"},  {"bltu", "rvs"}, {"bgtu", "rvs"}, {"bleu", "rvs"}, {"bgeu", "rvs"},
+    {"sge", "rrv"},  {"sgt", "rrv"},  {"sle", "rrv"},  {"sgeu", "rrv"}, {"sgtu", "rrv"},
+    {"sleu", "rrv"}, {"beqz", "rs"},  {"bnez", "rs"},  {"seq", "rrv"},  {"sne", "rrv"},
+    {"neg", "rr"},   {"negu", "rr"},  {"not", "rr"},   {"li", "ri"},    {"la", "rs"},
+    {"move", "rr"},  {"b", "s"},      {"subi", "rri"}, {"subiu", "rri"},
+};
+static const char *const encodings[ENCODINGS] = {
+    "rrv", "rrr", "r",   "r",   "rrv", "rri", "rs", "rri", "ri",  "s",  "rvs",
+    "rs",  "",    "rab", "fab", "fff", "ff",  "ffi", "iff", "fr", "is",
+};
+
+/* The last is as long as a name may be. */
+static const char *const names[NAMES] = {
+    "x", "seam", "pen.up", "0123456789abcdef0123456789abcdef0123456789abcdef0123456789abcdef",
+};
+
+/* ---- chance */
+
+static uint64_t state;
+
+static uint64_t chance(void)
+{
+    uint64_t z = state += UINT64_C(0x9e3779b97f4a7c15);
+
+    z = (z ^ z >> 30) * UINT64_C(0xbf58476d1ce4e5b9);
+    z = (z ^ z >> 27) * UINT64_C(0x94d049bb133111eb);
+
+    return z ^ z >> 31;
+}
+
+/* A number below n, and 0 where there is none. */
+static uint32_t below(uint32_t n)
+{
+    return n > 0 ? (uint32_t)(chance() % n) : 0;
+}
+
+static bool once_in(uint32_t n)
+{
+    return below(n) == 0;
+}
+
+/* ---- what is counted, and how a failure is told */
+
+struct tally {
+    const char *name;
+    size_t calls, short_calls, numbers[REFUSALS + 1];
+};
+
+static struct tally *running;
+static uint64_t seed;
+
+static void fail(const char *what)
+{
+    printf("seed %llu, call %zu of %s: %s\n", (unsigned long long)seed, running->calls,
+           running->name, what);
+    fflush(stdout);
+    _exit(1);
+}
+
+static void touched(int number)
+{
+    (void)number;
+    fail("a byte was touched that is not the call's, or written that is only read");
+}
+
+/* ---- buffers */
+
+struct buffer {
+    size_t length;
+    uint8_t bytes[ROOM]; /* as at entry */
+    uint8_t *own;        /* its pages, as this program writes them */
+    uint8_t *pages;      /* the same pages as they are lent, between two that cannot be touched */
+    uint8_t *lent;
+};
+
+static struct buffer tokens, mnemonic, descriptors, data, pending, breakpoints, counts, answer;
+static struct buffer labels, entry, regions, patches; /* a build's pending list is only read */
+
+static void *mapped(void *at, size_t size, int protection, int flags, int file)
+{
+    void *pages = mmap(at, size, protection, flags, file, 0);
+
+    if (pages == MAP_FAILED) {
+        perror("mmap");
+        exit(2);
+    }
+
+    return pages;
+}
+
+static void make(struct buffer *buffer, int protection)
+{
+    int file = memfd_create("buffer", 0);
+
+    if (file < 0 || ftruncate(file, ROOM) != 0) {
+        perror("memfd_create");
+        exit(2);
+    }
+    uint8_t *around = mapped(NULL, ROOM + 2 * PAGE, PROT_NONE, MAP_PRIVATE | MAP_ANONYMOUS, -1);
+    buffer->pages = mapped(around + PAGE, ROOM, protection, MAP_SHARED | MAP_FIXED, file);
+    buffer->own = mapped(NULL, ROOM, PROT_READ | PROT_WRITE, MAP_SHARED, file);
+    close(file);
+}
+
+/* Where the marked bytes start: behind the buffer at the pages' start, or before it. */
+static size_t edge(const struct buffer *buffer)
+{
+    size_t place = (size_t)(buffer->lent - buffer->pages);
+
+    return place == 0 ? buffer->length : place - EDGE;
+}
+
+static void lend(struct buffer *buffer)
+{
+    size_t place = once_in(2) ? 0 : ROOM - buffer->length;
+
+    buffer->lent = buffer->pages + place;
+    memset(buffer->own + edge(buffer), MARK, EDGE);
+    memcpy(buffer->own + place, buffer->bytes, buffer->length);
+}
+
+/* Every byte but those from one place to another is as at entry. */
+static void kept(const struct buffer *buffer, size_t from, size_t to, const char *what)
+{
+    const uint8_t *now = buffer->lent, *marked = buffer->pages + edge(buffer);
+
+    if (memcmp(now, buffer->bytes, from) != 0 ||
+        memcmp(now + to, buffer->bytes + to, buffer->length - to) != 0)
+        fail(what);
+    for (size_t i = 0; i < EDGE; i++)
+        if (marked[i] != MARK)
+            fail("a byte beside a buffer was changed");
+}
+
+static void unchanged(const struct buffer *buffer)
+{
+    kept(buffer, 0, 0, "a byte was changed that may not change");
+}
+
+/* ---- records */
+
+static void put(struct buffer *buffer, uint64_t value, size_t size)
+{
+    for (; size > 0; size--) {
+        buffer->bytes[buffer->length++] = value & 0xff;
+        value >>= 8;
+    }
+}
+
+static void put_text(struct buffer *buffer, const char *text)
+{
+    for (; *text != 0; text++)
+        put(buffer, (uint8_t)*text, 1);
+}
+
+static uint32_t number_at(const uint8_t *bytes, size_t place)
+{
+    uint32_t number = 0;
+
+    for (size_t i = 4; i > 0; i--)
+        number = number << 8 | bytes[place + i - 1];
+
+    return number;
+}
+
+static void put_head(struct buffer *buffer, size_t length, uint16_t kind)
+{
+    put(buffer, length, 2);
+    put(buffer, kind, 2);
+}
+
+static void put_any(struct buffer *buffer, size_t size)
+{
+    for (; size > 0; size--)
+        put(buffer, chance(), 1);
+}
+
+/* A constant, or a name with an added offset: the part that pending and entry share. */
+static void put_reference(struct buffer *buffer, const char *name, uint64_t value)
+{
+    put(buffer, name != NULL, 1);
+    put(buffer, value, 8);
+    put(buffer, name != NULL ? chance() : 0, 8);
+    put_text(buffer, name != NULL ? name : "");
+}
+
+static size_t reference_length(const char *name)
+{
+    return 17 + (name != NULL ? strlen(name) : 0);
+}
+
+static const char *some_name(void)
+{
+    return once_in(3) ? NULL : names[below(NAMES)];
+}
+
+static void put_pending(struct buffer *list, uint16_t region, uint32_t offset, uint64_t value)
+{
+    const char *name = some_name();
+
+    put_head(list, 15 + reference_length(name), 36);
+    put(list, region, 2);
+    put(list, offset, 4);
+    put(list, chance(), 8);
+    put(list, below(5), 1);
+    put_reference(list, name, name != NULL ? below(8) * 4 : value);
+}
+
+/* ---- damage: a list that is no list any more, or not one that a call may take */
+
+static void damage(struct buffer *list)
+{
+    size_t place = below((uint32_t)list->length);
+
+    switch (below(6)) {
+    case 0: list->bytes[place] ^= (uint8_t)(1u << below(8)); break;
+    case 1: list->bytes[place] = (uint8_t)chance(); break;
+    case 2: list->length = place; break;
+    case 3: put_any(list, 1 + below(8)); break;
+    case 4: list->bytes[below(4)] ^= (uint8_t)(1 + below(255)); break;
+    case 5:
+        if (once_in(100)) /* over the limit */
+            list->length = NAZGWERN_MOST_BYTES + 1 + below(64);
+        break;
+    }
+}
+
+/* ---- the answer of any entry */
+
+/* Of the lengths that a call needs, one in a hundred is too short. */
+static void some_room(struct buffer *buffer, size_t least)
+{
+    buffer->length = 0;
+    put_any(buffer, once_in(100) ? below((uint32_t)least) : least + below(3) * below(9));
+}
+
+/* Counts the call, and whether its buffers were long enough for it to be made. */
+static bool answered(uint32_t number, bool enough)
+{
+    running->calls++;
+    if (!enough) {
+        if (number != NAZGWERN_TOO_SHORT)
+            fail("too short a buffer, and another answer");
+        running->short_calls++;
+        unchanged(&answer);
+        return false;
+    }
+    if (number > REFUSALS || number_at(answer.lent, 0) != number)
+        fail("a number that is no answer, or not the answer's");
+    running->numbers[number]++;
+    kept(&answer, 0, NAZGWERN_ANSWER_BYTES, "a byte behind the answer was changed");
+
+    return true;
+}
+
+/* ---- a line */
+
+static void token(uint16_t kind, uint64_t payload, size_t size)
+{
+    put_head(&tokens, 8 + size, kind);
+    put(&tokens, chance(), 8);
+    put(&tokens, payload, size);
+}
+
+static void text(uint16_t kind, const char *bytes)
+{
+    put_head(&tokens, 8 + strlen(bytes), kind);
+    put(&tokens, chance(), 8);
+    put_text(&tokens, bytes);
+}
+
+/* An operand, or what may stand where one is due. */
+static void operand(char letter)
+{
+    switch (letter) {
+    case 'r': token(3, below(32), 1); break;
+    case 'f': token(4, below(32), 1); break;
+    case 'i': token(5, below(65536), 8); break;
+    case 'n': token(5, once_in(2) ? chance() : chance() >> 32, 8); break;
+    case 'm': token(9 + (uint16_t)below(2), 0, 0), token(5, below(65536), 8); break;
+    case 's': text(8, names[below(NAMES)]); break;
+    case 'p': text(8, names[below(NAMES)]), token(9, 0, 0), token(5, 4, 8); break;
+    case 'b': token(14, 0, 0), token(3, below(32), 1), token(15, 0, 0); break;
+    case 'o': token(14, 0, 0), token(3, below(32), 1), operand('r'); break;
+    case 't': text((uint16_t[]){0, 1, 2, 7}[below(4)], names[below(NAMES)]); break;
+    case 'd': token(6, chance(), 8); break;
+    case 'k': token((uint16_t[]){9, 10, 12, 13, 14, 15}[below(6)], 0, 0); break;
+    }
+}
+
+/* The letter of an operand that may stand there, or now and then of another. */
+static char some_operand(char letter)
+{
+    static const char others[] = "rfinmspbotdk";
+
+    if (once_in(16))
+        return others[below(sizeof others - 1)];
+    switch (letter) {
+    case 'v': return "rinm"[below(4)];
+    case 'i': return "inm"[below(3)];
+    case 's': return "spi"[below(3)];
+    case 'a': return "inmsp"[below(5)];
+    case 'b': return "bbbbo"[below(5)];
+    }
+
+    return letter;
+}
+
+static void put_descriptor(const char *name, uint8_t encoding)
+{
+    bool sized = encoding >= 15 && encoding <= 18, other = encoding == 7 && once_in(2);
+    bool flagged = encoding == 17 || encoding == 19 || encoding == 20;
+
+    put_head(&descriptors, 8 + strlen(name), 33);
+    put(&descriptors, below(6), 1);
+    put(&descriptors, chance(), 1);
+    put(&descriptors, encoding, 1);
+    put(&descriptors, sized ? below(3) : 0, 1);
+    put(&descriptors, flagged ? below(2) : 0, 1);
+    put(&descriptors, other, 1);
+    put(&descriptors, other ? below(6) : 0, 1);
+    put(&descriptors, other ? chance() : 0, 1);
+    put_text(&descriptors, name);
+}
+
+/* A pseudo-instruction, or one of two descriptors or of none, with operands that fit. */
+static void line_lists(void)
+{
+    uint8_t first = (uint8_t)below(ENCODINGS), second = (uint8_t)below(ENCODINGS);
+    const char *const *pseudo = pseudos[below(PSEUDOS)];
+    const char *name = pseudo[0], *operands = pseudo[1];
+
+    switch (below(16)) {
+    case 0: name = "neither"; break;
+    case 1: case 2: case 3: name = "t", operands = encodings[first]; break;
+    case 4: case 5: case 6: name = "AddU", operands = encodings[second]; break;
+    }
+    tokens.length = mnemonic.length = descriptors.length = 0;
+    for (; *operands != 0; operands++)
+        operand(some_operand(*operands)), token(11, 0, 0);
+    if (once_in(20))
+        tokens.length = 0;
+    put_head(&mnemonic, 8 + strlen(name), 32);
+    put(&mnemonic, chance(), 8);
+    put_text(&mnemonic, name);
+    put_descriptor("t", first);
+    put_descriptor("addu", second);
+    if (once_in(20))
+        put_descriptor(once_in(2) ? "b" : "t", (uint8_t)below(ENCODINGS));
+}
+
+/* What is left of a full buffer, or room for any line but for one in eight. */
+static void put_room(struct buffer *buffer, bool full, uint32_t most)
+{
+    put_any(buffer, full ? NAZGWERN_MOST_BYTES - buffer->length
+                         : once_in(8) ? below(most) : most + below(9));
+}
+
+/* Fills the buffers in part, to their limits now and then; their fill counts go into `counts`. */
+static void line_buffers(void)
+{
+    bool full = once_in(2000);
+    uint32_t fills[3];
+
+    data.length = pending.length = breakpoints.length = counts.length = 0;
+    put_any(&data, full ? NAZGWERN_MOST_DATA - 4 * below(8) : 4 * below(9));
+    fills[0] = (uint32_t)data.length;
+    for (size_t most = full ? NAZGWERN_MOST_BYTES - 400 : below(200); pending.length < most;)
+        put_pending(&pending, (uint16_t)below(16), below(64), chance());
+    fills[1] = (uint32_t)pending.length;
+    for (size_t most = full ? NAZGWERN_MOST_BYTES - 80 : below(100); breakpoints.length < most;) {
+        uint32_t pcs = 1 + below(5);
+        put_head(&breakpoints, 8 + 4 * pcs, 37);
+        put_any(&breakpoints, 8 + 4 * pcs);
+    }
+    fills[2] = (uint32_t)breakpoints.length;
+    put_room(&data, full, NAZGWERN_LINE_DATA);
+    put_room(&pending, full, NAZGWERN_LINE_PENDING);
+    put_room(&breakpoints, full, NAZGWERN_LINE_BREAKPOINTS);
+
+    some_room(&counts, NAZGWERN_COUNTS_BYTES);
+    for (size_t i = 0; i < 3 && 4 * i + 4 <= counts.length; i++) {
+        size_t length = counts.length;
+        counts.length = 4 * i;
+        put(&counts, once_in(200) ? chance() : fills[i], 4);
+        counts.length = length;
+    }
+}
+
+/* How much the fill count of a buffer grew; only those bytes behind the old count may differ. */
+static uint32_t grown(const struct buffer *buffer, size_t which, uint32_t most)
+{
+    uint32_t from = number_at(counts.bytes, 4 * which), to = number_at(counts.lent, 4 * which);
+
+    if (to < from || to - from > most || to > buffer->length)
+        fail("a fill count fell, or grew by more than a line may add");
+    kept(buffer, from, to, "a byte outside what the line added was changed");
+
+    return to - from;
+}
+
+static uint32_t greatest[3];
+
+static void do_instruction(void)
+{
+    struct buffer *const lists[] = {&tokens, &mnemonic, &descriptors,
+                                    &data,   &pending,  &breakpoints};
+    uint32_t address = once_in(20) ? 0xffffffff - below(64) : 0x00400000;
+    uint16_t region = once_in(20) ? (uint16_t)(once_in(2) ? 65535 : chance()) : (uint16_t)below(16);
+    uint32_t position = once_in(50) ? (uint32_t)chance() : once_in(10) ? below(4) : 0;
+
+    line_lists();
+    line_buffers();
+    some_room(&answer, NAZGWERN_ANSWER_BYTES);
+    if (once_in(5))
+        damage(lists[below(6)]);
+    for (size_t i = 0; i < 6; i++)
+        lend(lists[i]);
+    lend(&counts);
+    lend(&answer);
+
+    uint32_t number = nazgwern_do_instruction(
+        tokens.lent, tokens.length, mnemonic.lent, mnemonic.length, descriptors.lent,
+        descriptors.length, data.lent, data.length, pending.lent, pending.length, breakpoints.lent,
+        breakpoints.length, counts.lent, counts.length, position, region, address, answer.lent,
+        answer.length);
+
+    for (size_t i = 0; i < 3; i++)
+        unchanged(lists[i]);
+    if (!answered(number, counts.length >= NAZGWERN_COUNTS_BYTES &&
+                              answer.length >= NAZGWERN_ANSWER_BYTES) ||
+        number != 0) {
+        for (size_t i = 3; i < 6; i++)
+            unchanged(lists[i]);
+        unchanged(&counts);
+        return;
+    }
+
+    const uint32_t most[] = {NAZGWERN_LINE_DATA, NAZGWERN_LINE_PENDING, NAZGWERN_LINE_BREAKPOINTS};
+    for (size_t i = 0; i < 3; i++) {
+        uint32_t added = grown(lists[3 + i], i, most[i]);
+        greatest[i] = added > greatest[i] ? added : greatest[i];
+    }
+    kept(&counts, 0, NAZGWERN_COUNTS_BYTES, "a byte behind the counts was changed");
+}
+
+/* ---- a build */
+
+static void build_lists(void)
+{
+    uint32_t number_of_regions = once_in(20) ? below(18) : 1 + below(3);
+    const char *start = some_name();
+
+    labels.length = entry.length = regions.length = patches.length = 0;
+    for (uint32_t i = once_in(4) ? below(NAMES) : 0; i < NAMES; i++) {
+        put_head(&labels, 4 + strlen(names[i]), 34);
+        put(&labels, 0x00400000 + 4 * below(64), 4);
+        put_text(&labels, names[i]);
+    }
+    if (once_in(50)) {
+        put_head(&labels, 4 + 1, 34);
+        put(&labels, 0, 4);
+        put_text(&labels, "x");
+    }
+    if (once_in(2)) {
+        put_head(&entry, reference_length(start), 38);
+        put_reference(&entry, start, chance());
+    }
+    for (uint32_t left = number_of_regions; left > 0; left--) {
+        size_t length = once_in(2000) ? 60000 / number_of_regions : below(40);
+        put_head(&regions, 4 + length, 35);
+        put(&regions, once_in(20) ? 0x0ffffff0 : 0x00400000, 4);
+        put_any(&regions, length);
+    }
+    for (uint32_t left = once_in(2000) ? 600 : below(4); left > 0; left--)
+        put_pending(&patches, (uint16_t)below(number_of_regions + once_in(50)),
+                    once_in(4) ? below(48) : 0,
+                    0x00400000 + (once_in(8) ? chance() >> 44 : below(256)));
+}
+
+/* Of an accepted build's regions only the four bytes of each patch may differ. */
+static void patched(void)
+{
+    static bool may[ROOM];
+    size_t starts[16] = {0}, n = 0;
+
+    memset(may, 0, regions.length);
+    for (size_t at = 0; at < regions.length; at += 4 + (number_at(regions.bytes, at) & 0xffff))
+        starts[n++] = at + 8;
+    for (size_t at = 0; at < patches.length; at += 4 + (number_at(patches.bytes, at) & 0xffff)) {
+        size_t region = number_at(patches.bytes, at + 4) & 0xffff;
+        memset(may + starts[region] + number_at(patches.bytes, at + 6), true, 4);
+    }
+    for (size_t i = 0; i < regions.length; i++)
+        if (!may[i] && regions.lent[i] != regions.bytes[i])
+            fail("a byte outside the patches was changed");
+    kept(&regions, 0, regions.length, "");
+}
+
+static void build(void)
+{
+    struct buffer *const lists[] = {&labels, &entry, &patches, &regions};
+
+    build_lists();
+    some_room(&answer, NAZGWERN_ANSWER_BYTES);
+    if (once_in(5))
+        damage(lists[below(4)]);
+    for (size_t i = 0; i < 4; i++)
+        lend(lists[i]);
+    lend(&answer);
+
+    uint32_t number = nazgwern_build(labels.lent, labels.length, entry.lent, entry.length,
+                                     regions.lent, regions.length, patches.lent, patches.length,
+                                     answer.lent, answer.length);
+
+    for (size_t i = 0; i < 3; i++)
+        unchanged(lists[i]);
+    if (answered(number, answer.length >= NAZGWERN_ANSWER_BYTES) && number == 0)
+        patched();
+    else
+        unchanged(&regions);
+}
+
+/* ---- the entries, each with how many calls */
+
+static const struct {
+    const char *name;
+    void (*call)(void);
+    size_t calls;
+} entries[] = {
+    {"nazgwern_do_instruction", do_instruction, 1000000},
+    {"nazgwern_build", build, 500000},
+};
+
+static void report(const struct tally *tally)
+{
+    printf("%s: %zu calls, %zu accepted, %zu too short; refused", tally->name, tally->calls,
+           tally->numbers[0], tally->short_calls);
+    for (int i = 1; i <= REFUSALS; i++)
+        if (tally->numbers[i] > 0)
+            printf(" %d: %zu", i, tally->numbers[i]);
+    printf("\n");
+}
+
+int main(int count, char **words)
+{
+    const int only_read = PROT_READ, lent = PROT_READ | PROT_WRITE;
+
+    seed = state = count > 1 ? strtoull(words[1], NULL, 10) : 1;
+    make(&tokens, only_read), make(&mnemonic, only_read), make(&descriptors, only_read);
+    make(&labels, only_read), make(&entry, only_read), make(&patches, only_read);
+    make(&data, lent), make(&pending, lent), make(&breakpoints, lent), make(&regions, lent);
+    make(&counts, lent), make(&answer, lent);
+    signal(SIGSEGV, touched);
+    signal(SIGBUS, touched);
+
+    for (size_t i = 0; i < sizeof entries / sizeof *entries; i++) {
+        struct tally tally = {.name = entries[i].name};
+        running = &tally;
+        while (tally.calls < entries[i].calls)
+            entries[i].call();
+        report(&tally);
+    }
+    printf("most that a line added: %u bytes of data, %u of pending, %u of breakpoints\n",
+           greatest[0], greatest[1], greatest[2]);
+
+    return 0;
+}
