@@ -49,10 +49,12 @@
 
    ANSWER. Six numbers of four bytes: number, source, index, a, b, and a line's position or a
    build's entry. Number 0 is an accepted call, 1 to 16 are refusals; source and index are the
-   refusal's location, a is given by its low 32 bits, and numbers that are not named here are 0. The
-   number is returned too. On refusal the answer is written and no other lent byte changes. If the
-   answer has fewer than 24 bytes, or the counts fewer than 12, the call returns NAZGWERN_TOO_SHORT
-   and changes nothing at all. Bytes behind the 24 and the 12 stay as they are.
+   refusal's location, a is given by its low 32 bits, and numbers that are not named here are 0. Of
+   an accepted line a says how its constant is loaded: 0 none is, 1 addiu alone, 2 ori alone, 3 lui
+   alone, 4 both halves. The number is returned too. On refusal the answer is written and no other
+   lent byte changes. If the answer has fewer than 24 bytes, or the counts fewer than 12, the call
+   returns NAZGWERN_TOO_SHORT and changes nothing at all. Bytes behind the 24 and the 12 stay as
+   they are.
 
       1  A record breaks the layout or sits in the wrong list, a buffer is over 65,536 bytes, a fill
          count is over its buffer's length, or the region's number is none (a: buffer in argument

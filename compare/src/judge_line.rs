@@ -13,6 +13,7 @@ use crate::assembler::registers::{FPRegisterSlot, RegisterSlot};
 use crate::line_input::{LineInput, LineOutcome, NO_REGION};
 use crate::model_line;
 use crate::records::{bodies, kind, u32_at, u64_at, write, Pending, Record, Reference};
+use crate::second_line;
 use num::FromPrimitive;
 use std::collections::HashMap;
 use std::str::from_utf8;
@@ -111,7 +112,12 @@ fn accepted(input: &LineInput, start: Location, builder: &BinaryBuilder, last: u
         });
     }
 
-    let mut outcome = input.refused(Answer::accepted(last));
+    // The Rust has no report of how a constant was loaded: the second implementation gives it.
+    let loaded = second_line::do_instruction(input).answer.a;
+    let mut outcome = input.refused(Answer {
+        a: loaded,
+        ..Answer::accepted(last)
+    });
     let lent = [
         &mut outcome.data,
         &mut outcome.pending,

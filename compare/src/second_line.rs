@@ -7,7 +7,7 @@ use crate::second_described::described;
 use crate::second_list::{reference_size_ok, text_ok, walk, Bytes, Walk};
 use crate::second_pseudo::pseudo;
 use crate::second_reader::{Label, Reader, Stop};
-use crate::second_words::Word;
+use crate::second_words::{form, Word};
 
 pub fn do_instruction(input: &LineInput) -> LineOutcome {
     let mut outcome = LineOutcome {
@@ -134,7 +134,10 @@ fn line(input: &LineInput, outcome: &mut LineOutcome) -> Result<Answer, Answer> 
         &breakpoints,
     );
 
-    Ok(Answer::accepted(last))
+    Ok(Answer {
+        a: form(&words),
+        ..Answer::accepted(last)
+    })
 }
 
 fn append(buffer: &mut [u8], count: &mut u32, added: &[u8]) {

@@ -3,10 +3,12 @@
 
 use crate::second_reader::{Address, Label, Stop, Value};
 
-/// A word and, where the builder is to patch it, the patch kind and the label.
+/// A word and, where the builder is to patch it, the patch kind and the label; and whether it is
+/// there to load a constant.
 pub struct Word {
     pub bits: u32,
     pub patch: Option<(u8, Label)>,
+    pub loads: bool,
 }
 
 pub type Words = Result<Vec<Word>, Stop>;
@@ -68,6 +70,7 @@ impl Begun {
         Word {
             bits: self.0,
             patch: None,
+            loads: false,
         }
     }
 
@@ -75,6 +78,7 @@ impl Begun {
         Word {
             bits: self.0,
             patch: Some((kind, label)),
+            loads: false,
         }
     }
 }
@@ -82,6 +86,13 @@ impl Begun {
 /// "Loading a constant takes its low 32 bits. Read signed, -32,768 to 32,767 gives addiu.
 /// Otherwise lui if the upper half is nonzero, then ori if the lower is."
 pub fn load(constant: u64, register: u64) -> Vec<Word> {
+    let mut words = loading(constant, register);
+    words.iter_mut().for_each(|word| word.loads = true);
+
+    words
+}
+
+fn loading(constant: u64, register: u64) -> Vec<Word> {
     let low = constant as u32;
     let (upper, lower) = (low as u64 >> 16, low as u64 & 0xffff);
 
@@ -105,6 +116,22 @@ pub fn load(constant: u64, register: u64) -> Vec<Word> {
     }
 
     words
+}
+
+/// How a line's constant is loaded, from the words that load it: 0 none, 1 addiu, 2 ori, 3 lui,
+/// 4 both halves.
+pub fn form(words: &[Word]) -> u32 {
+    let loading: Vec<&Word> = words.iter().filter(|word| word.loads).collect();
+
+    match loading[..] {
+        [] => 0,
+        [word] => match word.bits >> 26 {
+            9 => 1,
+            13 => 2,
+            _ => 3,
+        },
+        _ => 4,
+    }
 }
 
 /// The register that holds a value, and the words that put it there.

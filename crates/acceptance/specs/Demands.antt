@@ -8,6 +8,7 @@ use lib.ListN.{length}
 use Rattle.refusal.specs.declared.Refusal.{Refusal}
 use Rattle.refusal.specs.declared.Verdict.{Verdict}
 use Rattle.refusal.specs.declared.Verdict.the-variants.{Pass, Stop}
+use Rattle.loading.specs.declared.LoadForm.{LoadForm}
 use Rattle.loading.specs.Run.{Registers}
 use Rattle.loading.specs.Loading.{Loads, loads}
 use Rattle.lexer.specs.declared.Token.{Token}
@@ -66,7 +67,7 @@ pub record Demand3 : Type 0 where
       → imageOf (buildOutcome labels₁ entry regions pending .regions) ≡ imageOf (buildOutcome labels₂ entry regions pending .regions)
       → buildOutcome labels₁ entry regions pending .answer ≡ buildOutcome labels₂ entry regions pending .answer → ⊥
   pub constants : (c t : ℕ) (g : Registers) → t < 32 → length g ≡ 32 → Loads c t g
-  pub lines : (c : Call) (position : ℕ) → emitOutcome c .answer ≡ Done position → (l : LoadedConstant) → callLoads c ≡ some l → ConstantAppended c l
+  pub lines : (c : Call) (position : ℕ) (loaded : LoadForm) → emitOutcome c .answer ≡ Done position loaded → (l : LoadedConstant) → callLoads c ≡ some l → ConstantAppended c l
 
 pub demand-1 : Demand1
 unfolding emitOutcome buildOutcome

@@ -11,7 +11,8 @@ use Rattle.record.specs.Records.{placesF, placesFrom, places, firstBad, firstBa
 use Rattle.refusal.specs.Numbers.{zeroLocation}
 use Rattle.refusal.specs.Verdicts.{firstStop}
 use Rattle.names.specs.Names.{firstNamed, firstLater, firstRepeat}
-use Rattle.loading.specs.Load.{isSmall, wideWords, loadWords}
+use Rattle.loading.specs.declared.LoadForm.the-variants.{Nothing as Unloaded, Addiu, Ori, Lui, BothHalves}
+use Rattle.loading.specs.Load.{isSmall, formOf, loadWords}
 use Rattle.lexer.specs.Tokens.{payloadOf, payloadOk, tokenOk, tokenLayout, tokens}
 use Rattle.labels.specs.Labels.{labelOk, labelLayout, resolve}
 use Rattle.regions.specs.Regions.{regionOk, regionRecords, regionLayout}
@@ -66,25 +67,25 @@ lwTable = descriptor 0 35 13 «lw»
 
 pub record MarkedTable : Type 0 where
   -- addu $t0,$t1,$t2 (Func 33)
-  pub addu : emitOutcome (line «addu» (descriptor 1 33 0 «addu») (register 8 ++ comma ++ register 9 ++ comma ++ register 10)) ≡ emits 5 (0x012a4021 ∷ [])
+  pub addu : emitOutcome (line «addu» (descriptor 1 33 0 «addu») (register 8 ++ comma ++ register 9 ++ comma ++ register 10)) ≡ emits 5 Unloaded (0x012a4021 ∷ [])
   -- li $t0,-32768
-  pub li-least : emitOutcome (line «li» [] (register 8 ++ comma ++ minus ++ integer 32768)) ≡ emits 4 (0x24088000 ∷ [])
+  pub li-least : emitOutcome (line «li» [] (register 8 ++ comma ++ minus ++ integer 32768)) ≡ emits 4 Addiu (0x24088000 ∷ [])
   -- li $t0,32768
-  pub li-past : emitOutcome (line «li» [] (register 8 ++ comma ++ integer 32768)) ≡ emits 3 (0x34088000 ∷ [])
+  pub li-past : emitOutcome (line «li» [] (register 8 ++ comma ++ integer 32768)) ≡ emits 3 Ori (0x34088000 ∷ [])
   -- li $t0,0x12340000
-  pub li-upper : emitOutcome (line «li» [] (register 8 ++ comma ++ integer 0x12340000)) ≡ emits 3 (0x3c081234 ∷ [])
+  pub li-upper : emitOutcome (line «li» [] (register 8 ++ comma ++ integer 0x12340000)) ≡ emits 3 Lui (0x3c081234 ∷ [])
   -- li $t0,0x12345678
-  pub li-both : emitOutcome (line «li» [] (register 8 ++ comma ++ integer 0x12345678)) ≡ emits 3 (0x3c081234 ∷ 0x35085678 ∷ [])
+  pub li-both : emitOutcome (line «li» [] (register 8 ++ comma ++ integer 0x12345678)) ≡ emits 3 BothHalves (0x3c081234 ∷ 0x35085678 ∷ [])
   -- lw $t0,32768($t1) (Op 35)
-  pub lw-far : emitOutcome (line «lw» lwTable (register 8 ++ comma ++ integer 32768 ++ leftBrace ++ register 9 ++ rightBrace)) ≡ emits 6 (0x34018000 ∷ 0x00290820 ∷ 0x8c280000 ∷ [])
+  pub lw-far : emitOutcome (line «lw» lwTable (register 8 ++ comma ++ integer 32768 ++ leftBrace ++ register 9 ++ rightBrace)) ≡ emits 6 Ori (0x34018000 ∷ 0x00290820 ∷ 0x8c280000 ∷ [])
   -- lw $t0,$t2($t1)
-  pub lw-dropped : emitOutcome (line «lw» lwTable (register 8 ++ comma ++ register 10 ++ leftBrace ++ register 9 ++ rightBrace)) ≡ emits 6 (0x8d280000 ∷ [])
+  pub lw-dropped : emitOutcome (line «lw» lwTable (register 8 ++ comma ++ register 10 ++ leftBrace ++ register 9 ++ rightBrace)) ≡ emits 6 Unloaded (0x8d280000 ∷ [])
   -- lw $t0,($t1): refusal 7, a = 14
   pub lw-brace : LineRefuses (line «lw» lwTable (register 8 ++ comma ++ leftBrace ++ register 9 ++ rightBrace)) 7 (pos 14) 0 3
   -- abs $t0,$t1
-  pub abs : emitOutcome (line «abs» [] (register 8 ++ comma ++ register 9)) ≡ emits 3 (0x0009001f ∷ 0x01214026 ∷ 0x01014023 ∷ [])
+  pub abs : emitOutcome (line «abs» [] (register 8 ++ comma ++ register 9)) ≡ emits 3 Unloaded (0x0009001f ∷ 0x01214026 ∷ 0x01014023 ∷ [])
   -- sll $t0,$t1,33 (Func 0)
-  pub sll : emitOutcome (line «sll» (descriptor 1 0 5 «sll») (register 8 ++ comma ++ register 9 ++ comma ++ integer 33)) ≡ emits 5 (0x00094840 ∷ [])
+  pub sll : emitOutcome (line «sll» (descriptor 1 0 5 «sll») (register 8 ++ comma ++ register 9 ++ comma ++ integer 33)) ≡ emits 5 Unloaded (0x00094840 ∷ [])
   -- b, pc 00400000 to 00440000
   pub b-forward : buildOutcome [] [] (region 0x00400000 0x10000000) (patch 0 0x00440000) ≡ builds (region 0x00400000 0x1000ffff)
   -- b, pc 00400000 to 00440004: refusal 16
@@ -99,7 +100,7 @@ pub record MarkedTable : Type 0 where
   pub j-other-page : BuildRefuses (region 0x0ffffffc 0x08000000) (patch 1 0x0ffffff8) 16 (pos 0x0ffffff8) 0x0ffffffc
 
 pub marked : MarkedTable
-unfolding emitOutcome lineOutcome tableLine listStop layoutStop roomStop edgeStop meaning wordBytes pendingsBytes pcsBytes append pseudoIn pseudoLine encodingLine loadPairs labelPairs isImmediate immediatePairs breakpointOk filledLayout pendingBufferLayout breakpointBufferLayout dataBufferLayout fieldsOk descriptorOk descriptorLayout mnemonicOk oneMnemonic mnemonicLayout mnemonicName readOperand readOperands symbolLabel toLabel getLabel braced afterLabel getOffsetOrLabel getRegister signed getInteger getConstant getValue passed peek step nextAdjacent peekAdjacent pendingOk addressLabelOk payloadOf payloadOk tokenOk tokenLayout tokens isSmall wideWords loadWords firstNamed firstLater firstRepeat firstStop placesF placesFrom places firstBad firstBadOf withinLimit all sameBytes asBytes pcsFrom buildOutcome buildVerdict layoutVerdicts writePatches writePending pendingVerdict reachVerdict orderFrom keep inRange jumpInRange branchInRange fieldValue fieldWidth destination kindFrom pendingLayout entryLayout entryOk regionLayout regionRecords regionOk resolve labelLayout labelOk setField
+unfolding emitOutcome lineOutcome tableLine listStop layoutStop roomStop edgeStop meaning wordBytes pendingsBytes pcsBytes append pseudoIn pseudoLine encodingLine loadPairs labelPairs isImmediate immediatePairs breakpointOk filledLayout pendingBufferLayout breakpointBufferLayout dataBufferLayout fieldsOk descriptorOk descriptorLayout mnemonicOk oneMnemonic mnemonicLayout mnemonicName readOperand readOperands symbolLabel toLabel getLabel braced afterLabel getOffsetOrLabel getRegister signed getInteger getConstant getValue passed peek step nextAdjacent peekAdjacent pendingOk addressLabelOk payloadOf payloadOk tokenOk tokenLayout tokens isSmall formOf loadWords firstNamed firstLater firstRepeat firstStop placesF placesFrom places firstBad firstBadOf withinLimit all sameBytes asBytes pcsFrom buildOutcome buildVerdict layoutVerdicts writePatches writePending pendingVerdict reachVerdict orderFrom keep inRange jumpInRange branchInRange fieldValue fieldWidth destination kindFrom pendingLayout entryLayout entryOk regionLayout regionRecords regionOk resolve labelLayout labelOk setField
 marked = record {
   addu = refl;
   li-least = refl;

@@ -37,9 +37,9 @@ pub record ListsGood (token-list mnemonic descriptors : List ℕ) (lent : Lent) 
 abbrev pub pairsOf : EmitInstruction → List InstructionPair
 pairsOf e = take (e .count) (e .instructions)
 
--- the line that the code holds: its answer, its words and the index behind it
+-- the line that the code holds: its answer, its words, its form and the index behind it
 abbrev pub lineMade : LineEmit → Line
-lineMade made = record { answer = made .answer; pairs = pairsOf (made .emit); index = made .cursor .index }
+lineMade made = record { answer = made .answer; pairs = pairsOf (made .emit); form = made .emit .loaded; index = made .cursor .index }
 
 -- no more words count than there are, and the position behind them stands in the token list
 pub record MadeGood (token-list : List ℕ) (made : LineEmit) : Type 0 where

@@ -77,7 +77,7 @@ table-as descriptors p {x} {s} ts i {answer} {emit} {cursor} e a =
 
 -- a line is what was made of it
 line-made : {s : List ℕ} {line : Line} {made : LineEmit} → LineAs s line (made .answer) (made .emit) (made .cursor) → line ≡ lineMade made
-line-made a = rw (a .answer-is, a .words-are .pairs-are, a .cursor-is)
+line-made a = rw (a .answer-is, a .words-are .pairs-are, a .words-are .form-is, a .cursor-is)
 
 pub made-good : {s : List ℕ} {line : Line} {made : LineEmit} → LineAs s line (made .answer) (made .emit) (made .cursor) → length (made .emit .instructions) ≡ 5 → MadeGood s made
 made-good {s} {line} {made} a five = record {

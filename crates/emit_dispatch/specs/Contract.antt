@@ -12,6 +12,6 @@ use Rattle.emit_dispatch.specs.Lines.{Line}
 
 pub record LineAs (s : List ℕ) (line : Line) (answer : LineAnswer) (emit : EmitInstruction) (cursor : Cursor) : Type 0 where
   pub answer-is : answer ≡ line .answer
-  pub words-are : EmitIs emit (line .pairs)
+  pub words-are : EmitIs emit (line .pairs) (line .form)
   pub cursor-is : cursor ≡ cursorAt s (line .index)
   pub placed : Placed s cursor

@@ -17,10 +17,14 @@ use Rattle.operand_list.specs.OperandLists.{AskedAll, readOperands}
 use Rattle.emit_pairs.specs.declared.InstructionPair.{InstructionPair}
 use Rattle.emit_pairs.specs.declared.Range.{Range}
 use Rattle.emit_pairs.specs.declared.Range.the-variants.{Within, Outside}
-use Rattle.emit_pairs.specs.Pairs.{immediateRange}
+use Rattle.loading.specs.declared.LoadForm.{LoadForm}
+use Rattle.loading.specs.declared.LoadForm.the-variants.{Nothing as Unloaded}
+use Rattle.loading.specs.Load.{formOf}
+use Rattle.emit_pairs.specs.Pairs.{labelForm, immediateRange, immediateForm}
+use Rattle.emit_pairs.specs.Values.{valueForm, maybeForm, offsetForm}
 use Rattle.emit_integer.specs.IntegerWords.{registerPairs, registerShiftPairs, sourcePairs, destinationPairs, inputsPairs, shamPairs, branchZeroPairs, immediateLinePairs, loadImmediatePairs, jumpPairs, branchPairs, parameterlessPairs, offsetLinePairs}
 use Rattle.emit_float.specs.FloatWords.{fp3Pairs, fp2Pairs, fpMovePairs, fpCondPairs, fpCrossMovePairs, fpBranchPairs}
-use Rattle.emit_pseudo.specs.PseudoWords.{branchCustomPairs, setCustomPairs, snePairs, seqPairs, absPairs, negPairs, movePairs, liPairs, laPairs, bPairs, nopPairs, subiPairs}
+use Rattle.emit_pseudo.specs.PseudoWords.{branchCustomPairs, setCustomPairs, snePairs, seqPairs, absPairs, negPairs, movePairs, liPairs, laPairs, bPairs, nopPairs, subiPairs, subiForm}
 use Rattle.emit_dispatch.specs.Wants.{encodingWants, pseudoWants}
 use Rattle.emit_dispatch.specs.declared.LineAnswer.{LineAnswer}
 use Rattle.emit_dispatch.specs.declared.LineAnswer.the-variants.{Made, Missed as MissedOperand, OutOfRange}
@@ -95,12 +99,58 @@ encodingRange (FPCond fmt) x = Within
 encodingRange (FPCrossMove flag) x = Within
 encodingRange (FPBranch flag) x = Within
 
+-- ---- how the line's constant is loaded (document 02, P2: "All emitters that take a literal pass the report up, or none where nothing is
+-- loaded"): a line loads one constant at most
+
+abbrev pub encodingForm : (e : Encoding) → AskedAll (encodingWants e) → LoadForm
+encodingForm Register x = valueForm (x .2)
+encodingForm RegisterShift x = Unloaded
+encodingForm Source x = Unloaded
+encodingForm Destination x = Unloaded
+encodingForm Inputs x = maybeForm (x .2)
+encodingForm Sham x = Unloaded
+encodingForm SpecialBranch x = Unloaded
+encodingForm (Immediate alt) x = immediateForm alt (x .2)
+encodingForm LoadImmediate x = Unloaded
+encodingForm Jump x = Unloaded
+encodingForm Branch x = valueForm (x .1)
+encodingForm BranchZero x = Unloaded
+encodingForm Parameterless x = Unloaded
+encodingForm Offset x = offsetForm (x .1)
+encodingForm FPOffset x = offsetForm (x .1)
+encodingForm (FP3Register fmt) x = Unloaded
+encodingForm (FP2Register fmt) x = Unloaded
+encodingForm (FPMove fmt flag) x = Unloaded
+encodingForm (FPCond fmt) x = Unloaded
+encodingForm (FPCrossMove flag) x = Unloaded
+encodingForm (FPBranch flag) x = Unloaded
+
+abbrev pub pseudoForm : (p : Pseudo) → AskedAll (pseudoWants p) → LoadForm
+pseudoForm Nop x = Unloaded
+pseudoForm Abs x = Unloaded
+pseudoForm (BranchCustom greater result unsigned) x = valueForm (x .1)
+pseudoForm (SetCustom greater result unsigned) x = valueForm (x .2)
+pseudoForm Beqz x = Unloaded
+pseudoForm Bnez x = Unloaded
+pseudoForm Seq x = valueForm (x .2)
+pseudoForm Sne x = valueForm (x .2)
+pseudoForm Neg x = Unloaded
+pseudoForm Negu x = Unloaded
+pseudoForm Not x = Unloaded
+pseudoForm Li x = formOf (x .1)
+pseudoForm La x = labelForm (x .1)
+pseudoForm Move x = Unloaded
+pseudoForm B x = Unloaded
+pseudoForm Subi x = subiForm (x .2)
+pseudoForm Subiu x = subiForm (x .2)
+
 -- ---- the line
 
--- the answer, the words with their labels, and the index behind the operands
+-- the answer, the words with their labels, how its constant is loaded, and the index behind the operands
 pub record Line : Type 0 where
   pub answer : LineAnswer
   pub pairs : List InstructionPair
+  pub form : LoadForm
   pub index : ℕ
 
 abbrev pub rangeAnswer : Range → LineAnswer
@@ -108,20 +158,20 @@ rangeAnswer Within = Made
 rangeAnswer Outside = OutOfRange
 
 -- operands that were read make the words; where one was missed there are none
-abbrev pub lineBy : {A : Type 0} → Answer A → ℕ → (A → Range) → (A → List InstructionPair) → Line
-lineBy (Got x) i range pairs = record { answer = rangeAnswer (range x); pairs = pairs x; index = i }
-lineBy (Missed m) i range pairs = record { answer = MissedOperand m; pairs = []; index = i }
+abbrev pub lineBy : {A : Type 0} → Answer A → ℕ → (A → Range) → (A → List InstructionPair) → (A → LoadForm) → Line
+lineBy (Got x) i range pairs form = record { answer = rangeAnswer (range x); pairs = pairs x; form = form x; index = i }
+lineBy (Missed m) i range pairs form = record { answer = MissedOperand m; pairs = []; form = Unloaded; index = i }
 
 -- the line of an instruction of the table
 unfoldable pub encodingLine : Encoding → Opcode → List Token → ℕ → Line
 unfolding readOperands
 encodingLine e op ts i =
     let read = readOperands (encodingWants e) ts i in
-    lineBy (read .answer) (read .index) (encodingRange e) (encodingPairs e op)
+    lineBy (read .answer) (read .index) (encodingRange e) (encodingPairs e op) (encodingForm e)
 
 -- the line of a pseudo-instruction: each immediate that it takes has an alternative
 unfoldable pub pseudoLine : Pseudo → List Token → ℕ → Line
 unfolding readOperands
 pseudoLine p ts i =
     let read = readOperands (pseudoWants p) ts i in
-    lineBy (read .answer) (read .index) (λ x. Within) (pseudoPairs p)
+    lineBy (read .answer) (read .index) (λ x. Within) (pseudoPairs p) (pseudoForm p)

@@ -18,6 +18,8 @@ use Rattle.operand_list.specs.declared.OperandsAnswer.the-variants.{Got as GotO
 use Rattle.operand_list.specs.OperandLists.{AskedAll, givenAll}
 use Rattle.operand_list.specs.HeldOperands.{heldAll}
 use Rattle.operand_list.specs.HeldOperandsLaws.{all-given, none-given}
+use Rattle.loading.specs.declared.LoadForm.{LoadForm}
+use Rattle.loading.specs.declared.LoadForm.the-variants.{Nothing as Unloaded}
 use Rattle.emit_pairs.specs.declared.EmitInstruction.{EmitInstruction}
 use Rattle.emit_pairs.specs.declared.InstructionPair.{InstructionPair}
 use Rattle.emit_pairs.specs.declared.Range.{Range}
@@ -25,29 +27,30 @@ use Rattle.emit_pairs.specs.Pairs.{EmitIs}
 use Rattle.emit_dispatch.specs.declared.LineAnswer.{LineAnswer}
 use Rattle.emit_dispatch.specs.declared.LineAnswer.the-variants.{Missed as MissedOperand}
 use Rattle.emit_dispatch.specs.Wants.{encodingWants, pseudoWants}
-use Rattle.emit_dispatch.specs.Lines.{encodingPairs, pseudoPairs, rangeAnswer, lineBy}
+use Rattle.emit_dispatch.specs.Lines.{encodingPairs, pseudoPairs, encodingForm, pseudoForm, rangeAnswer, lineBy}
 use Rattle.emit_dispatch.specs.Contract.{LineAs}
 
 -- ---- words, by the case that the encoding or the pseudo-instruction is
 
-pub encoding-as : {r : EmitInstruction} {e is : Encoding} (op : Opcode) (o : Operands) → e ≡ is → EmitIs r (encodingPairs is op (heldAll (encodingWants is) o))
-    → EmitIs r (encodingPairs e op (heldAll (encodingWants e) o))
-encoding-as {r} op o e i = subst (λ (x : Encoding). EmitIs r (encodingPairs x op (heldAll (encodingWants x) o))) (sym e) i
+pub encoding-as : {r : EmitInstruction} {e is : Encoding} (op : Opcode) (o : Operands) → e ≡ is → EmitIs r (encodingPairs is op (heldAll (encodingWants is) o)) (encodingForm is (heldAll (encodingWants is) o))
+    → EmitIs r (encodingPairs e op (heldAll (encodingWants e) o)) (encodingForm e (heldAll (encodingWants e) o))
+encoding-as {r} op o e i = subst (λ (x : Encoding). EmitIs r (encodingPairs x op (heldAll (encodingWants x) o)) (encodingForm x (heldAll (encodingWants x) o))) (sym e) i
 
-pub pseudo-as : {r : EmitInstruction} {p is : Pseudo} (o : Operands) → p ≡ is → EmitIs r (pseudoPairs is (heldAll (pseudoWants is) o)) → EmitIs r (pseudoPairs p (heldAll (pseudoWants p) o))
-pseudo-as {r} o e i = subst (λ (x : Pseudo). EmitIs r (pseudoPairs x (heldAll (pseudoWants x) o))) (sym e) i
+pub pseudo-as : {r : EmitInstruction} {p is : Pseudo} (o : Operands) → p ≡ is → EmitIs r (pseudoPairs is (heldAll (pseudoWants is) o)) (pseudoForm is (heldAll (pseudoWants is) o))
+    → EmitIs r (pseudoPairs p (heldAll (pseudoWants p) o)) (pseudoForm p (heldAll (pseudoWants p) o))
+pseudo-as {r} o e i = subst (λ (x : Pseudo). EmitIs r (pseudoPairs x (heldAll (pseudoWants x) o)) (pseudoForm x (heldAll (pseudoWants x) o))) (sym e) i
 
 -- ---- the line, by what was read
 
 module _ (w : Wants) {s : List ℕ} (x : At (Answer (AskedAll w))) {given : OperandsAnswer} {cursor : Cursor} (r : ReadAs s (givenAll w x) given cursor)
-    (range : AskedAll w → Range) (pairs : AskedAll w → List InstructionPair) {answer : LineAnswer} {emit : EmitInstruction} where
-  pub line-missed : (m : Miss) → given ≡ MissedOperands m → answer ≡ MissedOperand m → EmitIs emit [] → LineAs s (lineBy (x .answer) (x .index) range pairs) answer emit cursor
+    (range : AskedAll w → Range) (pairs : AskedAll w → List InstructionPair) (form : AskedAll w → LoadForm) {answer : LineAnswer} {emit : EmitInstruction} where
+  pub line-missed : (m : Miss) → given ≡ MissedOperands m → answer ≡ MissedOperand m → EmitIs emit [] Unloaded → LineAs s (lineBy (x .answer) (x .index) range pairs form) answer emit cursor
   line-missed m e a i =
-      subst (λ (y : At (Answer (AskedAll w))). LineAs s (lineBy (y .answer) (y .index) range pairs) answer emit cursor) (sym (none-given w x r m e))
+      subst (λ (y : At (Answer (AskedAll w))). LineAs s (lineBy (y .answer) (y .index) range pairs form) answer emit cursor) (sym (none-given w x r m e))
       (record { answer-is = a; words-are = i; cursor-is = cursor-eta s cursor (r .placed); placed = r .placed })
 
-  pub line-read : (o : Operands) → given ≡ GotOperands o → answer ≡ rangeAnswer (range (heldAll w o)) → EmitIs emit (pairs (heldAll w o))
-      → LineAs s (lineBy (x .answer) (x .index) range pairs) answer emit cursor
+  pub line-read : (o : Operands) → given ≡ GotOperands o → answer ≡ rangeAnswer (range (heldAll w o)) → EmitIs emit (pairs (heldAll w o)) (form (heldAll w o))
+      → LineAs s (lineBy (x .answer) (x .index) range pairs form) answer emit cursor
   line-read o e a i =
-      subst (λ (y : At (Answer (AskedAll w))). LineAs s (lineBy (y .answer) (y .index) range pairs) answer emit cursor) (sym (all-given w x r o e))
+      subst (λ (y : At (Answer (AskedAll w))). LineAs s (lineBy (y .answer) (y .index) range pairs form) answer emit cursor) (sym (all-given w x r o e))
       (record { answer-is = a; words-are = i; cursor-is = cursor-eta s cursor (r .placed); placed = r .placed })

@@ -5,7 +5,7 @@ ghost use Rattle.cursor.specs.Reads.{Placed};
 ghost use Rattle.operand_list.specs.HeldOperands.{heldAll};
 ghost use Rattle.emit_pairs.specs.Pairs.{EmitIs};
 ghost use Rattle.emit_dispatch.specs.Wants.{encodingWants, pseudoWants};
-ghost use Rattle.emit_dispatch.specs.Lines.{encodingRange, encodingPairs, pseudoPairs, rangeAnswer, encodingLine, pseudoLine};
+ghost use Rattle.emit_dispatch.specs.Lines.{encodingRange, encodingPairs, encodingForm, pseudoPairs, pseudoForm, rangeAnswer, encodingLine, pseudoLine};
 ghost use Rattle.emit_dispatch.specs.Contract.{LineAs};
 use cursor::Cursor;
 use emit_float::MoveForm;
@@ -118,7 +118,8 @@ fn pseudo_wants(pseudo: Pseudo) -> Wants
 
 // The words of an encoding. Where the immediate is out of range there are none.
 fn encoding_pairs(encoding: Encoding, op: Opcode, operands: Operands) -> EmitInstruction
-    ensures { λ r. ⌜ EmitIs r (encodingPairs encoding op (heldAll (encodingWants encoding) operands)) ⌝ }
+    ensures { λ r. ⌜ EmitIs r (encodingPairs encoding op (heldAll (encodingWants encoding) operands))
+        (encodingForm encoding (heldAll (encodingWants encoding) operands)) ⌝ }
 {
     match encoding {
         Encoding::Register => emit_integer::do_register_instruction(op, operands),
@@ -190,7 +191,8 @@ fn encoding_range(encoding: Encoding, operands: Operands) -> Range
 }
 
 fn pseudo_pairs(pseudo: Pseudo, operands: Operands) -> EmitInstruction
-    ensures { λ r. ⌜ EmitIs r (pseudoPairs pseudo (heldAll (pseudoWants pseudo) operands)) ⌝ }
+    ensures { λ r. ⌜ EmitIs r (pseudoPairs pseudo (heldAll (pseudoWants pseudo) operands))
+        (pseudoForm pseudo (heldAll (pseudoWants pseudo) operands)) ⌝ }
 {
     match pseudo {
         Pseudo::Nop => emit_pseudo::do_nop_instruction(),

@@ -4,6 +4,7 @@ ghost use Prim.Native.Nat.{_<_};
 ghost use Rattle.registers.specs.Numbers.{registerNumber, fpRegisterNumber};
 ghost use Rattle.operand.specs.Held.{slotIn, fpSlotIn, codeIn, labelIn, offsetIn};
 ghost use Rattle.emit_pairs.specs.Pairs.{EmitIs};
+ghost use Rattle.emit_pairs.specs.Values.{offsetForm};
 ghost use Rattle.emit_integer.specs.IntegerWords.{offsetLinePairs};
 ghost use Rattle.emit_float.specs.FloatWords.{fp3Pairs, fp2Pairs, fpMovePairs, fpCondPairs, fpCrossMovePairs, fpBranchPairs};
 use emit_pairs::EmitInstruction;
@@ -15,6 +16,7 @@ use emit_words::FPImmediateFields;
 use emit_words::FPMoveFields;
 use instructions::Opcode;
 use instructions::Size;
+use loading::LoadForm;
 use operand_list::Operands;
 use pending::InstructionLabelKind;
 use registers::FPRegisterSlot;
@@ -27,7 +29,8 @@ pub struct MoveForm {
 }
 
 pub fn do_fp_offset_instruction(op: Opcode, operands: Operands) -> EmitInstruction
-    ensures { λ r. ⌜ EmitIs r (offsetLinePairs op (fpRegisterNumber (fpSlotIn (operands .first))) (offsetIn (operands .second))) ⌝ }
+    ensures { λ r. ⌜ EmitIs r (offsetLinePairs op (fpRegisterNumber (fpSlotIn (operands .first))) (offsetIn (operands .second)))
+        (offsetForm (offsetIn (operands .second))) ⌝ }
 {
     let first = operands.first;
     let second = operands.second;
@@ -51,7 +54,7 @@ pub fn do_fp_three_register_instruction(
     fmt: Size,
     operands: Operands,
 ) -> EmitInstruction
-    ensures { λ r. ⌜ EmitIs r (fp3Pairs op fmt (fpSlotIn (operands .first)) (fpSlotIn (operands .second)) (fpSlotIn (operands .third))) ⌝ }
+    ensures { λ r. ⌜ EmitIs r (fp3Pairs op fmt (fpSlotIn (operands .first)) (fpSlotIn (operands .second)) (fpSlotIn (operands .third))) LoadForm.Nothing ⌝ }
 {
     let first = operands.first;
     let second = operands.second;
@@ -65,7 +68,7 @@ pub fn do_fp_three_register_instruction(
 }
 
 pub fn do_fp_2register_instruction(op: Opcode, fmt: Size, operands: Operands) -> EmitInstruction
-    ensures { λ r. ⌜ EmitIs r (fp2Pairs op fmt (fpSlotIn (operands .first)) (fpSlotIn (operands .second))) ⌝ }
+    ensures { λ r. ⌜ EmitIs r (fp2Pairs op fmt (fpSlotIn (operands .first)) (fpSlotIn (operands .second))) LoadForm.Nothing ⌝ }
 {
     let first = operands.first;
     let second = operands.second;
@@ -78,7 +81,7 @@ pub fn do_fp_2register_instruction(op: Opcode, fmt: Size, operands: Operands) ->
 
 pub fn do_fp_move_instruction(op: Opcode, form: MoveForm, operands: Operands) -> EmitInstruction
     ensures { λ r. ⌜ EmitIs r (fpMovePairs op (form .size) (form .flag)
-        (fpSlotIn (operands .first)) (fpSlotIn (operands .second)) (codeIn (operands .third))) ⌝ }
+        (fpSlotIn (operands .first)) (fpSlotIn (operands .second)) (codeIn (operands .third))) LoadForm.Nothing ⌝ }
 {
     let first = operands.first;
     let second = operands.second;
@@ -99,7 +102,7 @@ pub fn do_fp_move_instruction(op: Opcode, form: MoveForm, operands: Operands) ->
 }
 
 pub fn do_fp_cond_instruction(op: Opcode, fmt: Size, operands: Operands) -> EmitInstruction
-    ensures { λ r. ⌜ EmitIs r (fpCondPairs op fmt (codeIn (operands .first)) (fpSlotIn (operands .second)) (fpSlotIn (operands .third))) ⌝ }
+    ensures { λ r. ⌜ EmitIs r (fpCondPairs op fmt (codeIn (operands .first)) (fpSlotIn (operands .second)) (fpSlotIn (operands .third))) LoadForm.Nothing ⌝ }
 {
     let first = operands.first;
     let second = operands.second;
@@ -118,7 +121,8 @@ pub fn do_fp_cond_instruction(op: Opcode, fmt: Size, operands: Operands) -> Emit
 
 // A float register first, then a general one.
 pub fn do_fp_first_move_instruction(op: Opcode, operands: Operands) -> EmitInstruction
-    ensures { λ r. ⌜ EmitIs r (fpCrossMovePairs op (fpRegisterNumber (fpSlotIn (operands .first))) (registerNumber (slotIn (operands .second)))) ⌝ }
+    ensures { λ r. ⌜ EmitIs r (fpCrossMovePairs op (fpRegisterNumber (fpSlotIn (operands .first))) (registerNumber (slotIn (operands .second))))
+        LoadForm.Nothing ⌝ }
 {
     let first = operands.first;
     let second = operands.second;
@@ -132,7 +136,8 @@ pub fn do_fp_first_move_instruction(op: Opcode, operands: Operands) -> EmitInstr
 
 // A general register first, then a float one.
 pub fn do_fp_last_move_instruction(op: Opcode, operands: Operands) -> EmitInstruction
-    ensures { λ r. ⌜ EmitIs r (fpCrossMovePairs op (registerNumber (slotIn (operands .first))) (fpRegisterNumber (fpSlotIn (operands .second)))) ⌝ }
+    ensures { λ r. ⌜ EmitIs r (fpCrossMovePairs op (registerNumber (slotIn (operands .first))) (fpRegisterNumber (fpSlotIn (operands .second))))
+        LoadForm.Nothing ⌝ }
 {
     let first = operands.first;
     let second = operands.second;
@@ -145,7 +150,7 @@ pub fn do_fp_last_move_instruction(op: Opcode, operands: Operands) -> EmitInstru
 }
 
 pub fn do_fp_branch_instruction(op: Opcode, flag: bool, operands: Operands) -> EmitInstruction
-    ensures { λ r. ⌜ EmitIs r (fpBranchPairs op flag (codeIn (operands .first)) (labelIn (operands .second))) ⌝ }
+    ensures { λ r. ⌜ EmitIs r (fpBranchPairs op flag (codeIn (operands .first)) (labelIn (operands .second))) LoadForm.Nothing ⌝ }
 {
     let first = operands.first;
     let second = operands.second;

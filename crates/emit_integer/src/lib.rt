@@ -2,7 +2,8 @@
 ghost use mathlib.Core.Path.{_≡_};
 ghost use Rattle.registers.specs.Numbers.{registerNumber};
 ghost use Rattle.operand.specs.Held.{slotIn, valueIn, maybeValueIn, constantIn, labelIn, offsetIn};
-ghost use Rattle.emit_pairs.specs.Pairs.{EmitIs};
+ghost use Rattle.emit_pairs.specs.Pairs.{EmitIs, immediateForm};
+ghost use Rattle.emit_pairs.specs.Values.{valueForm, maybeForm, offsetForm};
 ghost use mathlib.Core.Option.{some};
 ghost use Rattle.emit_integer.specs.IntegerWords.{registerPairs, registerShiftPairs, sourcePairs, destinationPairs, inputsPairs, shamPairs, branchZeroPairs, immediateLinePairs, loadImmediatePairs, jumpPairs, branchPairs, parameterlessPairs, offsetLinePairs};
 use emit_pairs::EmitInstruction;
@@ -13,6 +14,7 @@ use emit_words::RegisterFields;
 use emit_words::ShamFields;
 use instructions::Alternative;
 use instructions::Opcode;
+use loading::LoadForm;
 use operand::InstructionValue;
 use operand::Operand;
 use operand_list::Operands;
@@ -20,7 +22,8 @@ use pending::InstructionLabelKind;
 use registers::RegisterSlot;
 
 pub fn do_register_instruction(op: Opcode, operands: Operands) -> EmitInstruction
-    ensures { λ r. ⌜ EmitIs r (registerPairs op (slotIn (operands .first)) (slotIn (operands .second)) (valueIn (operands .third))) ⌝ }
+    ensures { λ r. ⌜ EmitIs r (registerPairs op (slotIn (operands .first)) (slotIn (operands .second)) (valueIn (operands .third)))
+        (valueForm (valueIn (operands .third))) ⌝ }
 {
     let first = operands.first;
     let second = operands.second;
@@ -38,7 +41,7 @@ pub fn do_register_instruction(op: Opcode, operands: Operands) -> EmitInstructio
 
 // The register with the shift amount comes last.
 pub fn do_register_shift_instruction(op: Opcode, operands: Operands) -> EmitInstruction
-    ensures { λ r. ⌜ EmitIs r (registerShiftPairs op (slotIn (operands .first)) (slotIn (operands .second)) (slotIn (operands .third))) ⌝ }
+    ensures { λ r. ⌜ EmitIs r (registerShiftPairs op (slotIn (operands .first)) (slotIn (operands .second)) (slotIn (operands .third))) LoadForm.Nothing ⌝ }
 {
     let first = operands.first;
     let second = operands.second;
@@ -52,7 +55,7 @@ pub fn do_register_shift_instruction(op: Opcode, operands: Operands) -> EmitInst
 }
 
 pub fn do_source_instruction(op: Opcode, operands: Operands) -> EmitInstruction
-    ensures { λ r. ⌜ EmitIs r (sourcePairs op (slotIn (operands .first))) ⌝ }
+    ensures { λ r. ⌜ EmitIs r (sourcePairs op (slotIn (operands .first))) LoadForm.Nothing ⌝ }
 {
     let first = operands.first;
     let source = operand::slot_in(first);
@@ -61,7 +64,7 @@ pub fn do_source_instruction(op: Opcode, operands: Operands) -> EmitInstruction
 }
 
 pub fn do_destination_instruction(op: Opcode, operands: Operands) -> EmitInstruction
-    ensures { λ r. ⌜ EmitIs r (destinationPairs op (slotIn (operands .first))) ⌝ }
+    ensures { λ r. ⌜ EmitIs r (destinationPairs op (slotIn (operands .first))) LoadForm.Nothing ⌝ }
 {
     let first = operands.first;
     let dest = operand::slot_in(first);
@@ -71,7 +74,7 @@ pub fn do_destination_instruction(op: Opcode, operands: Operands) -> EmitInstruc
 
 // The operation on the last two operands, and mflo into the first.
 fn inputs_into(op: Opcode, operands: Operands, value: InstructionValue) -> EmitInstruction
-    ensures { λ r. ⌜ EmitIs r (inputsPairs op (slotIn (operands .first)) (slotIn (operands .second)) (some value)) ⌝ }
+    ensures { λ r. ⌜ EmitIs r (inputsPairs op (slotIn (operands .first)) (slotIn (operands .second)) (some value)) (valueForm value) ⌝ }
 {
     let first = operands.first;
     let second = operands.second;
@@ -87,7 +90,8 @@ fn inputs_into(op: Opcode, operands: Operands, value: InstructionValue) -> EmitI
 }
 
 pub fn do_inputs_instruction(op: Opcode, operands: Operands) -> EmitInstruction
-    ensures { λ r. ⌜ EmitIs r (inputsPairs op (slotIn (operands .first)) (slotIn (operands .second)) (maybeValueIn (operands .third))) ⌝ }
+    ensures { λ r. ⌜ EmitIs r (inputsPairs op (slotIn (operands .first)) (slotIn (operands .second)) (maybeValueIn (operands .third)))
+        (maybeForm (maybeValueIn (operands .third))) ⌝ }
 {
     let first = operands.first;
     let second = operands.second;
@@ -109,7 +113,7 @@ pub fn do_inputs_instruction(op: Opcode, operands: Operands) -> EmitInstruction
 }
 
 pub fn do_sham_instruction(op: Opcode, operands: Operands) -> EmitInstruction
-    ensures { λ r. ⌜ EmitIs r (shamPairs op (slotIn (operands .first)) (slotIn (operands .second)) (constantIn (operands .third))) ⌝ }
+    ensures { λ r. ⌜ EmitIs r (shamPairs op (slotIn (operands .first)) (slotIn (operands .second)) (constantIn (operands .third))) LoadForm.Nothing ⌝ }
 {
     let first = operands.first;
     let second = operands.second;
@@ -125,7 +129,7 @@ pub fn do_sham_instruction(op: Opcode, operands: Operands) -> EmitInstruction
 
 // SpecialBranch and BranchZero.
 pub fn do_branch_zero_instruction(op: Opcode, operands: Operands) -> EmitInstruction
-    ensures { λ r. ⌜ EmitIs r (branchZeroPairs op (slotIn (operands .first)) (labelIn (operands .second))) ⌝ }
+    ensures { λ r. ⌜ EmitIs r (branchZeroPairs op (slotIn (operands .first)) (labelIn (operands .second))) LoadForm.Nothing ⌝ }
 {
     let first = operands.first;
     let second = operands.second;
@@ -136,7 +140,8 @@ pub fn do_branch_zero_instruction(op: Opcode, operands: Operands) -> EmitInstruc
 }
 
 pub fn do_immediate_instruction(op: Opcode, alt: Alternative, operands: Operands) -> EmitInstruction
-    ensures { λ r. ⌜ EmitIs r (immediateLinePairs op alt (slotIn (operands .first)) (slotIn (operands .second)) (constantIn (operands .third))) ⌝ }
+    ensures { λ r. ⌜ EmitIs r (immediateLinePairs op alt (slotIn (operands .first)) (slotIn (operands .second)) (constantIn (operands .third)))
+        (immediateForm alt (constantIn (operands .third))) ⌝ }
 {
     let first = operands.first;
     let second = operands.second;
@@ -153,7 +158,7 @@ pub fn do_immediate_instruction(op: Opcode, alt: Alternative, operands: Operands
 }
 
 pub fn do_load_immediate_instruction(op: Opcode, operands: Operands) -> EmitInstruction
-    ensures { λ r. ⌜ EmitIs r (loadImmediatePairs op (slotIn (operands .first)) (constantIn (operands .second))) ⌝ }
+    ensures { λ r. ⌜ EmitIs r (loadImmediatePairs op (slotIn (operands .first)) (constantIn (operands .second))) LoadForm.Nothing ⌝ }
 {
     let first = operands.first;
     let second = operands.second;
@@ -165,7 +170,7 @@ pub fn do_load_immediate_instruction(op: Opcode, operands: Operands) -> EmitInst
 }
 
 pub fn do_jump_instruction(op: Opcode, operands: Operands) -> EmitInstruction
-    ensures { λ r. ⌜ EmitIs r (jumpPairs op (labelIn (operands .first))) ⌝ }
+    ensures { λ r. ⌜ EmitIs r (jumpPairs op (labelIn (operands .first))) LoadForm.Nothing ⌝ }
 {
     let first = operands.first;
     let word = emit_words::base_word(op);
@@ -174,7 +179,8 @@ pub fn do_jump_instruction(op: Opcode, operands: Operands) -> EmitInstruction
 }
 
 pub fn do_branch_instruction(op: Opcode, operands: Operands) -> EmitInstruction
-    ensures { λ r. ⌜ EmitIs r (branchPairs op (slotIn (operands .first)) (valueIn (operands .second)) (labelIn (operands .third))) ⌝ }
+    ensures { λ r. ⌜ EmitIs r (branchPairs op (slotIn (operands .first)) (valueIn (operands .second)) (labelIn (operands .third)))
+        (valueForm (valueIn (operands .second))) ⌝ }
 {
     let first = operands.first;
     let second = operands.second;
@@ -191,14 +197,15 @@ pub fn do_branch_instruction(op: Opcode, operands: Operands) -> EmitInstruction
 }
 
 pub fn do_parameterless_instruction(op: Opcode) -> EmitInstruction
-    ensures { λ r. ⌜ EmitIs r (parameterlessPairs op) ⌝ }
+    ensures { λ r. ⌜ EmitIs r (parameterlessPairs op) LoadForm.Nothing ⌝ }
 {
     let word = emit_words::base_word(op);
     emit_pairs::with(word)
 }
 
 pub fn do_offset_instruction(op: Opcode, operands: Operands) -> EmitInstruction
-    ensures { λ r. ⌜ EmitIs r (offsetLinePairs op (registerNumber (slotIn (operands .first))) (offsetIn (operands .second))) ⌝ }
+    ensures { λ r. ⌜ EmitIs r (offsetLinePairs op (registerNumber (slotIn (operands .first))) (offsetIn (operands .second)))
+        (offsetForm (offsetIn (operands .second))) ⌝ }
 {
     let first = operands.first;
     let second = operands.second;

@@ -14,6 +14,7 @@ use Rattle.lexer.specs.Tokens.{tokens}
 use Rattle.emit_dispatch.specs.Lines.{Line}
 use Rattle.breakpoints.specs.BreakpointBytes.{pcsBytes, breakpointBytes}
 use Rattle.emit_outcome.specs.declared.LineNumbers.{LineNumbers}
+use Rattle.loading.specs.declared.LoadForm.{LoadForm}
 use Rattle.emit_outcome.specs.declared.EmitAnswer.the-variants.{Done}
 use Rattle.emit_outcome.specs.Call.{Lent, lentOf, outcomeOf}
 use Rattle.emit_outcome.specs.Emit.{refuse, accept, lineStop, acceptOr, lineOutcome}
@@ -35,10 +36,10 @@ pcs-within pc at zero h e l = omega arith
 pcs-within pc at (suc n) h e l = omega (arith, e (omega arith), l (omega arith))
 
 -- an accepted line's outcome, part by part
-pub outcome-same : (position : ℕ) {l p b l' p' b' : ℕ} {d q k d' q' k' : List ℕ} → l ≡ l' → p ≡ p' → b ≡ b' → d ≡ d' → q ≡ q' → k ≡ k'
-    → outcomeOf (Done position) (record { «data_len» = l; pending = p; breakpoints = b }) (lentOf d q k)
-    ≡ outcomeOf (Done position) (record { «data_len» = l'; pending = p'; breakpoints = b' }) (lentOf d' q' k')
-outcome-same position hl hp hb hd hq hk = rw (hl, hp, hb, hd, hq, hk)
+pub outcome-same : (position : ℕ) (form : LoadForm) {l p b l' p' b' : ℕ} {d q k d' q' k' : List ℕ} → l ≡ l' → p ≡ p' → b ≡ b' → d ≡ d' → q ≡ q' → k ≡ k'
+    → outcomeOf (Done position form) (record { «data_len» = l; pending = p; breakpoints = b }) (lentOf d q k)
+    ≡ outcomeOf (Done position form) (record { «data_len» = l'; pending = p'; breakpoints = b' }) (lentOf d' q' k')
+outcome-same position form hl hp hb hd hq hk = rw (hl, hp, hb, hd, hq, hk)
 
 -- the outcome by the verdict
 module _ (token-list : List ℕ) (line : Location) (numbers : LineNumbers) (lent : Lent) (made : Line) where

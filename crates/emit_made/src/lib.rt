@@ -43,6 +43,7 @@ fn append_line(
 {
     let counts = numbers.counts;
     let e = made.emit;
+    let loaded = e.loaded;
     let n = emit_bytes::count_of(e);
     let size = emit_bytes::pendings_size(tokens, e) as u32;
     let pc = std::num::wrapping_add_u32(numbers.place.address, counts.data_len);
@@ -65,7 +66,10 @@ fn append_line(
         breakpoints: counts.breakpoints + (12 + bytes),
     };
     Emitted {
-        answer: EmitAnswer::Done(made.cursor.index as u32),
+        answer: EmitAnswer::Done {
+            position: made.cursor.index as u32,
+            loaded,
+        },
         counts: grown,
     }
 }

@@ -38,7 +38,7 @@ accept token-list line numbers lent made =
     let waits = newPending token-list line numbers (made .pairs) in
     let pcs = newBreakpoint line numbers (made .pairs) in
     record {
-      answer = Done (made .index);
+      answer = Done (made .index) (made .form);
       counts = record {
         «data_len» = counts .«data_len» + 4 * length (made .pairs);
         pending = counts .pending + length waits;

@@ -1,4 +1,5 @@
 // What an emit call is given and gives back, and the definition of its whole outcome. This crate has types, constants and definitions, and no functions.
+use loading::LoadForm;
 use pseudo_names::Pseudo;
 use refusal::Refusal;
 
@@ -28,9 +29,9 @@ pub struct LineNumbers {
     pub place: LinePlace,
 }
 
-// Either with the position at which reading stands then.
+// Either with the position at which reading stands then; an accepted line with the form of the constant that it loads.
 pub enum EmitAnswer {
-    Done(u32),
+    Done { position: u32, loaded: LoadForm },
     Refused(Refusal, u32),
 }
 

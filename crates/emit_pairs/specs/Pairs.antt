@@ -9,7 +9,9 @@ use Rattle.instructions.specs.declared.Opcode.{Opcode}
 use Rattle.instructions.specs.declared.Opcode.the-variants.{Op}
 use Rattle.instructions.specs.declared.Alternative.{Alternative}
 use Rattle.instructions.specs.declared.Alternative.the-variants.{Nothing, Some}
-use Rattle.loading.specs.Load.{loadWords}
+use Rattle.loading.specs.declared.LoadForm.{LoadForm}
+use Rattle.loading.specs.declared.LoadForm.the-variants.{Nothing as Unloaded}
+use Rattle.loading.specs.Load.{formOf, loadWords}
 use Rattle.address_label.specs.declared.AddressLabel.{AddressLabel}
 use Rattle.address_label.specs.declared.AddressLabel.the-variants.{Constant, Label}
 use Rattle.pending.specs.declared.InstructionLabelKind.{InstructionLabelKind}
@@ -28,10 +30,11 @@ plain w = record { word = w; label = Unlabelled }
 abbrev pub waiting : ℕ → InstructionLabelKind → AddressLabel → InstructionPair
 waiting w kind label = record { word = w; label = Labelled (record { kind = kind; label = label }) }
 
--- the pairs that an array with a count holds
-pub record EmitIs (e : EmitInstruction) (ps : List InstructionPair) : Type 0 where
+-- the pairs that an array with a count holds, and how the line's constant is loaded
+pub record EmitIs (e : EmitInstruction) (ps : List InstructionPair) (form : LoadForm) : Type 0 where
   pub pairs-are : take (e .count) (e .instructions) ≡ ps
   pub count-is : e .count ≡ length ps
+  pub form-is : e .loaded ≡ form
 
 -- $at
 abbrev pub atNumber : ℕ
@@ -47,6 +50,11 @@ unfoldable pub labelPairs : AddressLabel → ℕ → List InstructionPair
 unfolding loadPairs
 labelPairs (Constant c) t = loadPairs c t
 labelPairs (Label name) t = waiting (immediateWord (Op 15) 0 t 0) Upper (Label name) ∷ waiting (immediateWord (Op 13) t t 0) Lower (Label name) ∷ []
+
+-- the form of the constant that a label is
+abbrev pub labelForm : AddressLabel → LoadForm
+labelForm (Constant c) = formOf c
+labelForm (Label name) = Unloaded
 
 -- "Immediate operands are tested as signed 64-bit": -32,768 to 32,767
 unfoldable pub isImmediate : ℕ → Bool
@@ -65,3 +73,11 @@ fallbackPairs (Some alt) rt rs c = loadPairs c atNumber ++ plain (registerWord a
 unfoldable pub immediatePairs : Opcode → Alternative → (rt rs c : ℕ) → List InstructionPair
 unfolding isImmediate loadPairs
 immediatePairs op alt rt rs c = elim (isImmediate c) [ true ↦ plain (immediateWord op rs rt (c % 65536)) ∷ [] | false ↦ fallbackPairs alt rt rs c ]
+
+-- in range the constant stands in the word's own immediate field; else it is loaded for the alternative
+abbrev pub fallbackForm : Alternative → ℕ → LoadForm
+fallbackForm Nothing c = Unloaded
+fallbackForm (Some alt) c = formOf c
+
+abbrev pub immediateForm : Alternative → ℕ → LoadForm
+immediateForm alt c = elim (isImmediate c) [ true ↦ Unloaded | false ↦ fallbackForm alt c ]

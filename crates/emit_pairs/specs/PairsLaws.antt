@@ -13,8 +13,10 @@ use Rattle.instructions.specs.declared.Opcode.{Opcode}
 use Rattle.instructions.specs.declared.Opcode.the-variants.{Op}
 use Rattle.instructions.specs.declared.Alternative.{Alternative}
 use Rattle.instructions.specs.declared.Alternative.the-variants.{Nothing, Some}
-use Rattle.loading.specs.Load.{low32, upperHalf, lowerHalf, isSmall, loadWords}
-use Rattle.loading.specs.LoadLaws.{small-low, words-small, words-ori, words-lui, words-both}
+use Rattle.loading.specs.declared.LoadForm.{LoadForm}
+use Rattle.loading.specs.declared.LoadForm.the-variants.{Nothing as Unloaded}
+use Rattle.loading.specs.Load.{formOf, loadWords}
+use Rattle.loading.specs.LoadLaws.{load-length}
 use Rattle.loading.specs.Contract.{LoadedIs, padded}
 use Rattle.address_label.specs.declared.AddressLabel.{AddressLabel}
 use Rattle.address_label.specs.declared.AddressLabel.the-variants.{Constant, Label}
@@ -24,42 +26,32 @@ use Rattle.emit_pairs.specs.declared.InstructionPair.{InstructionPair}
 use Rattle.emit_pairs.specs.declared.EmitInstruction.{EmitInstruction}
 use Rattle.emit_pairs.specs.declared.Range.the-variants.{Within, Outside}
 use Rattle.emit_words.specs.Words.{registerWord, immediateWord}
-use Rattle.emit_pairs.specs.Pairs.{plain, waiting, EmitIs, atNumber, loadPairs, labelPairs, isImmediate, immediateRange, immediatePairs}
+use Rattle.emit_pairs.specs.Pairs.{plain, waiting, EmitIs, atNumber, loadPairs, labelPairs, labelForm, isImmediate, immediateRange, immediatePairs, immediateForm}
 
 -- ---- the array and its count
 
-pub emit-as : {e : EmitInstruction} {ps qs : List InstructionPair} → EmitIs e ps → ps ≡ qs → EmitIs e qs
-emit-as {e} i q = subst (λ (l : List InstructionPair). EmitIs e l) q i
+-- the same words and the same form, said otherwise
+pub emit-by : {e : EmitInstruction} {ps qs : List InstructionPair} {f g : LoadForm} → EmitIs e ps f → ps ≡ qs → f ≡ g → EmitIs e qs g
+emit-by i q h = record { pairs-are = i .pairs-are ∙ q; count-is = i .count-is ∙ ap length q; form-is = i .form-is ∙ h }
+
+pub emit-as : {e : EmitInstruction} {ps qs : List InstructionPair} {f : LoadForm} → EmitIs e ps f → ps ≡ qs → EmitIs e qs f
+emit-as i q = emit-by i q refl
 
 -- a pair put at the end of those counted
-pub stored : (l : List InstructionPair) (n : ℕ) (p : InstructionPair) → n < length l
-    → EmitIs (record { instructions = set l n p; count = n + 1 }) (take n l ++ p ∷ [])
-stored l n p h = record {
+pub stored : (l : List InstructionPair) (n : ℕ) (f : LoadForm) (p : InstructionPair) → n < length l
+    → EmitIs (record { instructions = set l n p; count = n + 1; loaded = f }) (take n l ++ p ∷ []) f
+stored l n f p h = record {
   pairs-are = ap (λ (k : ℕ). take k (set l n p)) (add-one n) ∙ take-suc-set l n p h;
   count-is = simp length-append (omega (arith, length-take-le n l (omega arith)));
+  form-is = refl;
 }
 
 -- what `push` ensures, said of the pairs that there were
-pub emit-push : {e r : EmitInstruction} {ps : List InstructionPair} (p : InstructionPair)
-    → EmitIs e ps → EmitIs r (take (e .count) (e .instructions) ++ p ∷ []) → EmitIs r (ps ++ p ∷ [])
-emit-push p i j = emit-as j (ap (λ (l : List InstructionPair). l ++ p ∷ []) (i .pairs-are))
+pub emit-push : {e r : EmitInstruction} {ps : List InstructionPair} {f : LoadForm} (p : InstructionPair)
+    → EmitIs e ps f → EmitIs r (take (e .count) (e .instructions) ++ p ∷ []) (e .loaded) → EmitIs r (ps ++ p ∷ []) f
+emit-push p i j = emit-by j (ap (λ (l : List InstructionPair). l ++ p ∷ []) (i .pairs-are)) (i .form-is)
 
 -- ---- the words that load a constant: one or two
-
-load-length : (c t : ℕ) → (1 ≤ length (loadWords c t)) × (length (loadWords c t) ≤ 2)
-load-length c t = go (isSmall c) refl (eqb (upperHalf c) 0) refl (eqb (lowerHalf c) 0) refl
-  where
-    go : (b : Bool) → isSmall c ≡ b → (u : Bool) → eqb (upperHalf c) 0 ≡ u → (l : Bool) → eqb (lowerHalf c) 0 ≡ l → (1 ≤ length (loadWords c t)) × (length (loadWords c t) ≤ 2)
-    go true e u f l k = rw (words-small c t e) (omega arith)
-    go false e false f false k = rw (words-both c t e (eqb-false (upperHalf c) 0 f) (eqb-false (lowerHalf c) 0 k)) (omega arith)
-    go false e false f true k = rw (words-lui c t e (eqb-false (upperHalf c) 0 f) (eqb-true (lowerHalf c) 0 k)) (omega arith)
-    go false e true f false k = rw (words-ori c t e (eqb-true (upperHalf c) 0 f) (eqb-false (lowerHalf c) 0 k)) (omega arith)
-    go false e true f true k =
-        let u = eqb-true (upperHalf c) 0 f in
-        let l = eqb-true (lowerHalf c) 0 k in
-        let h : low32 c < 32768 = omega arith in
-        let z : _≡_ {A = ℕ} 0 1 = cc (small-low c h) in
-        absurd (omega arith)
 
 pub load-pairs-length : (c t : ℕ) → (1 ≤ length (loadPairs c t)) × (length (loadPairs c t) ≤ 2)
 unfolding loadPairs
@@ -77,7 +69,7 @@ two-of (w ∷ []) h k = absurd (omega arith)
 two-of (w ∷ v ∷ []) h k = refl
 two-of (w ∷ v ∷ u ∷ ws) h k = absurd (omega arith)
 
-module _ (c t : ℕ) {words : List ℕ} {count : ℕ} (i : LoadedIs c t words count) where
+module _ (c t : ℕ) {words : List ℕ} {count : ℕ} {form : LoadForm} (i : LoadedIs c t words count form) where
   pub load-one : count < 2 → plain (getD words 0 0) ∷ [] ≡ loadPairs c t
   unfolding loadPairs
   load-one h =
@@ -103,6 +95,12 @@ module _ {label : AddressLabel} (t : ℕ) where
       → waiting lui Upper label ∷ waiting ori Lower label ∷ [] ≡ labelPairs label t
   unfolding labelPairs
   label-name e u l = rw (e, u, l, labelPairs)
+
+pub form-constant : {label : AddressLabel} {c : ℕ} → label ≡ Constant c → labelForm label ≡ formOf c
+form-constant e = ap labelForm e
+
+pub form-name : {label : AddressLabel} {name : NamedLabel} → label ≡ Label name → labelForm label ≡ Unloaded
+form-name e = ap labelForm e
 
 -- ---- an immediate operand
 
@@ -134,6 +132,16 @@ module _ (op : Opcode) {alt : Alternative} (rt rs c : ℕ) (e : isImmediate c �
       → loadPairs c atNumber ++ plain w ∷ [] ≡ immediatePairs op alt rt rs c
   unfolding immediatePairs
   pairs-alternative n h = rw (e, n, h, immediatePairs)
+
+pub form-taken : (alt : Alternative) (c : ℕ) → isImmediate c ≡ true → Unloaded ≡ immediateForm alt c
+form-taken alt c e = rw (e, immediateForm)
+
+module _ {alt : Alternative} (c : ℕ) (e : isImmediate c ≡ false) where
+  pub form-refused : alt ≡ Nothing → Unloaded ≡ immediateForm alt c
+  form-refused n = rw (e, n, immediateForm)
+
+  pub form-alternative : {other : Opcode} → alt ≡ Some other → formOf c ≡ immediateForm alt c
+  form-alternative n = rw (e, n, immediateForm)
 
 pub range-refused : {alt : Alternative} (c : ℕ) → isImmediate c ≡ false → alt ≡ Nothing → Outside ≡ immediateRange alt c
 range-refused c e n = rw (n, e, immediateRange)

@@ -4,13 +4,15 @@ ghost use mathlib.Core.List.{[], _∷_, _++_};
 ghost use Prim.Native.Nat.{_<_};
 ghost use lib.ListN.{take};
 ghost use Rattle.registers.specs.Numbers.{registerNumber};
-ghost use Rattle.emit_pairs.specs.Values.{branchTo, valuePairs, valueNumber, addedPairs, offsetPairs, offsetNumber, offsetImmediate};
-ghost use Rattle.emit_pairs.specs.Pairs.{EmitIs, plain, waiting, atNumber, loadPairs, labelPairs, isImmediate, immediateRange, immediatePairs};
+ghost use Rattle.loading.specs.Load.{formOf};
+ghost use Rattle.emit_pairs.specs.Values.{branchTo, valueForm, offsetForm, valuePairs, valueNumber, addedPairs, offsetPairs, offsetNumber, offsetImmediate};
+ghost use Rattle.emit_pairs.specs.Pairs.{EmitIs, plain, waiting, atNumber, loadPairs, labelPairs, labelForm, isImmediate, immediateRange, immediatePairs, immediateForm};
 use address_label::AddressLabel;
 use emit_words::ImmediateFields;
 use emit_words::RegisterFields;
 use instructions::Alternative;
 use instructions::Opcode;
+use loading::LoadForm;
 use operand::InstructionValue;
 use operand::OffsetOrLabel;
 use pending::InstructionLabel;
@@ -27,10 +29,11 @@ pub struct InstructionPair {
     pub label: PairLabel,
 }
 
-// At most five words: the first `count`.
+// At most five words: the first `count`; and how the line's constant is loaded.
 pub struct EmitInstruction {
     pub instructions: [InstructionPair; 5],
     pub count: usize,
+    pub loaded: LoadForm,
 }
 
 // Whether an immediate operand that has no alternative lies within its range.
@@ -59,9 +62,9 @@ pub struct OffsetParts {
     pub emit: EmitInstruction,
 }
 
-// No words.
-pub fn none() -> EmitInstruction
-    ensures { λ r. ⌜ EmitIs r [] ⌝ }
+// No words yet of a line that loads a constant by this form.
+fn starting(form: LoadForm) -> EmitInstruction
+    ensures { λ r. ⌜ EmitIs r [] form ⌝ }
 {
     let pair = InstructionPair {
         word: 0,
@@ -70,14 +73,22 @@ pub fn none() -> EmitInstruction
     EmitInstruction {
         instructions: [pair; 5],
         count: 0,
+        loaded: form,
     }
+}
+
+// No words.
+pub fn none() -> EmitInstruction
+    ensures { λ r. ⌜ EmitIs r [] LoadForm.Nothing ⌝ }
+{
+    starting(LoadForm::Nothing)
 }
 
 impl EmitInstruction {
     // One word more.
     pub fn push(self, word: u32, label: PairLabel) -> EmitInstruction
         requires { ⌜ self .count < 5 ⌝ }
-        ensures { λ r. ⌜ EmitIs r (take (self .count) (self .instructions) ++ (record { word = word; label = label }) ∷ []) ⌝ }
+        ensures { λ r. ⌜ EmitIs r (take (self .count) (self .instructions) ++ (record { word = word; label = label }) ∷ []) (self .loaded) ⌝ }
     {
         let n = self.count;
         let mut out = self;
@@ -89,25 +100,26 @@ impl EmitInstruction {
 
 // One word alone.
 pub fn with(word: u32) -> EmitInstruction
-    ensures { λ r. ⌜ EmitIs r (plain word ∷ []) ⌝ }
+    ensures { λ r. ⌜ EmitIs r (plain word ∷ []) LoadForm.Nothing ⌝ }
 {
     none().push(word, PairLabel::Nothing)
 }
 
 // One word that waits for a label.
 pub fn with_label(word: u32, kind: InstructionLabelKind, label: AddressLabel) -> EmitInstruction
-    ensures { λ r. ⌜ EmitIs r (waiting word kind label ∷ []) ⌝ }
+    ensures { λ r. ⌜ EmitIs r (waiting word kind label ∷ []) LoadForm.Nothing ⌝ }
 {
     none().push(word, PairLabel::Some(InstructionLabel { kind, label }))
 }
 
 // The words that load a constant.
 pub fn load_pairs(constant: u64, into: RegisterSlot) -> EmitInstruction
-    ensures { λ r. ⌜ EmitIs r (loadPairs constant (registerNumber into)) ⌝ }
+    ensures { λ r. ⌜ EmitIs r (loadPairs constant (registerNumber into)) (formOf constant) ⌝ }
 {
     let loaded = loading::load_immediate(constant, into);
     let words = loaded.words;
-    let one = with(words[0]);
+    let form = loaded.form;
+    let one = starting(form).push(words[0], PairLabel::Nothing);
     if loaded.count < 2 {
         return one;
     }
@@ -116,7 +128,7 @@ pub fn load_pairs(constant: u64, into: RegisterSlot) -> EmitInstruction
 
 // A constant's words, or lui and ori that wait for a name's halves.
 pub fn make_label(label: AddressLabel, dest: RegisterSlot) -> EmitInstruction
-    ensures { λ r. ⌜ EmitIs r (labelPairs label (registerNumber dest)) ⌝ }
+    ensures { λ r. ⌜ EmitIs r (labelPairs label (registerNumber dest)) (labelForm label) ⌝ }
 {
     match label {
         AddressLabel::Constant(constant) => load_pairs(constant, dest),
@@ -179,7 +191,8 @@ pub fn emit_immediate_instruction(
     alt: Alternative,
     operands: ImmediateOperands,
 ) -> EmitInstruction
-    ensures { λ r. ⌜ EmitIs r (immediatePairs op alt (registerNumber (operands .temp)) (registerNumber (operands .source)) (operands .constant)) ⌝ }
+    ensures { λ r. ⌜ EmitIs r (immediatePairs op alt (registerNumber (operands .temp)) (registerNumber (operands .source)) (operands .constant))
+        (immediateForm alt (operands .constant)) ⌝ }
 {
     let temp = operands.temp;
     let source = operands.source;
@@ -210,7 +223,7 @@ pub fn emit_immediate_instruction(
 
 // A number is loaded into $at.
 pub fn unpack_value(value: InstructionValue) -> Unpacked
-    ensures { λ r. ⌜ (registerNumber (r .slot) ≡ valueNumber value) × EmitIs (r .emit) (valuePairs value) ⌝ }
+    ensures { λ r. ⌜ (registerNumber (r .slot) ≡ valueNumber value) × EmitIs (r .emit) (valuePairs value) (valueForm value) ⌝ }
 {
     match value {
         InstructionValue::Slot(slot) => Unpacked { slot, emit: none() },
@@ -226,7 +239,7 @@ pub fn unpack_value(value: InstructionValue) -> Unpacked
 
 // The label into $at, then the register added to it.
 fn added(label: AddressLabel, register: RegisterSlot) -> OffsetParts
-    ensures { λ r. ⌜ (r .immediate ≡ 0) × (registerNumber (r .register) ≡ atNumber) × EmitIs (r .emit) (addedPairs label register) ⌝ }
+    ensures { λ r. ⌜ (r .immediate ≡ 0) × (registerNumber (r .register) ≡ atNumber) × EmitIs (r .emit) (addedPairs label register) (labelForm label) ⌝ }
 {
     let at = RegisterSlot::AssemblerTemporary;
     let fields = RegisterFields {
@@ -243,7 +256,8 @@ fn added(label: AddressLabel, register: RegisterSlot) -> OffsetParts
 }
 
 pub fn make_offset_or_label(offset: OffsetOrLabel) -> OffsetParts
-    ensures { λ r. ⌜ (r .immediate ≡ offsetImmediate offset) × (registerNumber (r .register) ≡ offsetNumber offset) × EmitIs (r .emit) (offsetPairs offset) ⌝ }
+    ensures { λ r. ⌜ (r .immediate ≡ offsetImmediate offset) × (registerNumber (r .register) ≡ offsetNumber offset)
+        × EmitIs (r .emit) (offsetPairs offset) (offsetForm offset) ⌝ }
 {
     match offset {
         OffsetOrLabel::Offset(label, register) => match label {

@@ -11,9 +11,12 @@ use Rattle.address_label.specs.declared.AddressLabel.{AddressLabel}
 use Rattle.pending.specs.declared.InstructionLabelKind.the-variants.{Branch}
 use Rattle.operand.specs.declared.InstructionValue.{InstructionValue}
 use Rattle.operands.specs.Operands.{withSign}
+use Rattle.loading.specs.declared.LoadForm.{LoadForm}
+use Rattle.loading.specs.declared.LoadForm.the-variants.{Nothing as Unloaded}
+use Rattle.loading.specs.Load.{formOf}
 use Rattle.emit_words.specs.Words.{baseWord, inputsWord, registerWord, immediateWord, absFirstWord}
 use Rattle.emit_pairs.specs.declared.InstructionPair.{InstructionPair}
-use Rattle.emit_pairs.specs.Pairs.{plain, waiting, atNumber, loadPairs, labelPairs, immediatePairs}
+use Rattle.emit_pairs.specs.Pairs.{plain, waiting, atNumber, loadPairs, labelPairs, isImmediate, immediatePairs}
 use Rattle.emit_pairs.specs.Values.{valuePairs, valueNumber}
 
 -- ---- comparisons
@@ -88,3 +91,6 @@ nopPairs = plain (baseWord (Func 0)) ∷ []
 -- "subi and subiu negate theirs first, wrapping"
 abbrev pub subiPairs : (op alternative : Opcode) → (temp source : RegisterSlot) → ℕ → List InstructionPair
 subiPairs op alternative temp source constant = immediatePairs op (Some alternative) (registerNumber temp) (registerNumber source) (withSign true constant)
+
+abbrev pub subiForm : ℕ → LoadForm
+subiForm constant = elim (isImmediate (withSign true constant)) [ true ↦ Unloaded | false ↦ formOf (withSign true constant) ]

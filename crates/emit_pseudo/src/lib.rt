@@ -2,9 +2,11 @@
 ghost use mathlib.Core.Path.{_≡_};
 ghost use Rattle.registers.specs.Numbers.{registerNumber};
 ghost use Rattle.operand.specs.Held.{slotIn, valueIn, constantIn, labelIn};
+ghost use Rattle.loading.specs.Load.{formOf};
 ghost use Rattle.emit_words.specs.Words.{immediateWord};
-ghost use Rattle.emit_pairs.specs.Pairs.{EmitIs};
-ghost use Rattle.emit_pseudo.specs.PseudoWords.{setOpcode, compareWord, branchOpcode, branchCustomPairs, setCustomPairs, snePairs, seqPairs, absPairs, negPairs, movePairs, liPairs, laPairs, bPairs, nopPairs, subiPairs};
+ghost use Rattle.emit_pairs.specs.Pairs.{EmitIs, labelForm};
+ghost use Rattle.emit_pairs.specs.Values.{valueForm};
+ghost use Rattle.emit_pseudo.specs.PseudoWords.{setOpcode, compareWord, branchOpcode, branchCustomPairs, setCustomPairs, snePairs, seqPairs, absPairs, negPairs, movePairs, liPairs, laPairs, bPairs, nopPairs, subiPairs, subiForm};
 use emit_pairs::EmitInstruction;
 use emit_pairs::ImmediateOperands;
 use emit_pairs::PairLabel;
@@ -12,6 +14,7 @@ use emit_words::ImmediateFields;
 use emit_words::RegisterFields;
 use instructions::Alternative;
 use instructions::Opcode;
+use loading::LoadForm;
 use operand_list::Operands;
 use pending::InstructionLabelKind;
 use registers::RegisterSlot;
@@ -30,7 +33,7 @@ pub struct ImmediateOpcodes {
 }
 
 pub fn do_abs_instruction(operands: Operands) -> EmitInstruction
-    ensures { λ r. ⌜ EmitIs r (absPairs (slotIn (operands .first)) (slotIn (operands .second))) ⌝ }
+    ensures { λ r. ⌜ EmitIs r (absPairs (slotIn (operands .first)) (slotIn (operands .second))) LoadForm.Nothing ⌝ }
 {
     let first = operands.first;
     let second = operands.second;
@@ -90,7 +93,7 @@ fn branch_opcode(result_true: bool) -> Opcode
 
 pub fn do_branch_custom_instruction(how: Comparison, operands: Operands) -> EmitInstruction
     ensures { λ r. ⌜ EmitIs r (branchCustomPairs (how .«greater_than») (how .«result_true») (how .unsigned)
-        (slotIn (operands .first)) (valueIn (operands .second)) (labelIn (operands .third))) ⌝ }
+        (slotIn (operands .first)) (valueIn (operands .second)) (labelIn (operands .third))) (valueForm (valueIn (operands .second))) ⌝ }
 {
     let first = operands.first;
     let second = operands.second;
@@ -124,7 +127,7 @@ fn turn_word(dest: RegisterSlot) -> u32
 
 pub fn do_set_custom_instruction(how: Comparison, operands: Operands) -> EmitInstruction
     ensures { λ r. ⌜ EmitIs r (setCustomPairs (how .«greater_than») (how .«result_true») (how .unsigned)
-        (slotIn (operands .first)) (slotIn (operands .second)) (valueIn (operands .third))) ⌝ }
+        (slotIn (operands .first)) (slotIn (operands .second)) (valueIn (operands .third))) (valueForm (valueIn (operands .third))) ⌝ }
 {
     let first = operands.first;
     let second = operands.second;
@@ -148,7 +151,8 @@ pub fn do_set_custom_instruction(how: Comparison, operands: Operands) -> EmitIns
 
 // The difference, and whether it is not zero.
 pub fn do_sne_instruction(operands: Operands) -> EmitInstruction
-    ensures { λ r. ⌜ EmitIs r (snePairs (slotIn (operands .first)) (slotIn (operands .second)) (valueIn (operands .third))) ⌝ }
+    ensures { λ r. ⌜ EmitIs r (snePairs (slotIn (operands .first)) (slotIn (operands .second)) (valueIn (operands .third)))
+        (valueForm (valueIn (operands .third))) ⌝ }
 {
     let first = operands.first;
     let second = operands.second;
@@ -172,7 +176,8 @@ pub fn do_sne_instruction(operands: Operands) -> EmitInstruction
 }
 
 pub fn do_seq_instruction(operands: Operands) -> EmitInstruction
-    ensures { λ r. ⌜ EmitIs r (seqPairs (slotIn (operands .first)) (slotIn (operands .second)) (valueIn (operands .third))) ⌝ }
+    ensures { λ r. ⌜ EmitIs r (seqPairs (slotIn (operands .first)) (slotIn (operands .second)) (valueIn (operands .third)))
+        (valueForm (valueIn (operands .third))) ⌝ }
 {
     let first = operands.first;
     let dest = operand::slot_in(first);
@@ -182,7 +187,7 @@ pub fn do_seq_instruction(operands: Operands) -> EmitInstruction
 
 // neg and negu.
 pub fn do_neg_instruction(op: Opcode, operands: Operands) -> EmitInstruction
-    ensures { λ r. ⌜ EmitIs r (negPairs op (slotIn (operands .first)) (slotIn (operands .second))) ⌝ }
+    ensures { λ r. ⌜ EmitIs r (negPairs op (slotIn (operands .first)) (slotIn (operands .second))) LoadForm.Nothing ⌝ }
 {
     let first = operands.first;
     let second = operands.second;
@@ -199,7 +204,7 @@ pub fn do_neg_instruction(op: Opcode, operands: Operands) -> EmitInstruction
 
 // not and move.
 pub fn do_move_instruction(op: Opcode, operands: Operands) -> EmitInstruction
-    ensures { λ r. ⌜ EmitIs r (movePairs op (slotIn (operands .first)) (slotIn (operands .second))) ⌝ }
+    ensures { λ r. ⌜ EmitIs r (movePairs op (slotIn (operands .first)) (slotIn (operands .second))) LoadForm.Nothing ⌝ }
 {
     let first = operands.first;
     let second = operands.second;
@@ -215,7 +220,7 @@ pub fn do_move_instruction(op: Opcode, operands: Operands) -> EmitInstruction
 }
 
 pub fn do_li_instruction(operands: Operands) -> EmitInstruction
-    ensures { λ r. ⌜ EmitIs r (liPairs (slotIn (operands .first)) (constantIn (operands .second))) ⌝ }
+    ensures { λ r. ⌜ EmitIs r (liPairs (slotIn (operands .first)) (constantIn (operands .second))) (formOf (constantIn (operands .second))) ⌝ }
 {
     let first = operands.first;
     let second = operands.second;
@@ -225,7 +230,7 @@ pub fn do_li_instruction(operands: Operands) -> EmitInstruction
 }
 
 pub fn do_la_instruction(operands: Operands) -> EmitInstruction
-    ensures { λ r. ⌜ EmitIs r (laPairs (slotIn (operands .first)) (labelIn (operands .second))) ⌝ }
+    ensures { λ r. ⌜ EmitIs r (laPairs (slotIn (operands .first)) (labelIn (operands .second))) (labelForm (labelIn (operands .second))) ⌝ }
 {
     let first = operands.first;
     let second = operands.second;
@@ -235,7 +240,7 @@ pub fn do_la_instruction(operands: Operands) -> EmitInstruction
 }
 
 pub fn do_b_instruction(operands: Operands) -> EmitInstruction
-    ensures { λ r. ⌜ EmitIs r (bPairs (labelIn (operands .first))) ⌝ }
+    ensures { λ r. ⌜ EmitIs r (bPairs (labelIn (operands .first))) LoadForm.Nothing ⌝ }
 {
     let first = operands.first;
     let word = emit_words::inputs_word(Opcode::Op(4), RegisterSlot::Zero, RegisterSlot::Zero);
@@ -244,7 +249,7 @@ pub fn do_b_instruction(operands: Operands) -> EmitInstruction
 }
 
 pub fn do_nop_instruction() -> EmitInstruction
-    ensures { λ r. ⌜ EmitIs r nopPairs ⌝ }
+    ensures { λ r. ⌜ EmitIs r nopPairs LoadForm.Nothing ⌝ }
 {
     let word = emit_words::base_word(Opcode::Func(0));
     emit_pairs::with(word)
@@ -253,7 +258,7 @@ pub fn do_nop_instruction() -> EmitInstruction
 // subi and subiu: the constant is negated first.
 pub fn do_subi_instruction(opcodes: ImmediateOpcodes, operands: Operands) -> EmitInstruction
     ensures { λ r. ⌜ EmitIs r (subiPairs (opcodes .op) (opcodes .alternative)
-        (slotIn (operands .first)) (slotIn (operands .second)) (constantIn (operands .third))) ⌝ }
+        (slotIn (operands .first)) (slotIn (operands .second)) (constantIn (operands .third))) (subiForm (constantIn (operands .third))) ⌝ }
 {
     let first = operands.first;
     let second = operands.second;

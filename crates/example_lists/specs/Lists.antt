@@ -3,6 +3,7 @@ use Prim.Native.Nat.{ℕ, zero, suc, _+_, _-_, _*_}
 use mathlib.Core.List.{List, [], _∷_, _++_}
 use lib.ListN.{length}
 use Rattle.record.specs.Stores.{le16Bytes, le32Bytes, le64Bytes, recordBytes}
+use Rattle.loading.specs.declared.LoadForm.{LoadForm}
 use Rattle.emit_outcome.specs.declared.EmitAnswer.the-variants.{Done}
 use Rattle.emit_outcome.specs.Call.{Call, EmitOutcome}
 
@@ -81,12 +82,12 @@ unfoldable pub pcsFrom : (n pc : ℕ) → List ℕ
 pcsFrom zero pc = []
 pcsFrom (suc n) pc = pc ∷ pcsFrom n (pc + 4)
 
--- the position behind it, its words in the data, no pending, and one breakpoint
-abbrev pub emits : (position : ℕ) → List ℕ → EmitOutcome
-emits position words =
+-- the position behind it, the form of its constant, its words in the data, no pending, and one breakpoint
+abbrev pub emits : (position : ℕ) → LoadForm → List ℕ → EmitOutcome
+emits position loaded words =
     let n = length words in
     record {
-      answer = Done position;
+      answer = Done position loaded;
       counts = record { «data_len» = 4 * n; pending = 0; breakpoints = 12 + 4 * n };
       lent = record {
         region-data = asBytes words ++ zeros (20 - 4 * n);

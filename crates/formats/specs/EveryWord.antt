@@ -8,7 +8,7 @@ use Rattle.registers.specs.declared.RegisterSlot.the-variants.{Temporary0, Temp
 use Rattle.instructions.specs.declared.Opcode.the-variants.{Op, Func}
 use Rattle.instructions.specs.declared.Alternative.the-variants.{Some}
 use Rattle.instructions.specs.declared.Encoding.the-variants.{RegisterShift, Immediate}
-use Rattle.loading.specs.Load.{isSmall}
+use Rattle.loading.specs.Load.{isSmall, formOf}
 use Rattle.lexer.specs.declared.Token.{Token}
 use Rattle.lexer.specs.declared.TokenKind.{TokenKind}
 use Rattle.lexer.specs.declared.TokenKind.the-variants.{Register as RegisterToken, IntegerLiteral}
@@ -20,7 +20,8 @@ use Rattle.emit_pairs.specs.declared.Range.{Range}
 use Rattle.emit_pairs.specs.declared.Range.the-variants.{Within, Outside}
 use Rattle.emit_dispatch.specs.declared.LineAnswer.the-variants.{Made}
 use Rattle.emit_dispatch.specs.Wants.{encodingWants, pseudoWants}
-use Rattle.emit_dispatch.specs.Lines.{encodingRange, encodingPairs, pseudoPairs, rangeAnswer, lineBy, encodingLine, pseudoLine}
+use Rattle.loading.specs.declared.LoadForm.{LoadForm}
+use Rattle.emit_dispatch.specs.Lines.{encodingRange, encodingPairs, encodingForm, pseudoPairs, pseudoForm, rangeAnswer, lineBy, encodingLine, pseudoLine}
 use Rattle.formats.specs.Formats.{InFormats, register, immediate}
 use Rattle.formats.specs.Operations.{Operation, encoded, pseudo, wantsOf, loadsOf, lineOf, wordsOf}
 use Rattle.formats.specs.LineFormats.{ownFormats, lineFormats, LoadThen, LineWords}
@@ -33,8 +34,8 @@ within-made Within e = refl
 within-made Outside e = cc
 
 module _ (o : Operation) (i : ℕ) (range : AskedAll (wantsOf o) → Range) (pairs : AskedAll (wantsOf o) → List InstructionPair)
-    (words : (x : AskedAll (wantsOf o)) → range x ≡ Within → LoadThen (loadsOf o x) (ownFormats o x) (wordsOf (pairs x))) where
-  made-words : (read : Answer (AskedAll (wantsOf o))) → lineBy read i range pairs .answer ≡ Made → LineWords o read (wordsOf (lineBy read i range pairs .pairs))
+    (form : AskedAll (wantsOf o) → LoadForm) (words : (x : AskedAll (wantsOf o)) → range x ≡ Within → LoadThen (loadsOf o x) (ownFormats o x) (wordsOf (pairs x))) where
+  made-words : (read : Answer (AskedAll (wantsOf o))) → lineBy read i range pairs form .answer ≡ Made → LineWords o read (wordsOf (lineBy read i range pairs form .pairs))
   made-words (Got x) h =
       let ws = words x (within-made (range x) h) in
       record { operands = x; operands-are = refl; loads = ws; formats = all-have (loadsOf o x) ws }
@@ -45,10 +46,10 @@ pub every-word : (o : Operation) (ts : List Token) (i : ℕ) → lineOf o ts i .
 unfolding encodingLine pseudoLine
 every-word (encoded e op) ts i h =
     let read = readOperands (encodingWants e) ts i in
-    made-words (encoded e op) (read .index) (encodingRange e) (encodingPairs e op) (encoding-words e op) (read .answer) h
+    made-words (encoded e op) (read .index) (encodingRange e) (encodingPairs e op) (encodingForm e) (encoding-words e op) (read .answer) h
 every-word (pseudo p) ts i h =
     let read = readOperands (pseudoWants p) ts i in
-    made-words (pseudo p) (read .index) (λ x. Within) (pseudoPairs p) (λ x w. pseudo-words p x) (read .answer) h
+    made-words (pseudo p) (read .index) (λ x. Within) (pseudoPairs p) (pseudoForm p) (λ x w. pseudo-words p x) (read .answer) h
 
 -- the formats of a line whose operands are known
 known : {o : Operation} {x : AskedAll (wantsOf o)} {ws : List ℕ} → LineWords o (Got x) ws → InFormats ws (lineFormats o x)
@@ -63,7 +64,7 @@ pub met :
     let addi = token (RegisterToken Temporary0) ∷ token (RegisterToken Temporary1) ∷ token (IntegerLiteral 32768) ∷ [] in
     InFormats (wordsOf (encodingLine RegisterShift (Func 4) sllv 0 .pairs)) (register 0 10 9 8 0 4 ∷ [])
     × InFormats (wordsOf (encodingLine (Immediate (Some (Func 32))) (Op 8) addi 0 .pairs)) (immediate 13 0 1 32768 ∷ register 0 9 1 8 0 32 ∷ [])
-unfolding encodingLine isImmediate isSmall
+unfolding encodingLine isImmediate isSmall formOf
 met =
     let sllv = token (RegisterToken Temporary0) ∷ token (RegisterToken Temporary1) ∷ token (RegisterToken Temporary2) ∷ [] in
     let addi = token (RegisterToken Temporary0) ∷ token (RegisterToken Temporary1) ∷ token (IntegerLiteral 32768) ∷ [] in

@@ -11,7 +11,9 @@ use Rattle.registers.specs.NumberLaws.{register-lt}
 use Rattle.registers.specs.declared.RegisterSlot.{RegisterSlot}
 use Rattle.registers.specs.declared.RegisterSlot.the-variants.{AssemblerTemporary}
 use Rattle.instructions.specs.declared.Opcode.the-variants.{Op}
-use Rattle.loading.specs.Load.{upperHalf, lowerHalf, isSmall, addiuWord, luiWord, oriWord, wideWords, loadWords}
+use Rattle.loading.specs.Load.{upperHalf, lowerHalf, isSmall, addiuWord, luiWord, oriWord, loadWords}
+use Rattle.loading.specs.LoadLaws.{small-low, form-small, form-ori, form-lui, form-both, words-by}
+use borrow.Author.Tests.{eqb-true, eqb-false}
 use Rattle.operand.specs.declared.InstructionValue.{InstructionValue}
 use Rattle.operand.specs.declared.InstructionValue.the-variants.{Slot, Literal}
 use Rattle.emit_words.specs.Words.{immediateWord}
@@ -76,8 +78,7 @@ named r h =
 -- ---- the formats of the words that load a constant
 
 load-has : (c t : ℕ) → t < 32 → InFormats (loadWords c t) (loadFormats c t)
-unfolding loadWords wideWords
-load-has c t h = go (isSmall c) (eqb (upperHalf c) 0) (eqb (lowerHalf c) 0)
+load-has c t h = go (isSmall c) (eqb (upperHalf c) 0) (eqb (lowerHalf c) 0) refl refl refl
   where
     addiu : InFormats (addiuWord t c ∷ []) (immediate 9 0 t (lowerHalf c) ∷ [])
     addiu = first (has-immediate 9 0 t (lowerHalf c) (lit< tt) (lit< tt) h (omega arith)) no-words
@@ -88,24 +89,22 @@ load-has c t h = go (isSmall c) (eqb (upperHalf c) 0) (eqb (lowerHalf c) 0)
     lui : {ws : List ℕ} {fs : List Format} → InFormats ws fs → InFormats (luiWord t c ∷ ws) (immediate 15 0 t (upperHalf c) ∷ fs)
     lui r = first (has-immediate 15 0 t (upperHalf c) (lit< tt) (lit< tt) h (omega arith)) r
 
-    go : (small upper lower : Bool) → InFormats
-        (elim small [
-          | true ↦ addiuWord t c ∷ []
-          | false ↦ elim upper [
-            | true ↦ elim lower [ true ↦ [] | false ↦ oriWord 0 t c ∷ [] ]
-            | false ↦ luiWord t c ∷ (elim lower [ true ↦ [] | false ↦ oriWord t t c ∷ [] ])
-          ]
-        ])
+    go : (small upper lower : Bool) → isSmall c ≡ small → eqb (upperHalf c) 0 ≡ upper → eqb (lowerHalf c) 0 ≡ lower → InFormats (loadWords c t)
         (elim small [
           | true ↦ immediate 9 0 t (lowerHalf c) ∷ []
           | false ↦ (elim upper [ true ↦ [] | false ↦ immediate 15 0 t (upperHalf c) ∷ [] ])
               ++ (elim lower [ true ↦ [] | false ↦ immediate 13 (elim upper [ true ↦ 0 | false ↦ t ]) t (lowerHalf c) ∷ [] ])
         ])
-    go true upper lower = addiu
-    go false true true = no-words
-    go false true false = ori 0 (lit< tt)
-    go false false true = lui no-words
-    go false false false = lui (ori t h)
+    go true upper lower e f k = rw (words-by c t (form-small c e)) addiu
+    go false true false e f k = rw (words-by c t (form-ori c e (eqb-true (upperHalf c) 0 f))) (ori 0 (lit< tt))
+    go false false true e f k = rw (words-by c t (form-lui c e (eqb-false (upperHalf c) 0 f) (eqb-true (lowerHalf c) 0 k))) (lui no-words)
+    go false false false e f k = rw (words-by c t (form-both c e (eqb-false (upperHalf c) 0 f) (eqb-false (lowerHalf c) 0 k))) (lui (ori t h))
+    -- a constant without halves is small
+    go false true true e f k =
+        let u = eqb-true (upperHalf c) 0 f in
+        let l = eqb-true (lowerHalf c) 0 k in
+        let z : _≡_ {A = ℕ} 0 1 = cc (small-low c (omega arith)) in
+        absurd (omega arith)
 
 loading-has : (l : Option LoadedConstant) → InFormats (loadingWords l) (loadingFormats l)
 loading-has none = no-words

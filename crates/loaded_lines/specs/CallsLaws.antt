@@ -20,6 +20,7 @@ use Rattle.emit_dispatch.specs.Lines.{Line, pseudoLine}
 use Rattle.formats.specs.Operations.{Operation, encoded, pseudo, lineOf, wordsOf}
 use Rattle.emit_bytes.specs.Appended.{wordBytes}
 use Rattle.emit_bytes.specs.AppendedLaws.{words-length}
+use Rattle.loading.specs.declared.LoadForm.{LoadForm}
 use Rattle.emit_outcome.specs.declared.Meaning.{Meaning}
 use Rattle.emit_outcome.specs.declared.Meaning.the-variants.{Table, Builtin, Neither}
 use Rattle.emit_outcome.specs.declared.LineNumbers.{LineNumbers}
@@ -45,7 +46,7 @@ bytes-append (w ∷ ws) vs = ap (λ (bs : List ℕ). le32Bytes w ++ bs) (bytes-a
 
 -- ---- a line that was accepted
 
-module _ (token-list : List ℕ) (line : Location) (numbers : LineNumbers) (lent : Lent) (made : Line) (position : ℕ) where
+module _ (token-list : List ℕ) (line : Location) (numbers : LineNumbers) (lent : Lent) (made : Line) (position : ℕ) (loaded : LoadForm) where
   answer-made : (a : LineAnswer) → answerStop token-list line numbers lent (made .pairs) a ≡ Pass → a ≡ Made
   answer-made Made e = refl
   answer-made (Missed m) e = cc
@@ -53,14 +54,15 @@ module _ (token-list : List ℕ) (line : Location) (numbers : LineNumbers) (lent
 
   record AcceptedLine (o : EmitOutcome) : Type 0 where
     answer-is : made .answer ≡ Made
+    form-is : made .form ≡ loaded
     outcome-is : o ≡ accept token-list line numbers lent made
 
-  by-verdict : (v : Verdict) → lineStop token-list line numbers lent made ≡ v → acceptOr token-list line numbers lent made v .answer ≡ Done position
+  by-verdict : (v : Verdict) → lineStop token-list line numbers lent made ≡ v → acceptOr token-list line numbers lent made v .answer ≡ Done position loaded
       → AcceptedLine (acceptOr token-list line numbers lent made v)
-  by-verdict Pass e h = record { answer-is = answer-made (made .answer) e; outcome-is = refl }
+  by-verdict Pass e h = record { answer-is = answer-made (made .answer) e; form-is = cc; outcome-is = refl }
   by-verdict (Stop r) e h = let z : _≡_ {A = ℕ} 0 1 = cc in absurd (omega arith)
 
-  accepted-line : lineOutcome token-list line numbers lent made .answer ≡ Done position → AcceptedLine (lineOutcome token-list line numbers lent made)
+  accepted-line : lineOutcome token-list line numbers lent made .answer ≡ Done position loaded → AcceptedLine (lineOutcome token-list line numbers lent made)
   unfolding lineOutcome
   accepted-line h = by-verdict (lineStop token-list line numbers lent made) refl h
 
@@ -80,38 +82,39 @@ module _ (c : Call) (fits : c .numbers .counts .«data_len» ≤ length (c .lent
       }
 
 -- the operation of a call, and its line
-pub record AcceptedCall (c : Call) (m : Meaning) (o : EmitOutcome) : Type 0 where
+pub record AcceptedCall (c : Call) (loaded : LoadForm) (m : Meaning) (o : EmitOutcome) : Type 0 where
   pub operation : Operation
   pub means : meant (c .descriptors) m ≡ some operation
   pub made : lineOf operation (tokens (c .token-list)) (startOf c) .answer ≡ Made
+  pub form-is : lineOf operation (tokens (c .token-list)) (startOf c) .form ≡ loaded
   pub appended : Appended c o (wordsOf (lineOf operation (tokens (c .token-list)) (startOf c) .pairs))
 
-module _ (c : Call) (position : ℕ) (fits : c .numbers .counts .«data_len» ≤ length (c .lent .region-data)) where
-  line-appends : (made : Line) → callLine c made .answer ≡ Done position → (made .answer ≡ Made) × Appended c (callLine c made) (wordsOf (made .pairs))
+module _ (c : Call) (position : ℕ) (loaded : LoadForm) (fits : c .numbers .counts .«data_len» ≤ length (c .lent .region-data)) where
+  line-appends : (made : Line) → callLine c made .answer ≡ Done position loaded → (made .answer ≡ Made) × (made .form ≡ loaded) × Appended c (callLine c made) (wordsOf (made .pairs))
   line-appends made h =
-      let a = accepted-line (c .token-list) (mnemonicLocation (c .mnemonic)) (c .numbers) (c .lent) made position h in
-      (a .answer-is, subst (λ (o : EmitOutcome). Appended c o (wordsOf (made .pairs))) (sym (a .outcome-is)) (accept-appends c fits made))
+      let a = accepted-line (c .token-list) (mnemonicLocation (c .mnemonic)) (c .numbers) (c .lent) made position loaded h in
+      (a .answer-is, a .form-is, subst (λ (o : EmitOutcome). Appended c o (wordsOf (made .pairs))) (sym (a .outcome-is)) (accept-appends c fits made))
 
-  accepted-meaning : (m : Meaning) → meaningOutcome c m .answer ≡ Done position → AcceptedCall c m (meaningOutcome c m)
+  accepted-meaning : (m : Meaning) → meaningOutcome c m .answer ≡ Done position loaded → AcceptedCall c loaded m (meaningOutcome c m)
   unfolding tableLine
   accepted-meaning (Table p) h =
       let l = line-appends (tableLine (c .descriptors) p (tokens (c .token-list)) (startOf c)) h in
-      record { operation = encoded (instructionAt (c .descriptors) p .encoding) (instructionAt (c .descriptors) p .opcode); means = refl; made = l .0; appended = l .1 }
+      record { operation = encoded (instructionAt (c .descriptors) p .encoding) (instructionAt (c .descriptors) p .opcode); means = refl; made = l .0; form-is = l .1; appended = l .2 }
   accepted-meaning (Builtin p) h =
       let l = line-appends (pseudoLine p (tokens (c .token-list)) (startOf c)) h in
-      record { operation = pseudo p; means = refl; made = l .0; appended = l .1 }
+      record { operation = pseudo p; means = refl; made = l .0; form-is = l .1; appended = l .2 }
   accepted-meaning Neither h = let z : _≡_ {A = ℕ} 0 1 = cc in absurd (omega arith)
 
-module _ (c : Call) (position : ℕ) where
+module _ (c : Call) (position : ℕ) (loaded : LoadForm) where
   abbrev stop : Verdict
   stop = listStop (c .token-list) (c .mnemonic) (c .descriptors) (c .lent) (c .numbers .place .region) (c .numbers .counts)
 
-  by-lists : (v : Verdict) → stop ≡ v → listOutcome c v .answer ≡ Done position → AcceptedCall c (meaning (c .descriptors) (mnemonicName (c .mnemonic))) (listOutcome c v)
+  by-lists : (v : Verdict) → stop ≡ v → listOutcome c v .answer ≡ Done position loaded → AcceptedCall c loaded (meaning (c .descriptors) (mnemonicName (c .mnemonic))) (listOutcome c v)
   by-lists (Stop r) e h = let z : _≡_ {A = ℕ} 0 1 = cc in absurd (omega arith)
   by-lists Pass e h =
-      accepted-meaning c position (lists-pass (c .token-list) (c .mnemonic) (c .descriptors) (c .lent) (c .numbers .place .region) (c .numbers .counts) e .filled .data-filled)
+      accepted-meaning c position loaded (lists-pass (c .token-list) (c .mnemonic) (c .descriptors) (c .lent) (c .numbers .place .region) (c .numbers .counts) e .filled .data-filled)
       (meaning (c .descriptors) (mnemonicName (c .mnemonic))) h
 
-  pub accepted-call : emitOutcome c .answer ≡ Done position → AcceptedCall c (meaning (c .descriptors) (mnemonicName (c .mnemonic))) (emitOutcome c)
+  pub accepted-call : emitOutcome c .answer ≡ Done position loaded → AcceptedCall c loaded (meaning (c .descriptors) (mnemonicName (c .mnemonic))) (emitOutcome c)
   unfolding emitOutcome
   accepted-call h = by-lists stop refl h

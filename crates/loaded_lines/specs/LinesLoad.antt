@@ -16,6 +16,7 @@ use Rattle.formats.specs.Operations.{Operation, loadsOf, lineOf, wordsOf}
 use Rattle.formats.specs.LineLoads.{LoadedConstant}
 use Rattle.formats.specs.LineFormats.{ownFormats, LoadThen}
 use Rattle.formats.specs.EveryWord.{every-word}
+use Rattle.loading.specs.declared.LoadForm.{LoadForm}
 use Rattle.emit_outcome.specs.declared.EmitAnswer.the-variants.{Done}
 use Rattle.emit_outcome.specs.Call.{Call}
 use Rattle.emit_outcome.specs.Emit.{startOf, emitOutcome}
@@ -38,16 +39,16 @@ line-loads o ts i h =
     record { operands = w .operands; operands-are = w .operands-are; loaded = loaded-first (loadsOf o (w .operands)) (w .loads) }
 
 -- every accepted call
-pub call-loads : (c : Call) (position : ℕ) → emitOutcome c .answer ≡ Done position → LoadedCall c
-call-loads c position h =
-    let a = accepted-call c position h in
+pub call-loads : (c : Call) (position : ℕ) (loaded : LoadForm) → emitOutcome c .answer ≡ Done position loaded → LoadedCall c
+call-loads c position loaded h =
+    let a = accepted-call c position loaded h in
     record { operation = a .operation; means = a .means; made = a .made; line = line-loads (a .operation) _ _ (a .made); appended = a .appended }
 
 -- every accepted call whose line loads a constant
-pub constant-appended : (c : Call) (position : ℕ) → emitOutcome c .answer ≡ Done position → (l : LoadedConstant)
+pub constant-appended : (c : Call) (position : ℕ) (loaded : LoadForm) → emitOutcome c .answer ≡ Done position loaded → (l : LoadedConstant)
     → callLoads c ≡ some l → ConstantAppended c l
-constant-appended c position h l e =
-    let r = call-loads c position h in
+constant-appended c position loaded h l e =
+    let r = call-loads c position loaded h in
     let own = ownFormats (r .operation) (r .line .operands) in
     let ws = wordsOf (lineOf (r .operation) (tokens (c .token-list)) (startOf c) .pairs) in
     let k : loadsOf (r .operation) (r .line .operands) ≡ some l = sym (ap (meantLoads c) (r .means) ∙ ap (readLoads (r .operation)) (r .line .operands-are)) ∙ e in

@@ -3,3 +3,4 @@ pub mod LoadLaws
 pub mod Run
 pub mod Loading
 pub mod Contract
+pub mod ContractLaws

@@ -1,11 +1,14 @@
--- Which words load a constant, case by case. Assumes nothing.
-use mathlib.Core.Path.{_≡_, refl, _∙_}
-use mathlib.Core.List.{[], _∷_}
+-- Which form a constant has and which words load it, case by case. Assumes nothing.
+use mathlib.Core.Path.{_≡_, refl}
 use mathlib.Core.Bool.{Bool, true, false, _||_}
 use Prim.Native.Nat.{ℕ, _-_, _^_, _<_, _≤_}
-use lib.Dec.{leb, ltb}
-use borrow.Author.Tests.{lt-ltb, le-ltb, le-leb, lt-leb, eq-eqb, ne-eqb}
-use Rattle.loading.specs.Load.{low32, upperHalf, lowerHalf, isSmall, addiuWord, luiWord, oriWord, wideWords, loadWords}
+use native.Mathlib.Omega.{arith}
+use lib.ListN.{length}
+use lib.Dec.{leb, ltb, eqb}
+use borrow.Author.Tests.{lt-ltb, le-ltb, le-leb, lt-leb, eq-eqb, ne-eqb, eqb-true, eqb-false}
+use Rattle.loading.specs.Load.{low32, upperHalf, lowerHalf, isSmall, formOf, formWords, loadWords}
+use Rattle.loading.specs.declared.LoadForm.{LoadForm}
+use Rattle.loading.specs.declared.LoadForm.the-variants.{Addiu, Ori, Lui, BothHalves}
 
 pub small-low : (c : ℕ) → low32 c < 32768 → isSmall c ≡ true
 unfolding isSmall
@@ -23,23 +26,35 @@ pub not-small : (c : ℕ) → 32768 ≤ low32 c → low32 c < 2 ^ 32 - 32768 →
 unfolding isSmall
 not-small c h k = rw (le-ltb (low32 c) 32768 h, lt-leb (2 ^ 32 - 32768) (low32 c) k)
 
-module _ (c t : ℕ) where
-  pub words-small : isSmall c ≡ true → loadWords c t ≡ addiuWord t c ∷ []
-  unfolding loadWords
-  words-small e = rw (e, loadWords)
+-- ---- the form
+module _ (c : ℕ) where
+  pub form-small : isSmall c ≡ true → formOf c ≡ Addiu
+  unfolding formOf
+  form-small e = rw (e, formOf)
 
-  wide-is : isSmall c ≡ false → loadWords c t ≡ wideWords c t
-  unfolding loadWords
-  wide-is e = rw (e, loadWords)
+  pub form-ori : isSmall c ≡ false → upperHalf c ≡ 0 → formOf c ≡ Ori
+  unfolding formOf
+  form-ori e u = rw (e, eq-eqb (upperHalf c) 0 u, formOf)
 
-  pub words-ori : isSmall c ≡ false → upperHalf c ≡ 0 → (lowerHalf c ≡ 0 → ⊥) → loadWords c t ≡ oriWord 0 t c ∷ []
-  unfolding wideWords
-  words-ori e u l = wide-is e ∙ rw (eq-eqb (upperHalf c) 0 u, wideWords) (rw (ne-eqb (lowerHalf c) 0 l))
+  pub form-lui : isSmall c ≡ false → (upperHalf c ≡ 0 → ⊥) → lowerHalf c ≡ 0 → formOf c ≡ Lui
+  unfolding formOf
+  form-lui e u l = rw (e, ne-eqb (upperHalf c) 0 u, eq-eqb (lowerHalf c) 0 l, formOf)
 
-  pub words-lui : isSmall c ≡ false → (upperHalf c ≡ 0 → ⊥) → lowerHalf c ≡ 0 → loadWords c t ≡ luiWord t c ∷ []
-  unfolding wideWords
-  words-lui e u l = wide-is e ∙ rw (ne-eqb (upperHalf c) 0 u, wideWords) (rw (eq-eqb (lowerHalf c) 0 l))
+  pub form-both : isSmall c ≡ false → (upperHalf c ≡ 0 → ⊥) → (lowerHalf c ≡ 0 → ⊥) → formOf c ≡ BothHalves
+  unfolding formOf
+  form-both e u l = rw (e, ne-eqb (upperHalf c) 0 u, ne-eqb (lowerHalf c) 0 l, formOf)
 
-  pub words-both : isSmall c ≡ false → (upperHalf c ≡ 0 → ⊥) → (lowerHalf c ≡ 0 → ⊥) → loadWords c t ≡ luiWord t c ∷ oriWord t t c ∷ []
-  unfolding wideWords
-  words-both e u l = wide-is e ∙ rw (ne-eqb (upperHalf c) 0 u, wideWords) (rw (ne-eqb (lowerHalf c) 0 l))
+-- ---- the words, by the form
+pub words-by : (c t : ℕ) {f : LoadForm} → formOf c ≡ f → loadWords c t ≡ formWords f c t
+unfolding loadWords
+words-by c t e = rw e
+
+-- a constant takes one word or two
+pub load-length : (c t : ℕ) → (1 ≤ length (loadWords c t)) × (length (loadWords c t) ≤ 2)
+load-length c t = go (isSmall c) refl (eqb (upperHalf c) 0) refl (eqb (lowerHalf c) 0) refl
+  where
+    go : (b : Bool) → isSmall c ≡ b → (u : Bool) → eqb (upperHalf c) 0 ≡ u → (l : Bool) → eqb (lowerHalf c) 0 ≡ l → (1 ≤ length (loadWords c t)) × (length (loadWords c t) ≤ 2)
+    go true e u f l k = rw (words-by c t (form-small c e)) (omega arith)
+    go false e true f l k = rw (words-by c t (form-ori c e (eqb-true (upperHalf c) 0 f))) (omega arith)
+    go false e false f true k = rw (words-by c t (form-lui c e (eqb-false (upperHalf c) 0 f) (eqb-true (lowerHalf c) 0 k))) (omega arith)
+    go false e false f false k = rw (words-by c t (form-both c e (eqb-false (upperHalf c) 0 f) (eqb-false (lowerHalf c) 0 k))) (omega arith)

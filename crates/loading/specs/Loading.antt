@@ -12,7 +12,7 @@ use borrow.Author.Tests.{lt-ltb, le-ltb, ltb-true, leb-true, eqb-true, eqb-false
 use Rattle.word.specs.Layout.{immediateLayout}
 use Rattle.word.specs.LayoutLaws.{get-opcode, get-rs, get-rt, get-immediate}
 use Rattle.loading.specs.Load.{low32, upperHalf, lowerHalf, isSmall, addiuWord, luiWord, oriWord, loadWords}
-use Rattle.loading.specs.LoadLaws.{small-low, words-small, words-ori, words-lui, words-both}
+use Rattle.loading.specs.LoadLaws.{form-small, form-ori, form-lui, form-both, words-by}
 use Rattle.loading.specs.Run.{Registers, readRegister, writeRegister, signed16, ran, execute, step, run}
 
 -- ---- one register
@@ -152,15 +152,10 @@ module _ (c t : ℕ) (g : Registers) (ht : t < 32) (hg : length g ≡ 32) where
   loading-runs = go (isSmall c) refl (eqb (upperHalf c) 0) refl (eqb (lowerHalf c) 0) refl
     where
       go : (b : Bool) → isSmall c ≡ b → (u : Bool) → eqb (upperHalf c) 0 ≡ u → (l : Bool) → eqb (lowerHalf c) 0 ≡ l → run (loadWords c t) g ≡ ran (writeRegister g t (low32 c))
-      go true e u f l k = rw (words-small c t e) (addiu-alone e)
-      go false e false f false k = rw (words-both c t e (eqb-false (upperHalf c) 0 f) (eqb-false (lowerHalf c) 0 k)) both
-      go false e false f true k = let z = eqb-true (lowerHalf c) 0 k in rw (words-lui c t e (eqb-false (upperHalf c) 0 f) z) (lui-alone z)
-      go false e true f false k = let z = eqb-true (upperHalf c) 0 f in rw (words-ori c t e z (eqb-false (lowerHalf c) 0 k)) (ori-alone z)
-      go false e true f true k =
-          let u = eqb-true (upperHalf c) 0 f in
-          let l = eqb-true (lowerHalf c) 0 k in
-          let h : low32 c < 32768 = omega arith in
-          cc (small-low c h)
+      go true e u f l k = rw (words-by c t (form-small c e)) (addiu-alone e)
+      go false e false f false k = rw (words-by c t (form-both c e (eqb-false (upperHalf c) 0 f) (eqb-false (lowerHalf c) 0 k))) both
+      go false e false f true k = let z = eqb-true (lowerHalf c) 0 k in rw (words-by c t (form-lui c e (eqb-false (upperHalf c) 0 f) z)) (lui-alone z)
+      go false e true f l k = let z = eqb-true (upperHalf c) 0 f in rw (words-by c t (form-ori c e z)) (ori-alone z)
 
 -- What loading does, for every constant, register and what the registers held.
 pub record Loads (c t : ℕ) (g : Registers) : Type 0 where

@@ -9,45 +9,57 @@ use instructions::Opcode;
 use registers::RegisterSlot;
 use word::InstructionBuilder;
 
-// One or two words and their count; a word that is not used is 0.
+// How a constant is loaded: addiu alone, ori alone, lui alone, or both halves; or that none is.
+pub enum LoadForm {
+    Nothing,
+    Addiu,
+    Ori,
+    Lui,
+    BothHalves,
+}
+
+// One or two words, their count and their form; a word that is not used is 0.
 pub struct Loaded {
     pub words: [u32; 2],
     pub count: usize,
+    pub form: LoadForm,
 }
 
 // The words that load the constant's low 32 bits into a register.
 pub fn load_immediate(constant: u64, into: RegisterSlot) -> Loaded
-    ensures { λ r. ⌜ LoadedIs constant (registerNumber into) (r .words) (r .count) ⌝ }
+    ensures { λ r. ⌜ LoadedIs constant (registerNumber into) (r .words) (r .count) (r .form) ⌝ }
 {
     let low = (constant % 0x1_0000_0000) as u32;
     let top = (low / 0x1_0000) as u16;
     let bottom = (low % 0x1_0000) as u16;
     if low < 0x8000 {
-        return one(from_zero(9, into, bottom));
+        return one(LoadForm::Addiu, from_zero(9, into, bottom));
     }
     if 0xFFFF_8000 <= low {
-        return one(from_zero(9, into, bottom));
+        return one(LoadForm::Addiu, from_zero(9, into, bottom));
     }
     if top == 0 {
-        return one(from_zero(13, into, bottom));
+        return one(LoadForm::Ori, from_zero(13, into, bottom));
     }
     let lui = from_zero(15, into, top);
     if bottom == 0 {
-        return one(lui);
+        return one(LoadForm::Lui, lui);
     }
     let ori = ori_after_lui(into, bottom);
     Loaded {
         words: [lui, ori],
         count: 2,
+        form: LoadForm::BothHalves,
     }
 }
 
-fn one(word: u32) -> Loaded
-    ensures { λ r. ⌜ (r .words ≡ word ∷ 0 ∷ []) × (r .count ≡ 1) ⌝ }
+fn one(form: LoadForm, word: u32) -> Loaded
+    ensures { λ r. ⌜ (r .words ≡ word ∷ 0 ∷ []) × (r .count ≡ 1) × (r .form ≡ form) ⌝ }
 {
     Loaded {
         words: [word, 0],
         count: 1,
+        form,
     }
 }
 

@@ -55,7 +55,7 @@ countWords c = c .«data_len» ∷ c .pending ∷ c .breakpoints ∷ []
 
 -- a refused line leaves their bytes
 abbrev pub countsAfter : EmitAnswer → FillCounts → List ℕ → List ℕ
-countsAfter (Done position) c counts = append counts 0 (wordsAsBytes (countWords c))
+countsAfter (Done position loaded) c counts = append counts 0 (wordsAsBytes (countWords c))
 countsAfter (LineRefused r position) c counts = counts
 
 pub record LinkedLine : Type 0 where

@@ -5,9 +5,11 @@ ghost use lib.IntN.{pos};
 ghost use lib.ListN.{length};
 ghost use Rattle.record.specs.Stores.{append};
 ghost use Rattle.refusal.specs.Numbers.{zeroLocation, numbered};
+ghost use Rattle.emit_outcome.specs.Returned.{formNumber};
 ghost use Rattle.nazgwern.specs.Words.{lowWord, answerWords, builtWords, emittedWords, wordsAsBytes};
 use build_outcome::Built;
 use emit_outcome::EmitAnswer;
+use loading::LoadForm;
 use refusal::Refusal;
 
 // The number's low 32 bits.
@@ -23,11 +25,24 @@ fn low_word(a: i64) -> u32
     }
 }
 
-// The words of what is done.
-fn done_words(last: u32) -> [u32; 6]
-    ensures { λ r. ⌜ r ≡ answerWords 0 zeroLocation (pos 0) 0 last ⌝ }
+// How a line's constant is loaded, as a number.
+fn form_number(form: LoadForm) -> u32
+    ensures { λ r. ⌜ r ≡ formNumber form ⌝ }
 {
-    [0, 0, 0, 0, 0, last]
+    match form {
+        LoadForm::Nothing => 0,
+        LoadForm::Addiu => 1,
+        LoadForm::Ori => 2,
+        LoadForm::Lui => 3,
+        LoadForm::BothHalves => 4,
+    }
+}
+
+// The words of what is done.
+fn done_words(a: u32, last: u32) -> [u32; 6]
+    ensures { λ r. ⌜ r ≡ answerWords 0 zeroLocation (pos a) 0 last ⌝ }
+{
+    [0, 0, 0, a, 0, last]
 }
 
 // The words of a refusal.
@@ -44,7 +59,7 @@ pub fn built_words(built: Built) -> [u32; 6]
     ensures { λ r. ⌜ r ≡ builtWords built ⌝ }
 {
     match built {
-        Built::Entry(address) => done_words(address),
+        Built::Entry(address) => done_words(0, address),
         Built::Refused(refusal) => refusal_words(refusal, 0),
     }
 }
@@ -54,7 +69,7 @@ pub fn emitted_words(answer: EmitAnswer) -> [u32; 6]
     ensures { λ r. ⌜ r ≡ emittedWords answer ⌝ }
 {
     match answer {
-        EmitAnswer::Done(position) => done_words(position),
+        EmitAnswer::Done { position, loaded } => done_words(form_number(loaded), position),
         EmitAnswer::Refused(refusal, position) => refusal_words(refusal, position),
     }
 }

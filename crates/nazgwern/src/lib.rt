@@ -62,7 +62,10 @@ fn put_counts(counts: &mut [u8], answer: EmitAnswer, filled: FillCounts)
     ensures { λ _. ⌜ now (counts .exit) ≡ countsAfter answer filled (now (counts .entry)) ⌝ }
 {
     match answer {
-        EmitAnswer::Done(_) => {
+        EmitAnswer::Done {
+            position: _,
+            loaded: _,
+        } => {
             let words = [filled.data_len, filled.pending, filled.breakpoints];
             answer::store_words(counts, &words[..]);
         }

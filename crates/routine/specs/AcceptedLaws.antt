@@ -14,6 +14,7 @@ use Rattle.breakpoints.specs.Breakpoints.{dataBufferLayout, pendingBufferLayout
 use Rattle.emit_dispatch.specs.declared.LineAnswer.{LineAnswer}
 use Rattle.emit_dispatch.specs.declared.LineAnswer.the-variants.{Made, Missed, OutOfRange}
 use Rattle.emit_dispatch.specs.Lines.{Line, pseudoLine}
+use Rattle.loading.specs.declared.LoadForm.{LoadForm}
 use Rattle.emit_outcome.specs.Call.{Call, EmitOutcome}
 use Rattle.emit_outcome.specs.Checks.{layoutStop, listStop}
 use Rattle.emit_outcome.specs.Dispatch.{meaning, tableLine}
@@ -74,14 +75,14 @@ module _ (c : Call) where
   answer-made made (Missed m) e = cc
   answer-made made OutOfRange e = cc
 
-  line-passes : (made : Line) (position : ℕ) → callLine c made .answer ≡ Done position → LinePasses made
+  line-passes : (made : Line) (position : ℕ) (loaded : LoadForm) → callLine c made .answer ≡ Done position loaded → LinePasses made
   unfolding lineOutcome
-  line-passes made position d = go (stopOf made) refl d
+  line-passes made position loaded d = go (stopOf made) refl d
     where
       outcome : Verdict → EmitOutcome
       outcome = acceptOr (c .token-list) (mnemonicLocation (c .mnemonic)) (c .numbers) (c .lent) made
 
-      go : (v : Verdict) → stopOf made ≡ v → outcome v .answer ≡ Done position → LinePasses made
+      go : (v : Verdict) → stopOf made ≡ v → outcome v .answer ≡ Done position loaded → LinePasses made
       go Pass p d = record { made-is = answer-made made (made .answer) p; passes = p; outcome-is = ap outcome p }
       go (Stop r) p d = let z : _≡_ {A = ℕ} 0 1 = cc in absurd (omega arith)
 
@@ -95,15 +96,15 @@ module _ (c : Call) where
     pub words : Words (c .token-list) 1 5 (made .pairs)
     pub outcome-is : emitOutcome c ≡ acceptLine c made
 
-  module _ (position : ℕ) (bytes : Bytes (c .token-list)) where
-    accepted-as : callStop c ≡ Pass → (m : Meaning) → meaning (c .descriptors) (mnemonicName (c .mnemonic)) ≡ m → meaningOutcome c m .answer ≡ Done position → AcceptedCall
+  module _ (position : ℕ) (loaded : LoadForm) (bytes : Bytes (c .token-list)) where
+    accepted-as : callStop c ≡ Pass → (m : Meaning) → meaning (c .descriptors) (mnemonicName (c .mnemonic)) ≡ m → meaningOutcome c m .answer ≡ Done position loaded → AcceptedCall
     unfolding emitOutcome callPairs tableLine
     accepted-as s (Table p) e d =
         let ts = tokens (c .token-list) in
         let made = tableLine (c .descriptors) p ts (startOf c) in
         let i = instructionAt (c .descriptors) p in
         let lists = lists-pass c s in
-        let l = line-passes made position d in
+        let l = line-passes made position loaded d in
         record {
           lists = lists;
           made = made;
@@ -116,7 +117,7 @@ module _ (c : Call) where
         let ts = tokens (c .token-list) in
         let made = pseudoLine p ts (startOf c) in
         let lists = lists-pass c s in
-        let l = line-passes made position d in
+        let l = line-passes made position loaded d in
         record {
           lists = lists;
           made = made;
@@ -127,10 +128,10 @@ module _ (c : Call) where
         }
     accepted-as s Neither e d = let z : _≡_ {A = ℕ} 0 1 = cc in absurd (omega arith)
 
-    pub accepted : emitOutcome c .answer ≡ Done position → AcceptedCall
+    pub accepted : emitOutcome c .answer ≡ Done position loaded → AcceptedCall
     unfolding emitOutcome
     accepted d = go (callStop c) refl d
       where
-        go : (v : Verdict) → callStop c ≡ v → listOutcome c v .answer ≡ Done position → AcceptedCall
+        go : (v : Verdict) → callStop c ≡ v → listOutcome c v .answer ≡ Done position loaded → AcceptedCall
         go Pass s d = accepted-as s (meaning (c .descriptors) (mnemonicName (c .mnemonic))) refl d
         go (Stop r) s d = let z : _≡_ {A = ℕ} 0 1 = cc in absurd (omega arith)

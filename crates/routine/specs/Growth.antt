@@ -10,6 +10,7 @@ use Rattle.emit_pairs.specs.declared.InstructionPair.{InstructionPair}
 use Rattle.emit_bytes.specs.AppendedLaws.{pendings-length}
 use Rattle.emit_outcome.specs.Call.{Call, EmitOutcome}
 use Rattle.emit_outcome.specs.Emit.{emitOutcome}
+use Rattle.loading.specs.declared.LoadForm.{LoadForm}
 use Rattle.emit_outcome.specs.declared.EmitAnswer.the-variants.{Done}
 use Rattle.emit_outcome.specs.declared.FillCounts.{FillCounts}
 use Rattle.finished_words.specs.Listed.{Bytes}
@@ -25,9 +26,9 @@ pub record Grows (before after : FillCounts) : Type 0 where
   -- head and location are 12 bytes, "then one 4-byte pc a word"
   pub breakpoints-most : after .breakpoints ≤ before .breakpoints + 32
 
-pub line-grows : (c : Call) (position : ℕ) → Bytes (c .token-list) → emitOutcome c .answer ≡ Done position → Grows (c .numbers .counts) (emitOutcome c .counts)
-line-grows c position bytes e =
-    let a = accepted c position bytes e in
+pub line-grows : (c : Call) (position : ℕ) (loaded : LoadForm) → Bytes (c .token-list) → emitOutcome c .answer ≡ Done position loaded → Grows (c .numbers .counts) (emitOutcome c .counts)
+line-grows c position loaded bytes e =
+    let a = accepted c position loaded bytes e in
     let pairs = a .made .pairs in
     let line = mnemonicLocation (c .mnemonic) in
     let two : waits pairs ≤ 2 = subst (λ (ps : List InstructionPair). waits ps ≤ 2) (sym (a .pairs-are)) (call-waits c) in

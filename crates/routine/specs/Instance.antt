@@ -13,7 +13,8 @@ use Rattle.record.specs.declared.Location.{Location}
 use Rattle.record.specs.declared.Layout.the-variants.{Good}
 use Rattle.refusal.specs.declared.Verdict.the-variants.{Pass}
 use Rattle.names.specs.Names.{firstNamed, firstLater, firstRepeat}
-use Rattle.loading.specs.Load.{isSmall, wideWords, loadWords}
+use Rattle.loading.specs.declared.LoadForm.the-variants.{Nothing as Unloaded, BothHalves}
+use Rattle.loading.specs.Load.{isSmall, formOf, loadWords}
 use Rattle.lexer.specs.Tokens.{payloadOf, payloadOk, tokenOk, tokenLayout, tokens}
 use Rattle.address_label.specs.AddressLabels.{addressLabelOk}
 use Rattle.pending.specs.Pendings.{pendingOk, pendingLayout}
@@ -131,8 +132,8 @@ record Computed : Type 0 where
   breakpoints-come-to : routineBreakpoints example start ≡ breakpoints
 
 computed : Computed
-unfolding routineWords routinePatches routineBreakpoints patchesFrom pcsFrom callPairs emitOutcome lineOutcome listStop layoutStop roomStop edgeStop meaning wordBytes pendingsBytes pcsBytes append pseudoIn pseudoLine loadPairs labelPairs breakpointOk filledLayout pendingBufferLayout breakpointBufferLayout dataBufferLayout descriptorLayout mnemonicOk oneMnemonic mnemonicLayout mnemonicName readOperand readOperands symbolLabel toLabel getLabel getRegister signed getInteger getConstant passed peek step nextAdjacent peekAdjacent pendingOk addressLabelOk payloadOf payloadOk tokenOk tokenLayout tokens isSmall wideWords loadWords firstNamed firstLater firstRepeat placesF placesFrom places firstBad firstBadOf withinLimit all sameBytes
-computed = record { accepted = next 3 refl (next 3 refl (next 1 refl none)); words-come-to = refl; patches-come-to = refl; breakpoints-come-to = refl }
+unfolding routineWords routinePatches routineBreakpoints patchesFrom pcsFrom callPairs emitOutcome lineOutcome listStop layoutStop roomStop edgeStop meaning wordBytes pendingsBytes pcsBytes append pseudoIn pseudoLine loadPairs labelPairs breakpointOk filledLayout pendingBufferLayout breakpointBufferLayout dataBufferLayout descriptorLayout mnemonicOk oneMnemonic mnemonicLayout mnemonicName readOperand readOperands symbolLabel toLabel getLabel getRegister signed getInteger getConstant passed peek step nextAdjacent peekAdjacent pendingOk addressLabelOk payloadOf payloadOk tokenOk tokenLayout tokens isSmall formOf loadWords firstNamed firstLater firstRepeat placesF placesFrom places firstBad firstBadOf withinLimit all sameBytes
+computed = record { accepted = next 3 BothHalves refl (next 3 Unloaded refl (next 1 Unloaded refl none)); words-come-to = refl; patches-come-to = refl; breakpoints-come-to = refl }
 
 -- ---- and what the theorem says of them
 

@@ -9,6 +9,7 @@ use Rattle.record.specs.declared.Layout.the-variants.{Good}
 use Rattle.pending.specs.Pendings.{pendingLayout}
 use Rattle.breakpoints.specs.Breakpoints.{regionNumberOk, dataBufferLayout, pendingBufferLayout, breakpointBufferLayout}
 use Rattle.emit_bytes.specs.Appended.{wordBytes}
+use Rattle.loading.specs.declared.LoadForm.{LoadForm}
 use Rattle.emit_outcome.specs.Call.{Lent, Call, EmitOutcome}
 use Rattle.emit_outcome.specs.Emit.{emitOutcome}
 use Rattle.emit_outcome.specs.declared.EmitAnswer.the-variants.{Done}
@@ -60,7 +61,7 @@ accept-fits c a mnemonic = record {
   breakpoints-are = breakpoints-read c a mnemonic;
 }
 
-pub line-fits : (c : Call) (position : ℕ) → Bytes (c .token-list) → Bytes (c .mnemonic) → emitOutcome c .answer ≡ Done position → LineFits c (emitOutcome c)
-line-fits c position tokens mnemonic e =
-    let a = accepted c position tokens e in
+pub line-fits : (c : Call) (position : ℕ) (loaded : LoadForm) → Bytes (c .token-list) → Bytes (c .mnemonic) → emitOutcome c .answer ≡ Done position loaded → LineFits c (emitOutcome c)
+line-fits c position loaded tokens mnemonic e =
+    let a = accepted c position loaded tokens e in
     subst (LineFits c) (sym (a .outcome-is)) (accept-fits c a mnemonic)

@@ -144,9 +144,9 @@ run-fits [] b bytes a s = record {
   grown = λ region. omega arith;
   inside = tt;
 }
-run-fits (l ∷ ls) b bytes (next position e a) s =
+run-fits (l ∷ ls) b bytes (next position loaded e a) s =
     let c = callOn l b in
-    let f = line-fits c position (bytes .0 .0) (bytes .0 .1) e in
+    let f = line-fits c position loaded (bytes .0 .0) (bytes .0 .1) e in
     let r = run-fits ls (afterLine l b) (bytes .1) a (after-sound l b s f) in
     record {
       sound = r .sound;

@@ -8,6 +8,7 @@ use lib.ListN.{length, take}
 use lib.Dec.{eqb}
 use Rattle.record.specs.Records.{limit}
 use Rattle.emit_bytes.specs.Appended.{wordBytes}
+use Rattle.loading.specs.declared.LoadForm.{LoadForm}
 use Rattle.emit_outcome.specs.Call.{Call, callOf, lentOf}
 use Rattle.emit_outcome.specs.Emit.{emitOutcome}
 use Rattle.emit_outcome.specs.declared.EmitAnswer.the-variants.{Done}
@@ -70,8 +71,8 @@ run (l ∷ ls) b = run ls (afterLine l b)
 -- each line is accepted
 pub data AllAccepted : List RoutineLine → Buffers → Type 0 where
   none : {b : Buffers} → AllAccepted [] b
-  next : {l : RoutineLine} {ls : List RoutineLine} {b : Buffers} (position : ℕ)
-      → emitOutcome (callOn l b) .answer ≡ Done position → AllAccepted ls (afterLine l b) → AllAccepted (l ∷ ls) b
+  next : {l : RoutineLine} {ls : List RoutineLine} {b : Buffers} (position : ℕ) (loaded : LoadForm)
+      → emitOutcome (callOn l b) .answer ≡ Done position loaded → AllAccepted ls (afterLine l b) → AllAccepted (l ∷ ls) b
 
 -- what holds of each of a list
 abbrev pub Each : {A : Type 0} → (A → Type 0) → List A → Type 0

@@ -17,6 +17,7 @@ use Rattle.instructions.specs.declared.Encoding.the-variants.{Register, Registe
 use Rattle.pseudo_names.specs.declared.Pseudo.{Pseudo}
 use Rattle.pseudo_names.specs.declared.Pseudo.the-variants.{Nop, Abs, BranchCustom, SetCustom, Beqz, Bnez, Seq, Sne, Neg, Negu, Not, Li, La, Move, B, Subi, Subiu}
 use Rattle.loading.specs.Load.{loadWords}
+use Rattle.loading.specs.declared.LoadForm.{LoadForm}
 use Rattle.lexer.specs.Tokens.{tokens}
 use Rattle.address_label.specs.LabelBytes.{nameBytes, LabelFits}
 use Rattle.address_label.specs.declared.AddressLabel.{AddressLabel}
@@ -42,7 +43,7 @@ use Rattle.emit_bytes.specs.Appended.{pairLen, pendingsLen}
 use Rattle.emit_integer.specs.IntegerWords.{inputsPairs}
 use Rattle.emit_pseudo.specs.PseudoWords.{turned, snePairs}
 use Rattle.emit_dispatch.specs.Wants.{encodingWants, pseudoWants}
-use Rattle.emit_dispatch.specs.Lines.{encodingPairs, pseudoPairs, encodingRange, lineBy, encodingLine, pseudoLine}
+use Rattle.emit_dispatch.specs.Lines.{encodingPairs, pseudoPairs, encodingForm, pseudoForm, encodingRange, lineBy, encodingLine, pseudoLine}
 use Rattle.emit_outcome.specs.Call.{Call}
 use Rattle.emit_outcome.specs.Dispatch.{meaning, tableLine}
 use Rattle.emit_outcome.specs.Emit.{startOf}
@@ -195,10 +196,11 @@ pseudo-waits B x = omega arith
 pseudo-waits Subi x = omega (arith, immediate-waits (Op 8) (SomeAlternative (Func 32)) (registerNumber (x .0)) (registerNumber (x .1)) (withSign true (x .2)))
 pseudo-waits Subiu x = omega (arith, immediate-waits (Op 9) (SomeAlternative (Func 33)) (registerNumber (x .0)) (registerNumber (x .1)) (withSign true (x .2)))
 
-line-waits : {A : Type 0} (a : Answer A) (i : ℕ) (range : A → Range) (pairs : A → List InstructionPair) → ((x : A) → waits (pairs x) ≤ 2) → waits (lineBy a i range pairs .pairs) ≤ 2
+line-waits : {A : Type 0} (a : Answer A) (i : ℕ) (range : A → Range) (pairs : A → List InstructionPair) (form : A → LoadForm)
+    → ((x : A) → waits (pairs x) ≤ 2) → waits (lineBy a i range pairs form .pairs) ≤ 2
 unfolding waits
-line-waits (Got x) i range pairs h = h x
-line-waits (Missed m) i range pairs h = omega arith
+line-waits (Got x) i range pairs form h = h x
+line-waits (Missed m) i range pairs form h = omega arith
 
 module _ (c : Call) where
   pub meaning-waits : (m : Meaning) → waits (meaningPairs c m) ≤ 2
@@ -206,10 +208,11 @@ module _ (c : Call) where
   meaning-waits (Table p) =
       let x = instructionAt (c .descriptors) p in
       let read = readOperands (encodingWants (x .encoding)) (tokens (c .token-list)) (startOf c) in
-      line-waits (read .answer) (read .index) (encodingRange (x .encoding)) (encodingPairs (x .encoding) (x .opcode)) (encoding-waits (x .encoding) (x .opcode))
+      line-waits (read .answer) (read .index) (encodingRange (x .encoding)) (encodingPairs (x .encoding) (x .opcode)) (encodingForm (x .encoding))
+      (encoding-waits (x .encoding) (x .opcode))
   meaning-waits (Builtin p) =
       let read = readOperands (pseudoWants p) (tokens (c .token-list)) (startOf c) in
-      line-waits (read .answer) (read .index) (λ x. Within) (pseudoPairs p) (pseudo-waits p)
+      line-waits (read .answer) (read .index) (λ x. Within) (pseudoPairs p) (pseudoForm p) (pseudo-waits p)
   meaning-waits Neither = omega arith
 
   pub call-waits : waits (callPairs c) ≤ 2

@@ -40,7 +40,8 @@ use Rattle.emit_pairs.specs.Values.{valuePairs, constantPairs, basePairs, offse
 use Rattle.emit_integer.specs.IntegerWords.{inputsPairs}
 use Rattle.emit_pseudo.specs.PseudoWords.{turned}
 use Rattle.emit_dispatch.specs.Wants.{encodingWants, pseudoWants}
-use Rattle.emit_dispatch.specs.Lines.{encodingPairs, pseudoPairs, encodingRange, rangeAnswer, lineBy, encodingLine, pseudoLine}
+use Rattle.loading.specs.declared.LoadForm.{LoadForm}
+use Rattle.emit_dispatch.specs.Lines.{encodingPairs, pseudoPairs, encodingForm, pseudoForm, encodingRange, rangeAnswer, lineBy, encodingLine, pseudoLine}
 use Rattle.emit_dispatch.specs.declared.LineAnswer.the-variants.{Made}
 use Rattle.routine.specs.TokenLaws.{TokenFits}
 use Rattle.routine.specs.ReadLaws.{Of, OffsetFits, AllFit, operands-fit}
@@ -186,14 +187,14 @@ module _ (names : List ℕ) where
 
   -- ---- what was read, made into words
 
-  line-words : {A : Type 0} (fits : A → Type 0) (range : A → Range) (pairs : A → List InstructionPair) → ((x : A) → fits x → range x ≡ Within → Words 1 5 (pairs x))
-      → (a : Answer A) (i : ℕ) → Of fits a → lineBy a i range pairs .answer ≡ Made → Words 1 5 (lineBy a i range pairs .pairs)
-  line-words fits range pairs w (Got x) i h e = w x h (within (range x) e)
+  line-words : {A : Type 0} (fits : A → Type 0) (range : A → Range) (pairs : A → List InstructionPair) (form : A → LoadForm) → ((x : A) → fits x → range x ≡ Within → Words 1 5 (pairs x))
+      → (a : Answer A) (i : ℕ) → Of fits a → lineBy a i range pairs form .answer ≡ Made → Words 1 5 (lineBy a i range pairs form .pairs)
+  line-words fits range pairs form w (Got x) i h e = w x h (within (range x) e)
     where
       within : (r : Range) → rangeAnswer r ≡ Made → r ≡ Within
       within Within q = refl
       within Outside q = cc
-  line-words fits range pairs w (Missed m) i h e =
+  line-words fits range pairs form w (Missed m) i h e =
       let z : _≡_ {A = ℕ} 0 1 = cc in
       absurd (omega arith)
 
@@ -201,11 +202,11 @@ module _ (names : List ℕ) (ts : List Token) (fit : (i : ℕ) → TokenFits nam
   pub encoding-made : (e : Encoding) (op : Opcode) (i : ℕ) → encodingLine e op ts i .answer ≡ Made → Words names 1 5 (encodingLine e op ts i .pairs)
   unfolding encodingLine
   encoding-made e op i =
-      line-words names (AllFit names (encodingWants e)) (encodingRange e) (encodingPairs e op) (encoding-words names e op)
+      line-words names (AllFit names (encodingWants e)) (encodingRange e) (encodingPairs e op) (encodingForm e) (encoding-words names e op)
       (readOperands (encodingWants e) ts i .answer) (readOperands (encodingWants e) ts i .index) (operands-fit names ts fit (encodingWants e) i)
 
   pub pseudo-made : (p : Pseudo) (i : ℕ) → pseudoLine p ts i .answer ≡ Made → Words names 1 5 (pseudoLine p ts i .pairs)
   unfolding pseudoLine
   pseudo-made p i =
-      line-words names (AllFit names (pseudoWants p)) (λ x. Within) (pseudoPairs p) (λ x h r. pseudo-words names p x h)
+      line-words names (AllFit names (pseudoWants p)) (λ x. Within) (pseudoPairs p) (pseudoForm p) (λ x h r. pseudo-words names p x h)
       (readOperands (pseudoWants p) ts i .answer) (readOperands (pseudoWants p) ts i .index) (operands-fit names ts fit (pseudoWants p) i)

@@ -4,7 +4,8 @@ use mathlib.Core.Option.{none}
 use Rattle.operand.specs.declared.Operand.{Operand}
 use Rattle.operand.specs.Held.{slotIn, maybeValueIn}
 use Rattle.emit_pairs.specs.Pairs.{EmitIs}
-use Rattle.emit_pairs.specs.PairsLaws.{emit-as}
+use Rattle.emit_pairs.specs.PairsLaws.{emit-as, emit-by}
+use Rattle.emit_pairs.specs.Values.{maybeForm}
 use Rattle.emit_integer.specs.IntegerWords.{inputsPairs}
 use borrow.Author.Needs.{needs}
 use Rattle.emit_integer.proofs.do_inputs_instruction.Statement.{statement}
@@ -12,17 +13,19 @@ use Rattle.emit_integer.proofs.do_inputs_instruction.Tie as tie
 
 alone : (c : tie.After-with) → let a = c .before .before .before .before .args in maybeValueIn (a .operands .third) ≡ none
     → EmitIs (c .with .result) (inputsPairs (a .op) (slotIn (a .operands .first)) (slotIn (a .operands .second)) (maybeValueIn (a .operands .third)))
+    (maybeForm (maybeValueIn (a .operands .third)))
 alone c e =
     let a = c .before .before .before .before .args in
-    emit-as
+    emit-by
     (emit-as (c .with .ensures) (rw (c .before .inputs-word .ensures, c .before .before .slot-in2 .ensures, c .before .before .before .slot-in .ensures)))
-    (sym (ap (inputsPairs (a .op) (slotIn (a .operands .first)) (slotIn (a .operands .second))) e))
+    (sym (ap (inputsPairs (a .op) (slotIn (a .operands .first)) (slotIn (a .operands .second))) e)) (sym (ap maybeForm e))
 
 returns : tie.Need-returns
 returns c =
     let a = c .before .before .before .before .before .before .before .before .args in
-    emit-as (c .inputs-into .ensures)
+    emit-by (c .inputs-into .ensures)
     (sym (ap (λ (o : Operand). inputsPairs (a .op) (slotIn (a .operands .first)) (slotIn (a .operands .second)) (maybeValueIn o)) (c .before .before .third .given .1)))
+    (sym (ap (λ (o : Operand). maybeForm (maybeValueIn o)) (c .before .before .third .given .1)))
 
 returns-2 : tie.Need-returns-2
 returns-2 c = alone (c .before .before) (ap maybeValueIn (c .enum-told .given .1))

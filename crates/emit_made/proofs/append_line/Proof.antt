@@ -72,7 +72,7 @@ returns c =
     let pairs = pairsOf (a .made .emit) in
     let k = known (c .before .before .before .before .before .before .before .before .before .before .before .before .before .before .before .before .before .before .before) in
     let n = c .before .before .before .before .before .before .before .before .before .before .before .before .before .before .before .before .before .before .before .before .before .count-of .result in
-    outcome-same (a .made .cursor .index) (omega (arith, k .words)) (ap (λ (x : ℕ). counts .pending + x) (pendings-length (a .tokens .now) (record { region = a .numbers .place .region; offset = counts .«data_len»; location = line }) pairs ∙ sym (k .waits)))
+    outcome-same (a .made .cursor .index) (a .made .emit .loaded) (omega (arith, k .words)) (ap (λ (x : ℕ). counts .pending + x) (pendings-length (a .tokens .now) (record { region = a .numbers .place .region; offset = counts .«data_len»; location = line }) pairs ∙ sym (k .waits)))
     (omega (arith, k .words, breakpoint-length line at (length pairs))) (sym (c .before .before .before .before .before .before .before .before .before .before .before .before .before .before .before .before .put-words .ensures)) (sym (c .before .before .before .before .before .before .before .before .before .before .before .put-pendings .ensures))
     (sym (c .before .before .before .before .before .before .put-breakpoint .ensures ∙ ap (append (a .breakpoints .now) (counts .breakpoints)) (same-pcs line _ at n (k .first-pc) ∙ ap (breakpointBytes line at) (k .words))))
 

@@ -4,7 +4,7 @@ use mathlib.Core.Bool.{true, false}
 use native.Mathlib.Omega.{arith}
 use Rattle.registers.specs.Numbers.{registerNumber}
 use Rattle.emit_pairs.specs.Pairs.{isImmediate, plain}
-use Rattle.emit_pairs.specs.PairsLaws.{emit-as, emit-push, load-pairs-length, pairs-taken, pairs-refused, pairs-alternative}
+use Rattle.emit_pairs.specs.PairsLaws.{emit-by, emit-push, load-pairs-length, pairs-taken, pairs-refused, pairs-alternative, form-taken, form-refused, form-alternative}
 use borrow.Author.Needs.{needs}
 use Rattle.emit_pairs.proofs.emit_immediate_instruction.Statement.{statement}
 use Rattle.emit_pairs.proofs.emit_immediate_instruction.Tie as tie
@@ -15,7 +15,8 @@ returns c =
     let a = b .before .args in
     let o = a .operands in
     let e : isImmediate (o .constant) ≡ true = sym (b .is-immediate .ensures) ∙ c .before .before .if1 .taken in
-    emit-as (c .with .ensures) (pairs-taken (a .op) (a .alt) (registerNumber (o .temp)) (registerNumber (o .source)) (o .constant) e (c .before .immediate-word .ensures))
+    emit-by (c .with .ensures) (pairs-taken (a .op) (a .alt) (registerNumber (o .temp)) (registerNumber (o .source)) (o .constant) e (c .before .immediate-word .ensures))
+    (form-taken (a .alt) (o .constant) e)
 
 push-requires : tie.Need-push-requires
 push-requires c κs =
@@ -28,7 +29,8 @@ returns-2 c =
     let a = b .before .args in
     let o = a .operands in
     let e : isImmediate (o .constant) ≡ false = sym (b .is-immediate .ensures) ∙ c .before .before .before .if1 .left in
-    emit-as (c .none .ensures) (pairs-refused (a .op) (registerNumber (o .temp)) (registerNumber (o .source)) (o .constant) e (c .before .enum-told .given .1))
+    emit-by (c .none .ensures) (pairs-refused (a .op) (registerNumber (o .temp)) (registerNumber (o .source)) (o .constant) e (c .before .enum-told .given .1))
+    (form-refused (o .constant) e (c .before .enum-told .given .1))
 
 returns-3 : tie.Need-returns-3
 returns-3 c =
@@ -37,9 +39,10 @@ returns-3 c =
     let o = a .operands in
     let r = c .before .before .register-word in
     let e : isImmediate (o .constant) ≡ false = sym (b .is-immediate .ensures) ∙ c .before .before .before .before .before .before .if1 .left in
-    emit-as
+    emit-by
     (emit-push (plain (r .result)) (c .before .load-pairs .ensures) (c .push .ensures))
     (pairs-alternative (a .op) (registerNumber (o .temp)) (registerNumber (o .source)) (o .constant) e (c .before .before .before .before .alt .given .1) (r .ensures))
+    (form-alternative (o .constant) e (c .before .before .before .before .alt .given .1))
 
 pub emit-immediate-instruction-spec : {M : Type 1} → statement M
 emit-immediate-instruction-spec =

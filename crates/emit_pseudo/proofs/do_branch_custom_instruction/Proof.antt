@@ -1,6 +1,8 @@
 -- The comparison and the branch stand behind the at most two words that load the second operand. Assumes nothing.
 use Rattle.emit_pairs.specs.Pairs.{plain}
-use Rattle.emit_pairs.specs.PairsLaws.{emit-as}
+use Rattle.emit_pairs.specs.PairsLaws.{emit-by}
+use mathlib.Core.Path.{ap}
+use Rattle.emit_pairs.specs.Values.{valueForm}
 use Rattle.emit_pairs.specs.ValuesLaws.{value-length, count-one, emit-two}
 use native.Mathlib.Omega.{arith}
 use borrow.Author.Needs.{needs}
@@ -15,9 +17,10 @@ push-requires-2 c κs = omega (arith, count-one (plain (c .before .before .befor
 
 returns : tie.Need-returns
 returns c =
-    emit-as
+    emit-by
     (emit-two (plain (c .before .before .before .before .before .before .before .compare-word .result)) (c .before .before .before .before .before .before .before .before .before .unpack-value .ensures .1) (c .before .push .ensures) (record { word = c .before .before .before .before .before .inputs-word .result; label = c .before .before .before .branch-to .result }) (c .push2 .ensures))
     (rw (c .before .before .before .branch-to .ensures, c .before .before .before .before .label-in .ensures, c .before .before .before .before .before .inputs-word .ensures, c .before .before .before .before .before .before .branch-opcode .ensures, c .before .before .before .before .before .before .before .compare-word .ensures, c .before .before .before .before .before .before .before .before .slot-in .ensures, c .before .before .before .before .before .before .before .before .before .unpack-value .ensures .0, c .before .before .before .before .before .before .before .before .before .before .value-in .ensures))
+    (ap valueForm (c .before .before .before .before .before .before .before .before .before .before .value-in .ensures))
 
 pub do-branch-custom-instruction-spec : {M : Type 1} → statement M
 do-branch-custom-instruction-spec =

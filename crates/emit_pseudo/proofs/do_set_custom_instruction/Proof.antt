@@ -8,8 +8,8 @@ use native.Mathlib.Omega.{arith}
 use Rattle.operand.specs.Held.{slotIn, valueIn}
 use Rattle.emit_pairs.specs.declared.InstructionPair.{InstructionPair}
 use Rattle.emit_pairs.specs.Pairs.{plain}
-use Rattle.emit_pairs.specs.Values.{valuePairs}
-use Rattle.emit_pairs.specs.PairsLaws.{emit-as, emit-push}
+use Rattle.emit_pairs.specs.Values.{valueForm, valuePairs}
+use Rattle.emit_pairs.specs.PairsLaws.{emit-by, emit-push}
 use Rattle.emit_pairs.specs.ValuesLaws.{value-length, count-one, emit-two}
 use Rattle.emit_pseudo.specs.PseudoWords.{turned, setCustomPairs}
 use borrow.Author.Needs.{needs}
@@ -36,21 +36,26 @@ line c e =
     let u = c .before .before .before in
     rw (e, c .compare-word .ensures, u .unpack-value .ensures .0, u .before .value-in .ensures, c .before .slot-in2 .ensures, c .before .before .slot-in .ensures)
 
+formed : (c : tie.After-compare-word) → valueForm (c .before .before .before .before .value-in .result) ≡ valueForm (valueIn (c .before .before .before .before .before .args .operands .third))
+formed c = ap valueForm (c .before .before .before .before .value-in .ensures)
+
 returns : tie.Need-returns
 returns c =
     let w = c .before .before .before in
     let a = w .before .before .before .before .before .args in
-    emit-as
+    emit-by
     (emit-push (plain (w .compare-word .result)) (w .before .before .before .unpack-value .ensures .1) (c .before .push .ensures))
     (line w (sym (ap (λ (x : Bool). turned x (slotIn (a .operands .first))) (c .if1 .taken))))
+    (formed w)
 
 returns-2 : tie.Need-returns-2
 returns-2 c =
     let w = c .before .before .before .before .before in
     let a = w .before .before .before .before .before .args in
-    emit-as
+    emit-by
     (emit-two (plain (w .compare-word .result)) (w .before .before .before .unpack-value .ensures .1) (c .before .before .before .push .ensures) (plain (c .before .turn-word .result)) (c .push2 .ensures))
     (line w (rw (c .before .turn-word .ensures, w .before .before .slot-in .ensures) (sym (ap (λ (x : Bool). turned x (slotIn (a .operands .first))) (c .before .before .if1 .left)))))
+    (formed w)
 
 pub do-set-custom-instruction-spec : {M : Type 1} → statement M
 do-set-custom-instruction-spec =

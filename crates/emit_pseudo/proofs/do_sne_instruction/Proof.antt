@@ -1,6 +1,8 @@
 -- subu and sltu stand behind the at most two words that load the last operand. Assumes nothing.
 use Rattle.emit_pairs.specs.Pairs.{plain}
-use Rattle.emit_pairs.specs.PairsLaws.{emit-as}
+use Rattle.emit_pairs.specs.PairsLaws.{emit-by}
+use mathlib.Core.Path.{ap}
+use Rattle.emit_pairs.specs.Values.{valueForm}
 use Rattle.emit_pairs.specs.ValuesLaws.{value-length, count-one, emit-two}
 use native.Mathlib.Omega.{arith}
 use borrow.Author.Needs.{needs}
@@ -15,9 +17,10 @@ push-requires-2 c κs = omega (arith, count-one (plain (c .before .before .befor
 
 returns : tie.Need-returns
 returns c =
-    emit-as
+    emit-by
     (emit-two (plain (c .before .before .before .before .register-word .result)) (c .before .before .before .before .before .before .before .unpack-value .ensures .1) (c .before .push .ensures) (plain (c .before .before .before .register-word2 .result)) (c .push2 .ensures))
     (rw (c .before .before .before .register-word2 .ensures, c .before .before .before .before .register-word .ensures, c .before .before .before .before .before .slot-in2 .ensures, c .before .before .before .before .before .before .slot-in .ensures, c .before .before .before .before .before .before .before .unpack-value .ensures .0, c .before .before .before .before .before .before .before .before .value-in .ensures))
+    (ap valueForm (c .before .before .before .before .before .before .before .before .value-in .ensures))
 
 pub do-sne-instruction-spec : {M : Type 1} → statement M
 do-sne-instruction-spec =

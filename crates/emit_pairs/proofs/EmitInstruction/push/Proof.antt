@@ -11,7 +11,7 @@ returns : tie.Need-returns
 returns c =
     let a = c .args in
     let h : a .self .count < length (a .self .instructions) = omega (arith, simp length-map at (c .good .0 .1 .1 .0 .1 .0 .1)) in
-    stored (a .self .instructions) (a .self .count) (record { word = a .word; label = a .label }) h
+    stored (a .self .instructions) (a .self .count) (a .self .loaded) (record { word = a .word; label = a .label }) h
 
 pub push-spec : {M : Type 1} → statement M
 push-spec = tie.close (tie.spec (λ c. search needs) (λ c. search needs) (λ c. search needs) returns)

@@ -6,10 +6,11 @@ use Rattle.nazgwern.proofs.answer.emitted_words.Statement.{statement}
 use Rattle.nazgwern.proofs.answer.emitted_words.Tie as tie
 
 returns : tie.Need-returns
-returns c = c .done-words .ensures ∙ sym (ap emittedWords (c .before .before .answer .given .1))
+returns c = rw (c .done-words .ensures, c .before .form-number .ensures) (sym (ap emittedWords (c .before .before .before .answer .given .1)))
 
 returns-2 : tie.Need-returns-2
 returns-2 c = c .refusal-words .ensures ∙ sym (ap emittedWords (c .before .before .answer2 .given .1))
 
 pub emitted-words-spec : {M : Type 1} → statement M
-emitted-words-spec = tie.close (tie.spec (λ c. search needs) (λ c κs. search needs) (λ c. search needs) (λ c κs. search needs) returns returns-2)
+emitted-words-spec =
+    tie.close (tie.spec (λ c. search needs) (λ c κs. search needs) (λ c κs. search needs) (λ c. search needs) (λ c κs. search needs) returns returns-2)
