@@ -4,7 +4,7 @@ use lib.IntN.{pos, negsuc}
 use Rattle.record.specs.declared.Location.{Location}
 use Rattle.refusal.specs.declared.Numbered.{Numbered}
 use Rattle.refusal.specs.declared.Refusal.{Refusal}
-use Rattle.refusal.specs.declared.Refusal.the-variants.{BadLayout, DuplicateName, UnknownInstruction, EndOfFile, ExpectedRegister, ExpectedConstant, ExpectedLabel, ExpectedRightBrace, ConstantOutOfRange, MissingRegion, OverwriteEdge, NoSpace, UnknownEntry, PatchPastEnd, UnknownLabel, JumpOutOfRange}
+use Rattle.refusal.specs.declared.Refusal.the-variants.{BadLayout, DuplicateName, UnknownInstruction, EndOfFile, ExpectedRegister, ExpectedConstant, ExpectedLabel, ExpectedRightBrace, ConstantOutOfRange, MissingRegion, OverwriteEdge, NoSpace, UnknownEntry, PatchPastEnd, UnknownLabel, JumpOutOfRange, BadByte, BadToken, NoTokenSpace}
 
 abbrev pub zeroLocation : Location
 zeroLocation = record { source = 0; index = 0 }
@@ -31,3 +31,7 @@ numbered (UnknownEntry l) = refusal 13 l 0 0
 numbered (PatchPastEnd l) = refusal 14 l 0 0
 numbered (UnknownLabel l) = refusal 15 l 0 0
 numbered (JumpOutOfRange l destination pc) = refusal 16 l destination pc
+-- document 02, P7: "at its location", that of the faulty token
+numbered (BadByte l) = refusal 21 l 0 0
+numbered (BadToken l) = refusal 22 l 0 0
+numbered (NoTokenSpace l) = refusal 23 l 0 0

@@ -1,4 +1,4 @@
-// The refusals and what document 01 returns for each: a number, a location and two numbers.
+// The refusals and what documents 01 and 02 return for each: a number, a location and two numbers.
 ghost use mathlib.Core.Path.{_≡_};
 ghost use lib.IntN.{pos};
 ghost use Prim.Native.Nat.{_<_, _^_};
@@ -29,6 +29,10 @@ pub enum Refusal {
     UnknownLabel(Location),
     // the destination and the patch's pc
     JumpOutOfRange(Location, u32, u32),
+    // a text's token that cannot be read, or is none that a record may hold, or has no room
+    BadByte(Location),
+    BadToken(Location),
+    NoTokenSpace(Location),
 }
 
 // Whether a check is passed.
@@ -81,6 +85,9 @@ pub fn numbers(refusal: Refusal) -> Numbered
         Refusal::PatchPastEnd(l) => with(14, l, none),
         Refusal::UnknownLabel(l) => with(15, l, none),
         Refusal::JumpOutOfRange(l, a, b) => with(16, l, Values { a, b }),
+        Refusal::BadByte(l) => with(21, l, none),
+        Refusal::BadToken(l) => with(22, l, none),
+        Refusal::NoTokenSpace(l) => with(23, l, none),
     }
 }
 

@@ -1,0 +1,5 @@
+pub mod Class
+pub mod ClassLaws
+pub mod Letters
+pub mod LettersLaws
+pub mod TableLaws

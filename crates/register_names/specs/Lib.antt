@@ -1,0 +1,5 @@
+pub mod RegisterNames
+pub mod Padded
+pub mod PaddedLaws
+pub mod RegisterNamesLaws
+pub mod Worked

@@ -1,0 +1,5 @@
+pub mod Pieces
+pub mod TextLaws
+pub mod WordLaws
+pub mod QuotedLaws
+pub mod NumberLaws

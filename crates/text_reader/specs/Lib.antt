@@ -1,0 +1,9 @@
+pub mod Reading
+pub mod Outcome
+pub mod FitLaws
+pub mod ReadingLaws
+pub mod OutcomeLaws
+pub mod TokensLaws
+pub mod Places
+pub mod ReadsBack
+pub mod Worked

@@ -1,0 +1,116 @@
+// Reads a text into token records. The answer is found in a first pass over the text; a second pass writes, and only where the first
+// found nothing to refuse.
+ghost use mathlib.Core.Path.{_≡_};
+ghost use mathlib.Core.Bool.{true};
+ghost use Prim.Native.Nat.{_≤_, _<_};
+ghost use lib.ListN.{length};
+ghost use Rattle.record.specs.Records.{limit};
+ghost use Rattle.record.specs.Stores.{append};
+ghost use Rattle.text_reader.specs.Reading.{reading, locationOf};
+ghost use Rattle.text_reader.specs.Outcome.{answerFrom, isRead, bytesOf, readText};
+use lexer::Token;
+use record::Location;
+use refusal::Refusal;
+use text_pieces::Piece;
+
+pub enum TextRead {
+    // the fill of the token buffer
+    Read(u32),
+    Refused(Refusal),
+}
+
+// The location of the token that begins at `at`.
+fn location_of(source: u32, at: usize) -> Location
+    requires { ⌜ at < limit ⌝ }
+    ensures { λ r. ⌜ r ≡ locationOf source at ⌝ }
+{
+    Location {
+        source,
+        index: at as u32,
+    }
+}
+
+// The first pass: the answer for a token buffer of `room` bytes. Nothing is written.
+fn measure(text: &[u8], source: u32, room: usize) -> TextRead
+    requires { ⌜ (length (now text) ≤ limit) × (room ≤ limit) ⌝ }
+    ensures { λ r. ⌜ r ≡ answerFrom (now (text .entry)) room 0 (reading source (now (text .entry))) ⌝ }
+{
+    let mut at: usize = 0;
+    let mut fill: usize = 0;
+    while at < text.len() {
+        match text_pieces::piece_at(text, at) {
+            Piece::Blank => {
+                at += 1;
+            }
+            Piece::Token(kind, size) => {
+                fill += token_bytes::record_size(kind);
+                if room < fill {
+                    return TextRead::Refused(Refusal::NoTokenSpace(location_of(source, at)));
+                }
+                at += size;
+            }
+            Piece::BadByte => {
+                return TextRead::Refused(Refusal::BadByte(location_of(source, at)));
+            }
+            Piece::BadToken => {
+                return TextRead::Refused(Refusal::BadToken(location_of(source, at)));
+            }
+        }
+    }
+    TextRead::Read(fill as u32)
+}
+
+// The second pass, over a text that the first accepted.
+fn write(text: &[u8], source: u32, tokens: &mut [u8])
+    requires { ⌜ (length (now text) ≤ limit) × (length (now tokens) ≤ limit) ⌝ }
+    requires { ⌜ isRead (answerFrom (now text) (length (now tokens)) 0 (reading source (now text))) ≡ true ⌝ }
+    ensures { λ _. ⌜ now (tokens .exit) ≡ append (now (tokens .entry)) 0 (bytesOf (now (text .entry)) (reading source (now (text .entry)))) ⌝ }
+{
+    let mut at: usize = 0;
+    let mut fill: usize = 0;
+    while at < text.len() {
+        match text_pieces::piece_at(text, at) {
+            Piece::Blank => {
+                at += 1;
+            }
+            Piece::Token(kind, size) => {
+                let location = location_of(source, at);
+                token_bytes::put_token(&mut *tokens, text, fill, Token { location, kind });
+                fill += token_bytes::record_size(kind);
+                at += size;
+            }
+            Piece::BadByte => {
+                return;
+            }
+            Piece::BadToken => {
+                return;
+            }
+        }
+    }
+}
+
+fn is_read(answer: TextRead) -> bool
+    ensures { λ r. ⌜ r ≡ isRead answer ⌝ }
+{
+    match answer {
+        TextRead::Read(_) => true,
+        TextRead::Refused(_) => false,
+    }
+}
+
+// The tokens of the text as records, from the start of the token buffer on, or a refusal, and then no byte changes.
+pub fn read_text(text: &[u8], source: u32, tokens: &mut [u8]) -> TextRead
+    ensures { λ r. ⌜ readText (now (text .entry)) source (now (tokens .entry)) ≡ (record { answer = r; tokens = now (tokens .exit) }) ⌝ }
+{
+    if text.len() > record::LIMIT {
+        return TextRead::Refused(Refusal::BadLayout(0, 65536));
+    }
+    if tokens.len() > record::LIMIT {
+        return TextRead::Refused(Refusal::BadLayout(1, 65536));
+    }
+    let answer = measure(text, source, tokens.len());
+    if is_read(answer) {
+        write(text, source, tokens);
+    }
+    answer
+}

@@ -1,0 +1,5 @@
+pub mod Leading
+pub mod LeadingLaws
+pub mod StopLaws
+pub mod Numbers
+pub mod NumbersLaws
