@@ -24,7 +24,7 @@ part-byte : (s : List ℕ) (i n o : ℕ) → o < n → byteAt (part s i n) o ≡
 part-byte s i n o h = rw (getD-take, getD-drop)
 
 -- a word of a part
-part-word : (s : List ℕ) (i n o : ℕ) → o + 4 ≤ n → le32 (part s i n) o ≡ le32 s (i + o)
+pub part-word : (s : List ℕ) (i n o : ℕ) → o + 4 ≤ n → le32 (part s i n) o ≡ le32 s (i + o)
 part-word s i n o h =
     let b₁ : byteAt (part s i n) (o + 1) ≡ byteAt s (i + o + 1) = part-byte s i n (o + 1) (omega arith) ∙ ap (byteAt s) (sym (add-assoc i o 1)) in
     let b₂ : byteAt (part s i n) (o + 2) ≡ byteAt s (i + o + 2) = part-byte s i n (o + 2) (omega arith) ∙ ap (byteAt s) (sym (add-assoc i o 2)) in

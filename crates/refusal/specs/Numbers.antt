@@ -1,10 +1,10 @@
--- What each refusal returns (document 01, 'Where the work stops'). Assumes nothing.
+-- What each refusal returns (document 01, 'Where the work stops'; document 02, 'New numbers'). Assumes nothing.
 use Prim.Native.Nat.{ℕ}
 use lib.IntN.{pos, negsuc}
 use Rattle.record.specs.declared.Location.{Location}
 use Rattle.refusal.specs.declared.Numbered.{Numbered}
 use Rattle.refusal.specs.declared.Refusal.{Refusal}
-use Rattle.refusal.specs.declared.Refusal.the-variants.{BadLayout, DuplicateName, UnknownInstruction, EndOfFile, ExpectedRegister, ExpectedConstant, ExpectedLabel, ExpectedRightBrace, ConstantOutOfRange, MissingRegion, OverwriteEdge, NoSpace, UnknownEntry, PatchPastEnd, UnknownLabel, JumpOutOfRange, BadByte, BadToken, NoTokenSpace}
+use Rattle.refusal.specs.declared.Refusal.the-variants.{BadLayout, DuplicateName, UnknownInstruction, EndOfFile, ExpectedRegister, ExpectedConstant, ExpectedLabel, ExpectedRightBrace, ConstantOutOfRange, MissingRegion, OverwriteEdge, NoSpace, UnknownEntry, PatchPastEnd, UnknownLabel, JumpOutOfRange, BadByte, BadToken, NoTokenSpace, BadStart}
 
 abbrev pub zeroLocation : Location
 zeroLocation = record { source = 0; index = 0 }
@@ -35,3 +35,5 @@ numbered (JumpOutOfRange l destination pc) = refusal 16 l destination pc
 numbered (BadByte l) = refusal 21 l 0 0
 numbered (BadToken l) = refusal 22 l 0 0
 numbered (NoTokenSpace l) = refusal 23 l 0 0
+-- document 02, P10; the location is "zero in a call without" a mnemonic
+numbered BadStart = refusal 28 zeroLocation 0 0

@@ -33,6 +33,8 @@ pub enum Refusal {
     BadByte(Location),
     BadToken(Location),
     NoTokenSpace(Location),
+    // a dry run's pc is no multiple of four, or has no whole word
+    BadStart,
 }
 
 // Whether a check is passed.
@@ -88,6 +90,7 @@ pub fn numbers(refusal: Refusal) -> Numbered
         Refusal::BadByte(l) => with(21, l, none),
         Refusal::BadToken(l) => with(22, l, none),
         Refusal::NoTokenSpace(l) => with(23, l, none),
+        Refusal::BadStart => with(28, zero, none),
     }
 }
 

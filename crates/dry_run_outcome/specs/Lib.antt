@@ -1,0 +1,11 @@
+pub mod Fetch
+pub mod Run
+pub mod RunLaws
+pub mod DryRun
+pub mod DryRunLaws
+pub mod Counted
+pub mod Split
+pub mod Stopping
+pub mod Zero
+pub mod Targets
+pub mod Worked

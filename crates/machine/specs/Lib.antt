@@ -1,0 +1,9 @@
+pub mod Instructions
+pub mod InstructionsLaws
+pub mod Numbers
+pub mod NumbersLaws
+pub mod Effects
+pub mod EffectsLaws
+pub mod Step
+pub mod StepLaws
+pub mod LoadingAgrees
