@@ -1,11 +1,16 @@
 //! Links the archive of the Rattle library, where ./run names one, and tells the sources which
-//! of the two entries it has. Without one only the --self modes are there.
+//! of the entries it has. Without one only the --self modes are there.
 
 use std::env;
 
 fn main() {
-    println!("cargo:rustc-check-cfg=cfg(library_build, library_line)");
-    for name in ["NAZGWERN_FOLDER", "NAZGWERN_BUILD", "NAZGWERN_LINE"] {
+    println!("cargo:rustc-check-cfg=cfg(library_build, library_line, library_count)");
+    for name in [
+        "NAZGWERN_FOLDER",
+        "NAZGWERN_BUILD",
+        "NAZGWERN_LINE",
+        "NAZGWERN_COUNT",
+    ] {
         println!("cargo:rerun-if-env-changed={name}");
     }
 
@@ -22,5 +27,8 @@ fn main() {
     }
     if env::var("NAZGWERN_LINE").is_ok() {
         println!("cargo:rustc-cfg=library_line");
+    }
+    if env::var("NAZGWERN_COUNT").is_ok() {
+        println!("cargo:rustc-cfg=library_count");
     }
 }

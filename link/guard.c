@@ -19,7 +19,7 @@
 #include <sys/mman.h>
 #include <unistd.h>
 
-enum { PAGE = 4096, ROOM = 18 * PAGE, EDGE = 64, MARK = 0xa5, REFUSALS = 16 };
+enum { PAGE = 4096, ROOM = 18 * PAGE, EDGE = 64, MARK = 0xa5, REFUSALS = 30 };
 enum { PSEUDOS = 29, ENCODINGS = 21, NAMES = 4 };
 
 /* A letter stands for an operand: r and f registers, v a register or number, i a number, s a label,
@@ -549,6 +549,29 @@ static void build(void)
         unchanged(&regions);
 }
 
+/* ---- the counts of a range */
+
+static void count_forms(void)
+{
+    uint32_t start = once_in(4) ? below(0x20000) : (uint32_t)chance();
+    uint32_t end = once_in(8) ? start - below(3) : (uint32_t)chance();
+
+    some_room(&counts, NAZGWERN_FORM_COUNTS_BYTES);
+    some_room(&answer, NAZGWERN_ANSWER_BYTES);
+    lend(&counts);
+    lend(&answer);
+
+    uint32_t number = nazgwern_count_forms(start, end, counts.lent, counts.length, answer.lent,
+                                           answer.length);
+
+    if (answered(number, counts.length >= NAZGWERN_FORM_COUNTS_BYTES &&
+                             answer.length >= NAZGWERN_ANSWER_BYTES) &&
+        number == 0)
+        kept(&counts, 0, NAZGWERN_FORM_COUNTS_BYTES, "a byte behind the counts was changed");
+    else
+        unchanged(&counts);
+}
+
 /* ---- the entries, each with how many calls */
 
 static const struct {
@@ -558,6 +581,7 @@ static const struct {
 } entries[] = {
     {"nazgwern_do_instruction", do_instruction, 1000000},
     {"nazgwern_build", build, 500000},
+    {"nazgwern_count_forms", count_forms, 500000},
 };
 
 static void report(const struct tally *tally)

@@ -1,4 +1,4 @@
-/* The library nazgwern: the two functions of the MIPS32 assembler core, for C and Rust on x86-64.
+/* The library nazgwern: the functions of the MIPS32 assembler core, for C and Rust on x86-64.
 
    RECORDS. A list is a sequence of records. Every record begins with a 2-byte length (of the bytes
    after the head) and a 2-byte kind. All numbers are little-endian. A location is a 4-byte source
@@ -48,13 +48,14 @@
    all state is in the buffers.
 
    ANSWER. Six numbers of four bytes: number, source, index, a, b, and a line's position or a
-   build's entry. Number 0 is an accepted call, 1 to 16 are refusals; source and index are the
+   build's entry. Number 0 is an accepted call, 1 to 16
+   and 30 are refusals; source and index are the
    refusal's location, a is given by its low 32 bits, and numbers that are not named here are 0. Of
    an accepted line a says how its constant is loaded: 0 none is, 1 addiu alone, 2 ori alone, 3 lui
    alone, 4 both halves. The number is returned too. On refusal the answer is written and no other
-   lent byte changes. If the answer has fewer than 24 bytes, or the counts fewer than 12, the call
-   returns NAZGWERN_TOO_SHORT and changes nothing at all. Bytes behind the 24 and the 12 stay as
-   they are.
+   lent byte changes. If the answer has fewer than 24 bytes, or the counts fewer than 12 (a
+   range's fewer than 32), the call returns NAZGWERN_TOO_SHORT and changes nothing at all. Bytes
+   behind these stay as they are.
 
       1  A record breaks the layout or sits in the wrong list, a buffer is over 65,536 bytes, a fill
          count is over its buffer's length, or the region's number is none (a: buffer in argument
@@ -76,8 +77,9 @@
      14  A patch ends past its region's data.
      15  A patch's name is unknown.
      16  A branch or jump is out of range (a: destination, b: pc).
+     30  The range's start exceeds its end.
 
-   The location is zero for 1 and 2; the mnemonic's for 3, 4 and 9 to 12; for 5 to 8 that of the
+   The location is zero for 1, 2 and 30; the mnemonic's for 3, 4 and 9 to 12; for 5 to 8 that of the
    token that was met, or the mnemonic's at a NewLine; the name's for 13 and 15, and the pending's
    for 14 and 16. docs/REFUSALS.md says what to do about each.
 
@@ -97,6 +99,7 @@ extern "C" {
 
 #define NAZGWERN_ANSWER_BYTES 24
 #define NAZGWERN_COUNTS_BYTES 12
+#define NAZGWERN_FORM_COUNTS_BYTES 32
 #define NAZGWERN_NO_REGION 65535
 #define NAZGWERN_TOO_SHORT UINT32_C(0xFFFFFFFF)
 
@@ -142,6 +145,14 @@ uint32_t nazgwern_build(
     const uint8_t *entry, size_t entry_length,
     uint8_t *regions, size_t regions_length,
     const uint8_t *pending, size_t pending_length,
+    uint8_t *answer, size_t answer_length);
+
+/* Counts the constants from start to end, both counted, by the form that loads each.
+   counts       four numbers of eight bytes: addiu, ori, lui, both halves; only written
+   The last number of the answer is 0. */
+uint32_t nazgwern_count_forms(
+    uint32_t start, uint32_t end,
+    uint8_t *counts, size_t counts_length,
     uint8_t *answer, size_t answer_length);
 
 #ifdef __cplusplus

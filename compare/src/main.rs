@@ -17,6 +17,7 @@ mod answer;
 mod bench;
 mod bench_line;
 mod build_input;
+mod count_forms;
 mod damage;
 mod damage_build;
 mod damage_line;
@@ -71,7 +72,8 @@ fn main() -> ExitCode {
         "build" if has_build => run_build::run(&options),
         "line" if has_line => run_line::run(&options),
         "list" if has_build && has_line => list::run(&options),
-        "bench" | "build" | "line" | "list" => {
+        "count_forms" if options.other.has_count() => count_forms::run(options.other),
+        "bench" | "build" | "count_forms" | "line" | "list" => {
             eprintln!("the library has no entry for {}", options.mode);
             return ExitCode::from(2);
         }

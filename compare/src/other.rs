@@ -29,6 +29,11 @@ impl Other {
         }
     }
 
+    /// Whether this side can be asked for the counts of a range.
+    pub fn has_count(self) -> bool {
+        self == Other::Library && cfg!(library_count)
+    }
+
     /// The outcome of a build call, or what the call did that no build call may do.
     pub fn build(self, input: &BuildInput) -> Result<BuildOutcome, String> {
         match self {
@@ -193,5 +198,43 @@ pub mod library {
     #[cfg(not(library_line))]
     pub fn line(_: &mut LineInput, _: &mut [u8], _: &mut [u8; Answer::SIZE]) -> u32 {
         panic!("linked without nazgwern_do_instruction")
+    }
+
+    #[cfg(library_count)]
+    mod declared_count {
+        extern "C" {
+            pub fn nazgwern_count_forms(
+                start: u32,
+                end: u32,
+                counts: *mut u8,
+                counts_length: usize,
+                answer: *mut u8,
+                answer_length: usize,
+            ) -> u32;
+        }
+    }
+
+    #[cfg(library_count)]
+    pub fn count_forms(
+        start: u32,
+        end: u32,
+        counts: &mut [u8],
+        answer: &mut [u8; Answer::SIZE],
+    ) -> u32 {
+        unsafe {
+            declared_count::nazgwern_count_forms(
+                start,
+                end,
+                counts.as_mut_ptr(),
+                counts.len(),
+                answer.as_mut_ptr(),
+                answer.len(),
+            )
+        }
+    }
+
+    #[cfg(not(library_count))]
+    pub fn count_forms(_: u32, _: u32, _: &mut [u8], _: &mut [u8; Answer::SIZE]) -> u32 {
+        panic!("linked without nazgwern_count_forms")
     }
 }

@@ -1,12 +1,12 @@
 -- What the linked calls give back and leave in their lent buffers. Assumes nothing.
 use Prim.Native.Nat.{ℕ, _-_, _^_}
-use mathlib.Core.List.{List, [], _∷_}
+use mathlib.Core.List.{List, [], _∷_, _++_}
 use mathlib.Core.Bool.{true, false, _&&_}
 use lib.ListN.{length}
 use lib.Dec.{leb}
-use Rattle.record.specs.Stores.{append}
+use Rattle.record.specs.Stores.{append, le64Bytes}
 use Rattle.record.specs.Bytes.{le32}
-use Rattle.nazgwern.specs.Words.{builtWords, emittedWords, numberOf, wordsAsBytes}
+use Rattle.nazgwern.specs.Words.{builtWords, emittedWords, countedWords, numberOf, wordsAsBytes}
 use Rattle.build_outcome.specs.Build.{BuildOutcome, buildOutcome}
 use Rattle.emit_outcome.specs.declared.FillCounts.{FillCounts}
 use Rattle.emit_outcome.specs.declared.EmitAnswer.{EmitAnswer}
@@ -14,6 +14,10 @@ use Rattle.emit_outcome.specs.declared.EmitAnswer.the-variants.{Done, Refused a
 use Rattle.emit_outcome.specs.declared.LinePlace.{LinePlace}
 use Rattle.emit_outcome.specs.Call.{Lent, EmitOutcome, callOf}
 use Rattle.emit_outcome.specs.Emit.{emitOutcome}
+use Rattle.form_counts.specs.declared.FormCounts.{FormCounts}
+use Rattle.form_counts.specs.declared.CountAnswer.{CountAnswer}
+use Rattle.form_counts.specs.declared.CountAnswer.the-variants.{Counted, Refused as RangeRefused}
+use Rattle.form_counts.specs.FormCounts.{countForms}
 
 -- the bytes of an answer, and of the fill counts
 abbrev pub answerBytes : ℕ
@@ -80,4 +84,35 @@ linkedLine token-list mnemonic descriptors lent counts place answer =
     elim (leb answerBytes (length answer) && leb countsBytes (length counts)) [
       | true ↦ lineAnswered (emitOutcome (callOf token-list mnemonic descriptors lent (countsAt counts) place)) counts answer
       | false ↦ record { result = tooShort; lent = lent; counts = counts; answer = answer }
+    ]
+
+-- ---- the counts of a range
+-- four numbers of eight bytes
+abbrev pub formCountBytes : ℕ
+formCountBytes = 32
+
+abbrev pub formCounts : FormCounts → List ℕ
+formCounts c = le64Bytes (c .addiu) ++ le64Bytes (c .ori) ++ le64Bytes (c .lui) ++ le64Bytes (c .both)
+
+-- a refused range leaves their bytes
+abbrev pub formCountsAfter : CountAnswer → List ℕ → List ℕ
+formCountsAfter (Counted c) counts = append counts 0 (formCounts c)
+formCountsAfter (RangeRefused r) counts = counts
+
+pub record LinkedCount : Type 0 where
+  pub result : ℕ
+  pub counts : List ℕ
+  pub answer : List ℕ
+
+abbrev pub countAnswered : CountAnswer → (counts answer : List ℕ) → LinkedCount
+countAnswered given counts answer =
+    let words = countedWords given in
+    record { result = numberOf words; counts = formCountsAfter given counts; answer = append answer 0 (wordsAsBytes words) }
+
+-- with an answer of fewer than 24 bytes, or counts of fewer than 32, nothing is done
+unfoldable pub linkedCount : (start end : ℕ) (counts answer : List ℕ) → LinkedCount
+linkedCount start end counts answer =
+    elim (leb answerBytes (length answer) && leb formCountBytes (length counts)) [
+      | true ↦ countAnswered (countForms start end) counts answer
+      | false ↦ record { result = tooShort; counts = counts; answer = answer }
     ]

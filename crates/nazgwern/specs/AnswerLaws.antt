@@ -7,7 +7,7 @@ use lib.ListN.{length}
 use lib.Dec.{leb}
 use borrow.Author.Tests.{le-leb, lt-leb}
 use Rattle.record.specs.Stores.{append}
-use Rattle.nazgwern.specs.Words.{builtWords, emittedWords, numberOf, wordsAsBytes}
+use Rattle.nazgwern.specs.Words.{builtWords, emittedWords, countedWords, numberOf, wordsAsBytes}
 use Rattle.build_outcome.specs.declared.Built.{Built}
 use Rattle.build_outcome.specs.Build.{buildOutcome}
 use Rattle.emit_outcome.specs.declared.FillCounts.{FillCounts}
@@ -15,7 +15,9 @@ use Rattle.emit_outcome.specs.declared.LinePlace.{LinePlace}
 use Rattle.emit_outcome.specs.declared.EmitAnswer.{EmitAnswer}
 use Rattle.emit_outcome.specs.Call.{Lent, callOf, outcomeOf}
 use Rattle.emit_outcome.specs.Emit.{emitOutcome}
-use Rattle.nazgwern.specs.Answer.{answerBytes, countsBytes, tooShort, linkedBuild, countsAt, countsAfter, linkedLine}
+use Rattle.form_counts.specs.declared.CountAnswer.{CountAnswer}
+use Rattle.form_counts.specs.FormCounts.{countForms}
+use Rattle.nazgwern.specs.Answer.{answerBytes, countsBytes, tooShort, linkedBuild, countsAt, countsAfter, linkedLine, formCountBytes, formCountsAfter, linkedCount}
 
 -- ---- a build
 module _ (labels entry regions pending answer : List ℕ) where
@@ -42,3 +44,16 @@ module _ (token-list mnemonic descriptors : List ℕ) (lent : Lent) (counts : Li
       → linkedLine token-list mnemonic descriptors lent counts place answer ≡ (record { result = numberOf words; lent = lent'; counts = counts'; answer = answer' })
   unfolding linkedLine
   line-answered c h k e o w n a = rw (le-leb answerBytes (length answer) h, le-leb countsBytes (length counts) k, linkedLine, a, n, w, ← e, o)
+
+-- ---- the counts of a range
+module _ (start end : ℕ) (counts answer : List ℕ) where
+  pub count-short : (leb answerBytes (length answer) && leb formCountBytes (length counts)) ≡ false
+      → linkedCount start end counts answer ≡ (record { result = tooShort; counts = counts; answer = answer })
+  unfolding linkedCount
+  count-short e = rw (e, linkedCount)
+
+  pub count-answered : {given : CountAnswer} {counts' words answer' : List ℕ} → answerBytes ≤ length answer → formCountBytes ≤ length counts
+      → given ≡ countForms start end → words ≡ countedWords given → counts' ≡ formCountsAfter given counts → answer' ≡ append answer 0 (wordsAsBytes words)
+      → linkedCount start end counts answer ≡ (record { result = numberOf words; counts = counts'; answer = answer' })
+  unfolding linkedCount
+  count-answered h k g w n a = rw (le-leb answerBytes (length answer) h, le-leb formCountBytes (length counts) k, linkedCount, a, n, w, g)

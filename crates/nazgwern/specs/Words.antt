@@ -10,6 +10,9 @@ use Rattle.emit_pairs.specs.Pairs.{plain}
 use Rattle.emit_bytes.specs.Appended.{wordBytes}
 use Rattle.emit_outcome.specs.declared.EmitAnswer.{EmitAnswer}
 use Rattle.emit_outcome.specs.Returned.{returned as lineReturned}
+use Rattle.refusal.specs.Numbers.{zeroLocation, numbered}
+use Rattle.form_counts.specs.declared.CountAnswer.{CountAnswer}
+use Rattle.form_counts.specs.declared.CountAnswer.the-variants.{Counted, Refused}
 
 -- a number's low 32 bits; negsuc n is -1 - n
 unfoldable pub lowWord : ℤ → ℕ
@@ -25,6 +28,11 @@ builtWords built = let r = buildReturned built in answerWords (r .number) (r .lo
 
 abbrev pub emittedWords : EmitAnswer → List ℕ
 emittedWords answer = let r = lineReturned answer in answerWords (r .number) (r .location) (r .a) (r .b) (r .position)
+
+-- the counts themselves go into their own buffer, and the last word is 0
+abbrev pub countedWords : CountAnswer → List ℕ
+countedWords (Counted c) = answerWords 0 zeroLocation (pos 0) 0 0
+countedWords (Refused r) = let n = numbered r in answerWords (n .number) (n .location) (n .a) (n .b) 0
 
 -- the number, which the call returns too
 abbrev pub numberOf : List ℕ → ℕ

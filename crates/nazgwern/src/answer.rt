@@ -6,9 +6,10 @@ ghost use lib.ListN.{length};
 ghost use Rattle.record.specs.Stores.{append};
 ghost use Rattle.refusal.specs.Numbers.{zeroLocation, numbered};
 ghost use Rattle.emit_outcome.specs.Returned.{formNumber};
-ghost use Rattle.nazgwern.specs.Words.{lowWord, answerWords, builtWords, emittedWords, wordsAsBytes};
+ghost use Rattle.nazgwern.specs.Words.{lowWord, answerWords, builtWords, emittedWords, countedWords, wordsAsBytes};
 use build_outcome::Built;
 use emit_outcome::EmitAnswer;
+use form_counts::CountAnswer;
 use loading::LoadForm;
 use refusal::Refusal;
 
@@ -71,6 +72,16 @@ pub fn emitted_words(answer: EmitAnswer) -> [u32; 6]
     match answer {
         EmitAnswer::Done { position, loaded } => done_words(form_number(loaded), position),
         EmitAnswer::Refused(refusal, position) => refusal_words(refusal, position),
+    }
+}
+
+// A range's counts are not among the words.
+pub fn counted_words(answer: CountAnswer) -> [u32; 6]
+    ensures { λ r. ⌜ r ≡ countedWords answer ⌝ }
+{
+    match answer {
+        CountAnswer::Counted(_) => done_words(0, 0),
+        CountAnswer::Refused(refusal) => refusal_words(refusal, 0),
     }
 }
 

@@ -1,21 +1,27 @@
-// The library to link: a build and a line by the C calling convention, where a slice goes as a pointer and a length.
+// The library to link: a build, a line and the counts of a range by the C calling convention, where a slice goes as a pointer and a length.
 ghost use mathlib.Core.Path.{_≡_};
 ghost use Prim.Native.Nat.{_≤_};
 ghost use lib.ListN.{length};
+ghost use Rattle.record.specs.Stores.{append};
 ghost use Rattle.emit_outcome.specs.Call.{lentOf};
-ghost use Rattle.nazgwern.specs.Answer.{countsBytes, countsAt, countsAfter, linkedBuild, linkedLine};
+ghost use Rattle.nazgwern.specs.Answer.{countsBytes, countsAt, countsAfter, formCountBytes, formCounts, formCountsAfter, linkedBuild, linkedLine, linkedCount};
 
 pub mod answer;
 
 use emit_outcome::EmitAnswer;
 use emit_outcome::FillCounts;
 use emit_outcome::LinePlace;
+use form_counts::CountAnswer;
+use form_counts::FormCounts;
 
 // Number, source, index, a, b and the last, each four bytes.
 const ANSWER_BYTES: usize = 24;
 
 // The fill counts of the region data, the pending and the breakpoint buffer, each four bytes.
 const COUNTS_BYTES: usize = 12;
+
+// How many constants load by addiu, by ori, by lui and by both halves, each eight bytes.
+const FORM_COUNT_BYTES: usize = 32;
 
 // No refusal has this number.
 const TOO_SHORT: u32 = 0xFFFF_FFFF;
@@ -124,6 +130,52 @@ pub extern "C" fn nazgwern_do_instruction(
     let filled = emitted.counts;
     let words = answer::emitted_words(given);
     put_counts(counts, given, filled);
+    answer::store_words(answer, &words[..]);
+    words[0]
+}
+
+fn store_form_counts(counts: &mut [u8], counted: FormCounts)
+    requires { ⌜ formCountBytes ≤ length (now counts) ⌝ }
+    ensures { λ _. ⌜ now (counts .exit) ≡ append (now (counts .entry)) 0 (formCounts counted) ⌝ }
+{
+    record::put64(&mut *counts, 0, counted.addiu);
+    record::put64(&mut *counts, 8, counted.ori);
+    record::put64(&mut *counts, 16, counted.lui);
+    record::put64(counts, 24, counted.both);
+}
+
+// The counts of a range; a refused one leaves what stands there.
+fn put_form_counts(counts: &mut [u8], answer: CountAnswer)
+    requires { ⌜ formCountBytes ≤ length (now counts) ⌝ }
+    ensures { λ _. ⌜ now (counts .exit) ≡ formCountsAfter answer (now (counts .entry)) ⌝ }
+{
+    match answer {
+        CountAnswer::Counted(counted) => store_form_counts(counts, counted),
+        CountAnswer::Refused(_) => {}
+    }
+}
+
+// Counts the constants from `start` to `end` by their forms or refuses, writes the answer and returns its number: 0 for a counted range.
+// Where the answer or the counts are too short it returns TOO_SHORT and changes nothing.
+#[no_mangle]
+pub extern "C" fn nazgwern_count_forms(
+    start: u32,
+    end: u32,
+    counts: &mut [u8],
+    answer: &mut [u8],
+) -> u32
+    ensures { λ r. ⌜ linkedCount start end (now (counts .entry)) (now (answer .entry))
+        ≡ (record { result = r; counts = now (counts .exit); answer = now (answer .exit) }) ⌝ }
+{
+    if answer.len() < ANSWER_BYTES {
+        return TOO_SHORT;
+    }
+    if counts.len() < FORM_COUNT_BYTES {
+        return TOO_SHORT;
+    }
+    let given = form_counts::count_forms(start, end);
+    let words = answer::counted_words(given);
+    put_form_counts(counts, given);
     answer::store_words(answer, &words[..]);
     words[0]
 }

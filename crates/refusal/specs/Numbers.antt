@@ -4,7 +4,7 @@ use lib.IntN.{pos, negsuc}
 use Rattle.record.specs.declared.Location.{Location}
 use Rattle.refusal.specs.declared.Numbered.{Numbered}
 use Rattle.refusal.specs.declared.Refusal.{Refusal}
-use Rattle.refusal.specs.declared.Refusal.the-variants.{BadLayout, DuplicateName, UnknownInstruction, EndOfFile, ExpectedRegister, ExpectedConstant, ExpectedLabel, ExpectedRightBrace, ConstantOutOfRange, MissingRegion, OverwriteEdge, NoSpace, UnknownEntry, PatchPastEnd, UnknownLabel, JumpOutOfRange, BadByte, BadToken, NoTokenSpace, BadStart}
+use Rattle.refusal.specs.declared.Refusal.the-variants.{BadLayout, DuplicateName, UnknownInstruction, EndOfFile, ExpectedRegister, ExpectedConstant, ExpectedLabel, ExpectedRightBrace, ConstantOutOfRange, MissingRegion, OverwriteEdge, NoSpace, UnknownEntry, PatchPastEnd, UnknownLabel, JumpOutOfRange, BadByte, BadToken, NoTokenSpace, BadStart, StartPastEnd}
 
 abbrev pub zeroLocation : Location
 zeroLocation = record { source = 0; index = 0 }
@@ -37,3 +37,5 @@ numbered (BadToken l) = refusal 22 l 0 0
 numbered (NoTokenSpace l) = refusal 23 l 0 0
 -- document 02, P10; the location is "zero in a call without" a mnemonic
 numbered BadStart = refusal 28 zeroLocation 0 0
+-- document 02, P14: "30, the range's start exceeds its end"
+numbered StartPastEnd = refusal 30 zeroLocation 0 0

@@ -35,6 +35,8 @@ pub enum Refusal {
     NoTokenSpace(Location),
     // a dry run's pc is no multiple of four, or has no whole word
     BadStart,
+    // a range of constants to count
+    StartPastEnd,
 }
 
 // Whether a check is passed.
@@ -91,6 +93,7 @@ pub fn numbers(refusal: Refusal) -> Numbered
         Refusal::BadToken(l) => with(22, l, none),
         Refusal::NoTokenSpace(l) => with(23, l, none),
         Refusal::BadStart => with(28, zero, none),
+        Refusal::StartPastEnd => with(30, zero, none),
     }
 }
 

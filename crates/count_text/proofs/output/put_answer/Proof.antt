@@ -1,0 +1,25 @@
+-- Each arm puts the lines of its answer. Assumes nothing.
+use borrow.Author.Needs.{needs}
+use Rattle.count_text.proofs.output.put_answer.Statement.{statement}
+use Rattle.count_text.proofs.output.put_answer.Tie as tie
+
+returns : tie.Need-returns
+returns c = rw (c .before .before .before .before .before .answer .given .1) (c .before .before .put-counts .ensures)
+
+returns-2 : tie.Need-returns-2
+returns-2 c =
+    rw (c .before .before .before .before .before .before .answer2 .given .1) (rw (c .before .before .before .numbers .ensures) at (c .before .before .put-refusal .ensures .0))
+
+pub put-answer-spec : {M : Type 1} → statement M
+put-answer-spec =
+    tie.close
+    (tie.spec
+    (λ c. search needs)
+    (λ c κs. search needs)
+    (λ c. search needs)
+    (λ c κs. search needs)
+    (λ c κs. search needs)
+    (λ c. search needs)
+    returns
+    (λ c. search needs)
+    returns-2)

@@ -1,0 +1,4 @@
+pub mod FormCounts
+pub mod Below
+pub mod BelowLaws
+pub mod Counting
