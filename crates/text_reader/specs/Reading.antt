@@ -1,7 +1,8 @@
 -- The tokens of a text, one after the other, up to the first fault (document 02, P7). Assumes nothing.
-use Prim.Native.Nat.{ℕ, zero, suc, _+_, _-_}
+use Prim.Native.Nat.{ℕ, zero, suc, _+_, _-_, _≤_}
 use mathlib.Core.List.{List, [], _∷_}
 use mathlib.Core.Bool.{true, false}
+use mathlib.Core.Path.{_≡_}
 use lib.ListN.{length}
 use lib.Dec.{ltb}
 use Rattle.record.specs.declared.Location.{Location}
@@ -48,3 +49,9 @@ abbrev pub tokensOf : Reading → List TokenRead
 tokensOf End = []
 tokensOf (Next t r) = t ∷ tokensOf r
 tokensOf (Fault r) = []
+
+-- no token is read from there on: the text ends, or a fault stands there
+pub data Ends (text : List ℕ) (at : ℕ) : Type 0 where
+  text-ends : length text ≤ at → Ends text at
+  bad-byte : pieceAt text at ≡ BadByte → Ends text at
+  bad-token : pieceAt text at ≡ BadToken → Ends text at

@@ -23,7 +23,7 @@ use Rattle.text_reader.specs.TokensLaws.{tokens-all, bytes-are}
 -- a token's record can hold it
 all-fit : (source : ℕ) (text : List ℕ) → source < 2 ^ 32 → length text ≤ limit → AllFit text (tokensOf (reading source text))
 all-fit source text h l =
-    tokens-all source text (λ at ts. AllFit text ts) (λ at. tt) (λ at ts f. f)
+    tokens-all source text (λ at ts. AllFit text ts) (λ at n. tt) (λ at ts e f. f)
     (λ at kind size ts b e stands f. (
       record {
         location-fits = record { source-fits = h; index-fits = omega arith };
