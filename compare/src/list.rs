@@ -10,17 +10,16 @@
 //! and is written only where the other side agrees on each listed call. What it covers goes to
 //! standard error.
 //!
-//! The format: one call after the other, each a byte for the entry, the inputs, and what is
-//! expected. Numbers are little-endian and of four bytes where nothing else is said, and a
-//! buffer stands after its length.
+//! The format: lists, each after its 4-byte byte count, and numbers, little-endian and of four
+//! bytes where nothing else is said. The first list has the number of builds and that of all
+//! calls. Each other is a call, the builds first, and is made of lists itself:
 //!
-//! - 0, a build: the four lists. Expected: the answer, then the region list at exit.
-//! - 1, a line: the six buffers, the three fill counts, the position, the region (2 bytes) and
-//!   the address. Expected: the answer, the fill counts, then the last three buffers at exit.
+//! - a build: the four lists. Expected: the answer, then the region list at exit.
+//! - a line: the six buffers, the three fill counts, and position, region (2 bytes) and address.
+//!   Expected: the answer, the fill counts, then the last three buffers at exit.
 //!
 //! The answer is number, source, index, the low 32 bits of a, b, and the entry address or the
-//! position. A buffer at exit is a byte 0 where it is as at entry, or a byte 1 and its bytes, as
-//! many as at entry.
+//! position.
 
 use crate::answer::{Answer, Tally};
 use crate::build_input::{BuildInput, BuildOutcome};
@@ -97,7 +96,7 @@ impl Chosen {
         }
         self.tally.count(&call.answer);
         self.calls += 1;
-        self.list.extend(&call.bytes);
+        buffer(&mut self.list, &call.bytes);
 
         true
     }
@@ -131,9 +130,12 @@ pub fn run(options: &Options) -> bool {
     summary("build", &builds, list_build::covered(&builds));
     summary("line", &lines, list_line::covered(&lines));
 
-    stdout()
-        .write_all(&[builds.list, lines.list].concat())
-        .is_ok()
+    let calls = [builds.calls, builds.calls + lines.calls];
+    let mut list = vec![];
+    buffer(&mut list, &numbers(&calls.map(|count| count as u32)));
+    list.extend([builds.list, lines.list].concat());
+
+    stdout().write_all(&list).is_ok()
 }
 
 fn summary(entry: &str, chosen: &Chosen, covered: String) {
@@ -199,18 +201,18 @@ pub fn fault(answer: &Answer, buffers: &[&Vec<u8>]) -> Class {
     }
 }
 
-fn number(call: &mut Vec<u8>, number: u32) {
-    call.extend(number.to_le_bytes());
+fn numbers(numbers: &[u32]) -> Vec<u8> {
+    numbers.iter().flat_map(|n| n.to_le_bytes()).collect()
 }
 
 fn buffer(call: &mut Vec<u8>, bytes: &[u8]) {
-    number(call, bytes.len() as u32);
+    call.extend((bytes.len() as u32).to_le_bytes());
     call.extend(bytes);
 }
 
-fn answer(call: &mut Vec<u8>, answer: &Answer) {
+fn answer(answer: &Answer) -> Vec<u8> {
     let Answer {
-        number: refusal,
+        number,
         source,
         index,
         a,
@@ -218,53 +220,40 @@ fn answer(call: &mut Vec<u8>, answer: &Answer) {
         last,
     } = *answer;
 
-    for value in [refusal, source, index, a, b, last] {
-        number(call, value);
-    }
-}
-
-fn at_exit(call: &mut Vec<u8>, entry: &[u8], exit: &[u8]) {
-    match entry == exit {
-        true => call.push(0),
-        false => {
-            call.push(1);
-            call.extend(exit);
-        }
-    }
+    numbers(&[number, source, index, a, b, last])
 }
 
 pub fn build_call(input: &BuildInput, expected: &BuildOutcome) -> Vec<u8> {
-    let mut call = vec![0];
+    let mut call = vec![];
 
     for bytes in list_build::buffers(input) {
         buffer(&mut call, bytes);
     }
-    answer(&mut call, &expected.answer);
-    at_exit(&mut call, &input.regions, &expected.regions);
+    buffer(&mut call, &answer(&expected.answer));
+    buffer(&mut call, &expected.regions);
 
     call
 }
 
 pub fn line_call(input: &LineInput, expected: &LineOutcome) -> Vec<u8> {
-    let mut call = vec![1];
+    let mut call = vec![];
+    let region = input.region.to_le_bytes();
+    let place = [
+        numbers(&[input.position]),
+        region.to_vec(),
+        numbers(&[input.address]),
+    ];
 
     for bytes in list_line::buffers(input) {
         buffer(&mut call, bytes);
     }
-    for count in input.counts {
-        number(&mut call, count);
-    }
-    number(&mut call, input.position);
-    call.extend(input.region.to_le_bytes());
-    number(&mut call, input.address);
-
-    answer(&mut call, &expected.answer);
-    for count in expected.counts {
-        number(&mut call, count);
-    }
-    at_exit(&mut call, &input.data, &expected.data);
-    at_exit(&mut call, &input.pending, &expected.pending);
-    at_exit(&mut call, &input.breakpoints, &expected.breakpoints);
+    buffer(&mut call, &numbers(&input.counts));
+    buffer(&mut call, &place.concat());
+    buffer(&mut call, &answer(&expected.answer));
+    buffer(&mut call, &numbers(&expected.counts));
+    buffer(&mut call, &expected.data);
+    buffer(&mut call, &expected.pending);
+    buffer(&mut call, &expected.breakpoints);
 
     call
 }

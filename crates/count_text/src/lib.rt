@@ -1,15 +1,39 @@
-// What `count_forms` does (document 02, P14): reads a range's start and end from standard input, and prints its counts or the refusal.
+// What `count_forms` does (document 02, P14), from the bytes that it reads to those that it prints.
 ghost use Prim.Native.Nat.{_≤_};
-use text::input;
+ghost use lib.ListN.{length};
+ghost use Rattle.text.specs.Text.{Put};
+ghost use Rattle.count_text.specs.CountText.{countLines, answerText, countText};
+use form_counts::CountAnswer;
+use form_counts::FormCounts;
 
-mod output;
+// Room for four counts, or for a refusal.
+pub const MOST: usize = 128;
 
-// Reads at most `left` bytes, and answers how many of them are left.
-pub fn count_forms(left: u64) -> u64
-    ensures { λ r. ⌜ r ≤ left ⌝ }
+fn put_counts(out: &mut [u8], counts: FormCounts) -> usize
+    requires { ⌜ 128 ≤ length (now out) ⌝ }
+    ensures { λ r. ⌜ Put (now (out .entry)) 0 (countLines counts) (now (out .exit)) r ⌝ }
 {
-    let start = input::read_word(left);
-    let end = input::read_word(start.left);
-    output::print(form_counts::count_forms(start.value, end.value));
-    end.left
+    let ori_at = text::put_number_line(&mut *out, 0, b"addiu", counts.addiu);
+    let lui_at = text::put_number_line(&mut *out, ori_at, b"ori", counts.ori);
+    let both_at = text::put_number_line(&mut *out, lui_at, b"lui", counts.lui);
+    text::put_number_line(out, both_at, b"both", counts.both)
+}
+
+fn put_answer(out: &mut [u8], answer: CountAnswer) -> usize
+    requires { ⌜ 128 ≤ length (now out) ⌝ }
+    ensures { λ r. ⌜ Put (now (out .entry)) 0 (answerText answer) (now (out .exit)) r ⌝ }
+{
+    match answer {
+        CountAnswer::Counted(counts) => put_counts(out, counts),
+        CountAnswer::Refused(refusal) => text::put_refusal(out, 0, refusal::numbers(refusal)),
+    }
+}
+
+// The text that `count_forms` prints for an input.
+pub fn count_forms(input: &[u8], out: &mut [u8; MOST]) -> usize
+    ensures { λ r. ⌜ Put (now (out .entry)) 0 (countText (now (input .entry))) (now (out .exit)) r ⌝ }
+{
+    let start = input::word_or_zero(input, 0);
+    let end = input::word_or_zero(input, 4);
+    put_answer(out, form_counts::count_forms(start, end))
 }

@@ -1,15 +1,30 @@
-// What `finish` prints for each case of standard input (vectors/make_finish).
-use text::cases;
+// What `finish` prints for each case of standard input (vectors/make_finish). A case is an input after its 4-byte count.
+use libc::STDIN_FILENO;
+use libc::STDOUT_FILENO;
 
 fn main() {
+    let mut input = [0u8; input::MOST];
+    let count = io::read_full(STDIN_FILENO, &mut input);
+    print_cases(&input[..count]);
+}
+
+fn print_cases(input: &[u8]) {
     let mut number = 0;
-    while number < cases::MOST && run_case(number) {
+    while input::behind_lists(input, number).len() >= 4 {
+        print_case(number as u64, input::list_of(input, number));
         number += 1;
     }
 }
 
-// Whether there was a case and no byte of it is left.
-fn run_case(number: u64) -> bool {
-    let case = cases::start(number);
-    case.there && image_text::finish(case.length) == 0
+fn print_case(number: u64, case: &[u8]) {
+    print_head(number);
+    let mut out = [0u8; text::MOST];
+    let end = image_text::finish(case, &mut out);
+    io::write_all(STDOUT_FILENO, &out[..end]);
+}
+
+fn print_head(number: u64) {
+    let mut out = [0u8; 32];
+    let end = text::put_number_line(&mut out, 0, b"case", number);
+    io::write_all(STDOUT_FILENO, &out[..end]);
 }

@@ -1,1 +1,4 @@
-pub mod Lines
+pub mod Image
+pub mod ImageLaws
+pub mod MostLaws
+pub mod BuiltLaws

@@ -1,33 +1,99 @@
-// What `finish` does (document 01): reads the build's four lists from standard input, builds, and prints the image or the refusal.
-// Both programs above it call this: `finish` on the whole input, `finish_cases` on one case after the other.
-ghost use Prim.Native.Nat.{_≤_};
-use text::input;
+// What `finish` does (document 01), from the bytes that it reads to those that it prints.
+ghost use mathlib.Core.Path.{_≡_};
+ghost use Prim.Native.Nat.{_+_, _≤_, _<_};
+ghost use lib.ListN.{length};
+ghost use Rattle.regions.specs.Regions.{regionLayout, regionCount, regionPlace};
+ghost use Rattle.reading.specs.Reading.{imageRegion, imageOf};
+ghost use Rattle.text.specs.Text.{Put};
+ghost use Rattle.image_text.specs.Image.{dataLines, regionText, regionsText, buildText, finishText};
+use build_outcome::Built;
+use record::Layout;
 
 mod lines;
-mod output;
 
-// Reads at most `left` bytes, and answers how many of them are left.
-pub fn finish(left: u64) -> u64
-    ensures { λ r. ⌜ r ≤ left ⌝ }
+// A line for each four bytes, and one for what is left behind them.
+fn put_data(out: &mut [u8], at: usize, address: u32, data: &[u8]) -> usize
+    requires { ⌜ length (now «data») ≤ 65536 ⌝ }
+    requires { ⌜ at + length (dataLines address 0 (now «data»)) ≤ length (now out) ⌝ }
+    ensures { λ r. ⌜ Put (now (out .entry)) at (dataLines address 0 (now («data» .entry))) (now (out .exit)) r ⌝ }
 {
-    let mut labels = input::empty_list();
-    let mut entry = input::empty_list();
-    let mut regions = input::empty_list();
-    let mut pending = input::empty_list();
-    let l = input::read_list(&mut labels, left);
-    let e = input::read_list(&mut entry, l.left);
-    let r = input::read_list(&mut regions, e.left);
-    let p = input::read_list(&mut pending, r.left);
-    print_build(
-        &labels[..l.length],
-        &entry[..e.length],
-        &mut regions[..r.length],
-        &pending[..p.length],
-    );
-    p.left
+    let mut end = at;
+    let mut i = 0;
+    while i + 4 <= data.len() {
+        let pc = std::num::wrapping_add_u32(address, i as u32);
+        end = lines::put_word(&mut *out, end, pc, record::word_at(data, i));
+        i += 4;
+    }
+    if i == data.len() {
+        return end;
+    }
+    let pc = std::num::wrapping_add_u32(address, i as u32);
+    lines::put_part(out, end, pc, &data[i..])
 }
 
-fn print_build(labels: &[u8], entry: &[u8], regions: &mut [u8], pending: &[u8]) {
-    let built = binary_builder::build(labels, entry, &mut *regions, pending);
-    output::print(built, &*regions);
+// The region of that number.
+fn put_region(out: &mut [u8], at: usize, regions: &[u8], number: usize) -> usize
+    requires { ⌜ regionLayout (now regions) ≡ Layout.Good ⌝ }
+    requires { ⌜ number < regionCount (now regions) ⌝ }
+    requires { ⌜ at + length (regionText number (imageRegion (now regions) (regionPlace (now regions) number))) ≤ length (now out) ⌝ }
+    ensures { λ r. ⌜ Put (now (out .entry)) at
+        (regionText number (imageRegion (now (regions .entry)) (regionPlace (now (regions .entry)) number))) (now (out .exit)) r ⌝ }
+{
+    let region = regions::region_at(regions, number);
+    let address = region.address;
+    let start = region.start;
+    let end = start + region.size;
+    let data_at = lines::put_region_line(&mut *out, at, number as u64, address);
+    put_data(out, data_at, address, &regions[start..end])
+}
+
+fn put_regions(out: &mut [u8], at: usize, regions: &[u8]) -> usize
+    requires { ⌜ regionLayout (now regions) ≡ Layout.Good ⌝ }
+    requires { ⌜ at + length (regionsText 0 (imageOf (now regions))) ≤ length (now out) ⌝ }
+    ensures { λ r. ⌜ Put (now (out .entry)) at (regionsText 0 (imageOf (now (regions .entry)))) (now (out .exit)) r ⌝ }
+{
+    let count = regions::region_count(regions);
+    let mut end = at;
+    let mut number = 0;
+    while number < count {
+        end = put_region(&mut *out, end, regions, number);
+        number += 1;
+    }
+    end
+}
+
+// The image of the patched regions, or the refusal alone.
+fn put_build(
+    out: &mut [u8],
+    labels: &[u8],
+    entry: &[u8],
+    regions: &mut [u8],
+    pending: &[u8],
+) -> usize
+    requires { ⌜ 400000 ≤ length (now out) ⌝ }
+    ensures { λ r. ⌜ Put (now (out .entry)) 0
+        (buildText (now (labels .entry)) (now (entry .entry)) (now (regions .entry)) (now (pending .entry))) (now (out .exit)) r ⌝ }
+{
+    match binary_builder::build(labels, entry, &mut *regions, pending) {
+        Built::Refused(refusal) => text::put_refusal(out, 0, refusal::numbers(refusal)),
+        Built::Entry(address) => {
+            let at = lines::put_entry(&mut *out, 0, address);
+            put_regions(out, at, &*regions)
+        }
+    }
+}
+
+// The text that `finish` prints for an input.
+pub fn finish(input: &[u8], out: &mut [u8; text::MOST]) -> usize
+    ensures { λ r. ⌜ Put (now (out .entry)) 0 (finishText (now (input .entry))) (now (out .exit)) r ⌝ }
+{
+    let mut regions = [0u8; record::LIMIT + 1];
+    let count = input::hold(&mut regions, input::list_of(input, 2));
+    put_build(
+        out,
+        input::list_of(input, 0),
+        input::list_of(input, 1),
+        &mut regions[..count],
+        input::list_of(input, 3),
+    )
 }

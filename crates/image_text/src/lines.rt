@@ -1,35 +1,46 @@
-// The lines of an image, put into a lent buffer. Each function answers where its line ends.
+// The lines of an image. Each function answers where its line ends.
 ghost use Prim.Native.Nat.{_+_, _≤_};
 ghost use lib.ListN.{length};
 ghost use Rattle.text.specs.Text.{Put};
-ghost use Rattle.image_text.specs.Lines.{wordLine};
+ghost use Rattle.image_text.specs.Image.{entryLine, regionLine, wordLine, partLine};
 
 pub(crate) fn put_entry(out: &mut [u8], at: usize, entry: u32) -> usize
-    requires { ⌜ at + 128 ≤ length (now out) ⌝ }
-    ensures { λ r. ⌜ r ≤ at + 128 ⌝ }
+    requires { ⌜ at + length (entryLine entry) ≤ length (now out) ⌝ }
+    ensures { λ r. ⌜ Put (now (out .entry)) at (entryLine entry) (now (out .exit)) r ⌝ }
 {
     let entry_at = text::put_text(&mut *out, at, b"entry ");
     let end = text::put_hex(&mut *out, entry_at, entry, 8);
     text::put_byte(out, end, b'\n')
 }
 
-pub(crate) fn put_region(out: &mut [u8], at: usize, number: usize, address: u32) -> usize
-    requires { ⌜ at + 128 ≤ length (now out) ⌝ }
-    ensures { λ r. ⌜ r ≤ at + 128 ⌝ }
+pub(crate) fn put_region_line(out: &mut [u8], at: usize, number: u64, address: u32) -> usize
+    requires { ⌜ at + length (regionLine number address) ≤ length (now out) ⌝ }
+    ensures { λ r. ⌜ Put (now (out .entry)) at (regionLine number address) (now (out .exit)) r ⌝ }
 {
     let number_at = text::put_text(&mut *out, at, b"region");
-    let blank_at = text::put_field(&mut *out, number_at, number as u64);
+    let blank_at = text::put_field(&mut *out, number_at, number);
     let address_at = text::put_byte(&mut *out, blank_at, b' ');
     let end = text::put_hex(&mut *out, address_at, address, 8);
     text::put_byte(out, end, b'\n')
 }
 
 pub(crate) fn put_word(out: &mut [u8], at: usize, pc: u32, word: u32) -> usize
-    requires { ⌜ at + 128 ≤ length (now out) ⌝ }
+    requires { ⌜ at + length (wordLine pc word) ≤ length (now out) ⌝ }
     ensures { λ r. ⌜ Put (now (out .entry)) at (wordLine pc word) (now (out .exit)) r ⌝ }
 {
     let blank_at = text::put_hex(&mut *out, at, pc, 8);
     let word_at = text::put_byte(&mut *out, blank_at, b' ');
     let end = text::put_hex(&mut *out, word_at, word, 8);
+    text::put_byte(out, end, b'\n')
+}
+
+// A last part word: its bytes in the order of memory.
+pub(crate) fn put_part(out: &mut [u8], at: usize, pc: u32, bytes: &[u8]) -> usize
+    requires { ⌜ at + length (partLine pc (now bytes)) ≤ length (now out) ⌝ }
+    ensures { λ r. ⌜ Put (now (out .entry)) at (partLine pc (now (bytes .entry))) (now (out .exit)) r ⌝ }
+{
+    let blank_at = text::put_hex(&mut *out, at, pc, 8);
+    let bytes_at = text::put_byte(&mut *out, blank_at, b' ');
+    let end = text::put_hex_bytes(&mut *out, bytes_at, bytes);
     text::put_byte(out, end, b'\n')
 }

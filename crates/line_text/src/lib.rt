@@ -1,107 +1,99 @@
-// What `emit_line` does: reads an emit call's six buffers and its numbers from standard input, emits the line, and prints what the call leaves.
+// What `emit_line` does, from the bytes that it reads to those that it prints: an emit call's six buffers and its numbers, and what the call
+// leaves.
+ghost use mathlib.Core.Path.{_≡_};
 ghost use Prim.Native.Nat.{_≤_};
+ghost use lib.ListN.{length};
+ghost use Rattle.emit_outcome.specs.Call.{lentOf, outcomeOf};
+ghost use Rattle.text.specs.Text.{Put};
+ghost use Rattle.line_text.specs.Line.{numbersIn, outcomeText, callText, lineText};
+use emit_outcome::Emitted;
 use emit_outcome::FillCounts;
 use emit_outcome::LineNumbers;
 use emit_outcome::LinePlace;
-use text::input;
 
-mod output;
+mod lines;
 
-// The numbers behind the buffers, and how many bytes of the input are left.
-pub struct NumbersRead {
-    pub numbers: LineNumbers,
-    pub left: u64,
-}
-
-// Reads at most `left` bytes, and answers how many of them are left.
-pub fn emit_line(left: u64) -> u64
-    ensures { λ r. ⌜ r ≤ left ⌝ }
+// The numbers that stand behind the buffers.
+pub fn numbers_in(input: &[u8]) -> LineNumbers
+    ensures { λ r. ⌜ r ≡ numbersIn (now (input .entry)) ⌝ }
 {
-    let mut tokens = input::empty_list();
-    let mut mnemonic = input::empty_list();
-    let mut descriptors = input::empty_list();
-    let t = input::read_list(&mut tokens, left);
-    let m = input::read_list(&mut mnemonic, t.left);
-    let d = input::read_list(&mut descriptors, m.left);
-    emit_into(
-        &tokens[..t.length],
-        &mnemonic[..m.length],
-        &descriptors[..d.length],
-        d.left,
-    )
-}
-
-// Reads the rest: the three buffers that the line is appended to, and the numbers.
-fn emit_into(tokens: &[u8], mnemonic: &[u8], descriptors: &[u8], left: u64) -> u64
-    ensures { λ r. ⌜ r ≤ left ⌝ }
-{
-    let mut data = input::empty_list();
-    let mut pending = input::empty_list();
-    let mut breakpoints = input::empty_list();
-    let d = input::read_list(&mut data, left);
-    let p = input::read_list(&mut pending, d.left);
-    let b = input::read_list(&mut breakpoints, p.left);
-    let read = read_numbers(b.left);
-    let numbers = read.numbers;
-    print_line(
-        tokens,
-        mnemonic,
-        descriptors,
-        &mut data[..d.length],
-        &mut pending[..p.length],
-        &mut breakpoints[..b.length],
-        numbers,
-    );
-    read.left
-}
-
-// Reads the numbers, of at most `left` bytes. A missing one is 0.
-pub fn read_numbers(left: u64) -> NumbersRead
-    ensures { λ r. ⌜ r .left ≤ left ⌝ }
-{
-    let data = input::read_word(left);
-    let pending = input::read_word(data.left);
-    let breakpoints = input::read_word(pending.left);
-    let position = input::read_word(breakpoints.left);
-    let region = input::read_half(position.left);
-    let address = input::read_word(region.left);
     let counts = FillCounts {
-        data_len: data.value,
-        pending: pending.value,
-        breakpoints: breakpoints.value,
+        data_len: input::word_or_zero(input, 0),
+        pending: input::word_or_zero(input, 4),
+        breakpoints: input::word_or_zero(input, 8),
     };
     let place = LinePlace {
-        position: position.value,
-        region: region.value as u16,
-        address: address.value,
+        position: input::word_or_zero(input, 12),
+        region: input::half_or_zero(input, 16),
+        address: input::word_or_zero(input, 18),
     };
-    let numbers = LineNumbers { counts, place };
-    NumbersRead {
-        numbers,
-        left: address.left,
-    }
+    LineNumbers { counts, place }
 }
 
-fn print_line(
-    tokens: &[u8],
-    mnemonic: &[u8],
-    descriptors: &[u8],
+// What a call answers and what the buffers hold after it.
+fn put_emitted(
+    out: &mut [u8],
+    emitted: Emitted,
+    data: &[u8],
+    pending: &[u8],
+    breakpoints: &[u8],
+) -> usize
+    requires { ⌜ (400000 ≤ length (now out)) × (length (now «data») ≤ 65537) × (length (now pending) ≤ 65537) × (length (now breakpoints) ≤ 65537) ⌝ }
+    ensures { λ r. ⌜ Put (now (out .entry)) 0
+        (outcomeText (outcomeOf (emitted .answer) (emitted .counts)
+        (lentOf (now («data» .entry)) (now (pending .entry)) (now (breakpoints .entry))))) (now (out .exit)) r ⌝ }
+{
+    let answer = emitted.answer;
+    let counts = emitted.counts;
+    let data_at = lines::put_head(&mut *out, answer, counts);
+    let pending_at = lines::put_bytes(&mut *out, data_at, b"data ", data);
+    let breakpoints_at = lines::put_bytes(&mut *out, pending_at, b"pending ", pending);
+    lines::put_bytes(out, breakpoints_at, b"breakpoints ", breakpoints)
+}
+
+// Makes the call of an input whose last three buffers are these.
+fn put_call(
+    out: &mut [u8],
+    input: &[u8],
     data: &mut [u8],
     pending: &mut [u8],
     breakpoints: &mut [u8],
-    numbers: LineNumbers,
-) {
+) -> usize
+    requires { ⌜ (400000 ≤ length (now out)) × (length (now «data») ≤ 65537) × (length (now pending) ≤ 65537) × (length (now breakpoints) ≤ 65537) ⌝ }
+    ensures { λ r. ⌜ Put (now (out .entry)) 0
+        (callText (now (input .entry)) (lentOf (now («data» .entry)) (now (pending .entry)) (now (breakpoints .entry)))) (now (out .exit)) r ⌝ }
+{
+    let numbers = numbers_in(input::behind_lists(input, 6));
     let counts = numbers.counts;
     let place = numbers.place;
-    let emitted = emit_core::do_instruction(
+    let emitted = emit::do_line(
         counts,
-        tokens,
-        mnemonic,
-        descriptors,
+        input::list_of(input, 0),
+        input::list_of(input, 1),
+        input::list_of(input, 2),
         &mut *data,
         &mut *pending,
         &mut *breakpoints,
         place,
     );
-    output::print(emitted, &*data, &*pending, &*breakpoints);
+    put_emitted(out, emitted, &*data, &*pending, &*breakpoints)
+}
+
+// The text that `emit_line` prints for an input.
+pub fn emit_line(input: &[u8], out: &mut [u8; text::MOST]) -> usize
+    ensures { λ r. ⌜ Put (now (out .entry)) 0 (lineText (now (input .entry))) (now (out .exit)) r ⌝ }
+{
+    let mut data = [0u8; record::LIMIT + 1];
+    let mut pending = [0u8; record::LIMIT + 1];
+    let mut breakpoints = [0u8; record::LIMIT + 1];
+    let d = input::hold(&mut data, input::list_of(input, 3));
+    let p = input::hold(&mut pending, input::list_of(input, 4));
+    let b = input::hold(&mut breakpoints, input::list_of(input, 5));
+    put_call(
+        out,
+        input,
+        &mut data[..d],
+        &mut pending[..p],
+        &mut breakpoints[..b],
+    )
 }

@@ -1,55 +1,90 @@
--- Bytes stored one after the other, text put behind text, the digits of a number. Assumes nothing.
+-- Text put behind text, text put piece by piece, the digits of a number. Assumes nothing.
 use Prim.Native.Nat.{ℕ, zero, suc, _+_, _-_, _*_, _/_, _%_, _^_, _≤_, _<_, min, max}
 use native.Mathlib.Nat.{one-le-pow, pow-le-pow-right, pow-suc, mod-eq-of-lt}
 use native.Mathlib.Numerals.{add-one}
 use native.Mathlib.Omega.{arith}
-use mathlib.Core.Path.{_≡_, refl, sym, ap, ap₂, _∙_}
-use mathlib.Core.List.{List, [], _∷_, _++_, append-assoc}
+use mathlib.Core.Path.{_≡_, refl, sym, ap, _∙_}
+use mathlib.Core.List.{List, [], _∷_, _++_}
 use mathlib.Core.Bool.{Bool, true, false}
 use lib.Dec.{ltb}
 use lib.IntN.{ℤ, pos, negsuc}
-use lib.ListN.{length, take, drop, set, length-append, length-take, length-drop}
-use lib.Seq.{paste, set-split, append-snoc, take-length, take-at, drop-append-add, drop-drop}
-use borrow.Author.Tests.{ltb-true, ltb-false, lt-ltb, le-ltb, le-leb, lt-leb}
+use lib.ListN.{length, take, drop, getD, length-append, length-take, length-drop, drop-of-length-le}
+use lib.Seq.{drop-cons, length-take-le}
+use borrow.Author.Tests.{ltb-true, ltb-false, lt-ltb, le-ltb}
+use Rattle.io.specs.Counts.{Counts}
 use Rattle.io.specs.Digits.{glyph, digits, Fewest}
+use Rattle.record.specs.Stores.{append}
+use Rattle.record.specs.StoresLaws.{append-none, append-append, append-then}
 use Rattle.refusal.specs.Split.{isNegative, size}
-use Rattle.text.specs.Text.{Put, roomFrom, decimalIn, decimal, field, signedField}
+use Rattle.refusal.specs.declared.Numbered.{Numbered}
+use Rattle.pseudo_names.specs.PseudoNames.{bytesOf}
+use Rattle.text.specs.Text.{Put, decimalIn, decimal, hexBytes, field, signedField, lastField, locationFields, refusedLine}
 
-pub put-byte : (d : List ℕ) (at b : ℕ) → at < length d → Put d at (b ∷ []) (set d at b) (at + 1)
-put-byte d at b h =
-    record { fits = omega arith; ends = refl; bytes = rw add-one (set-split d at b h ∙ sym (append-snoc (take at d) b (drop (suc at) d))) }
-
-pub put-text : (d xs e : List ℕ) (at n : ℕ) → at + length xs ≤ length d → n ≡ length xs → e ≡ paste d at xs n → Put d at xs e (at + n)
-put-text d xs e at n h g k = record { fits = h; ends = rw g; bytes = k ∙ rw (g, take-length xs) }
+append-length : (d : List ℕ) (at : ℕ) (xs : List ℕ) → at + length xs ≤ length d → length (append d at xs) ≡ length d
+unfolding append
+append-length d at xs h = simp (length-append, length-take, length-drop) (omega arith)
 
 module _ (d : List ℕ) (at : ℕ) (xs e : List ℕ) (m : ℕ) (p : Put d at xs e m) where
   pub put-length : length e ≡ length d
-  put-length = let h = p .fits in rw (p .bytes) (simp (length-append, length-take, length-drop) (omega arith))
+  put-length = ap length (p .bytes) ∙ append-length d at xs (p .fits)
+
+  -- the buffer has a part up to the end of the text
+  pub put-counts : Counts m e
+  put-counts =
+      let h : m ≤ length e = omega (arith, p .fits, p .ends, put-length) in
+      (h, sym (length-take-le m e h))
+
+  -- behind a text there is room for what the buffer has room for behind it
+  pub put-room : (ys : List ℕ) → at + length (xs ++ ys) ≤ length d → m + length ys ≤ length e
+  put-room ys h = omega (arith, p .ends, put-length, length-append xs ys)
 
   pub put-then : (ys f : List ℕ) (n : ℕ) → Put e m ys f n → Put d at (xs ++ ys) f n
   put-then ys f n q =
-      let a : List ℕ = take at d ++ xs in
-      let b : List ℕ = drop (at + length xs) d in
-      let h : at + length xs ≤ length d = p .fits in
-      let la : length a ≡ m = simp (length-append, length-take) (omega (arith, p .ends)) in
-      let g : at + length xs + length ys ≡ at + length (xs ++ ys) = simp length-append (omega arith) in
+      let l = length-append xs ys in
+      let g = put-length in
       record {
-        fits = omega (arith, q .fits, p .ends, put-length);
-        ends = q .ends ∙ ap (λ (k : ℕ). k + length ys) (p .ends) ∙ g;
-        bytes = q .bytes ∙ rw (p .bytes)
-            (ap₂ (λ (x y : List ℕ). x ++ ys ++ y) (take-at a b m la)
-            (ap (λ (k : ℕ). drop (k + length ys) (a ++ b)) (sym la) ∙ drop-append-add a b (length ys) ∙ drop-drop (length ys) (at + length xs) d)
-            ∙ ap₂ (λ (x : List ℕ) (k : ℕ). x ++ drop k d) (append-assoc (take at d) xs ys) g);
+        fits = omega (arith, q .fits, p .ends);
+        ends = omega (arith, q .ends, p .ends);
+        bytes = append-then d at xs m ys (p .bytes) (q .bytes) (sym (p .ends)) (omega (arith, q .fits));
       }
 
--- ---- room
-pub room-kept : (n end : ℕ) → end + 128 ≤ n → roomFrom n end ≡ end
-unfolding roomFrom
-room-kept n end h = rw (le-leb (end + 128) n h, roomFrom)
+-- the first of two texts that have room has room
+pub front-room : (at n : ℕ) (xs ys : List ℕ) → at + length (xs ++ ys) ≤ n → at + length xs ≤ n
+front-room at n xs ys h = omega (arith, length-append xs ys)
 
-pub room-start : (n end : ℕ) → n < end + 128 → roomFrom n end ≡ 0
-unfolding roomFrom
-room-start n end h = rw (lt-leb (end + 128) n h, roomFrom)
+-- ---- a text put piece by piece: what is still to be put
+pub record Left (d : List ℕ) (at : ℕ) (xs e : List ℕ) (end : ℕ) (ys : List ℕ) : Type 0 where
+  pub fits : at + length xs ≤ length d
+  pub kept : length e ≡ length d
+  pub ends : end + length ys ≡ at + length xs
+  pub bytes : append e end ys ≡ append d at xs
+
+pub left-first : (d : List ℕ) (at : ℕ) (xs : List ℕ) → at + length xs ≤ length d → Left d at xs d at xs
+left-first d at xs h = record { fits = h; kept = refl; ends = refl; bytes = refl }
+
+module _ {d : List ℕ} {at : ℕ} {xs : List ℕ} where
+  -- there is room for the next piece
+  pub left-room : (e : List ℕ) (end : ℕ) (ps ys : List ℕ) → Left d at xs e end (ps ++ ys) → end + length ps ≤ length e
+  left-room e end ps ys l = omega (arith, l .fits, l .kept, l .ends, length-append ps ys)
+
+  pub left-next : (e : List ℕ) (end : ℕ) (ps ys f : List ℕ) (n : ℕ) → Left d at xs e end (ps ++ ys) → Put e end ps f n → Left d at xs f n ys
+  left-next e end ps ys f n l p =
+      let a = length-append ps ys in
+      record {
+        fits = l .fits;
+        kept = put-length e end ps f n p ∙ l .kept;
+        ends = omega (arith, l .ends, p .ends);
+        bytes = ap (λ (x : List ℕ). append x n ys) (p .bytes)
+            ∙ append-append e end ps ys n (sym (p .ends)) (omega (arith, l .fits, l .kept, l .ends, p .ends))
+            ∙ l .bytes;
+      }
+
+  pub left-last : (e : List ℕ) (end : ℕ) (ys f : List ℕ) (n : ℕ) → Left d at xs e end ys → Put e end ys f n → Put d at xs f n
+  left-last e end ys f n l p = record { fits = l .fits; ends = p .ends ∙ l .ends; bytes = p .bytes ∙ l .bytes }
+
+  pub left-none : (e : List ℕ) (end : ℕ) → Left d at xs e end [] → Put d at xs e end
+  left-none e end l =
+      record { fits = l .fits; ends = omega (arith, l .ends); bytes = append-none e end ∙ l .bytes }
 
 -- ---- the count of digits
 pub most-digits : (b least n k m : ℕ) → 0 < b → least ≤ m → n < b ^ m → Fewest b least n k → k ≤ m
@@ -71,6 +106,10 @@ width-fits w n k p q h f =
 
 pub word-digits : (n k : ℕ) → n < 2 ^ 64 → Fewest 10 1 n k → k ≤ 20
 word-digits n k h f = most-digits 10 1 n k 20 (omega arith) (omega arith) (omega arith) f
+
+pub digits-length : (b k n : ℕ) → length (digits b k n) ≡ k
+digits-length b zero n = refl
+digits-length b (suc k) n = omega (arith, length-append (digits b k (n / b)) (glyph (n % b) ∷ []), digits-length b k (n / b))
 
 -- ---- decimal digits
 decimal-one : (most n : ℕ) → n < 10 → decimalIn (suc most) n ≡ digits 10 1 n
@@ -95,13 +134,70 @@ decimal-in (suc most) n (suc (suc k)) h f =
     let e : decimalIn most (n / 10) ≡ digits 10 (suc k) (n / 10) = decimal-in most (n / 10) (suc k) (omega arith) g in
     decimal-more most n (omega arith) ∙ rw e
 
+decimal-most : (most n : ℕ) → length (decimalIn most n) ≤ most
+unfolding decimalIn
+decimal-most zero n = omega arith
+decimal-most (suc most) n = go (ltb n 10) refl (decimal-most most (n / 10))
+  where
+    go : (b : Bool) → ltb n 10 ≡ b → length (decimalIn most (n / 10)) ≤ most → length (decimalIn (suc most) n) ≤ suc most
+    go true e ih = rw (e, decimalIn) (omega arith)
+    go false e ih = rw (e, decimalIn) (omega (arith, length-append (decimalIn most (n / 10)) (glyph (n % 10) ∷ [])))
+
+-- ---- bytes in hexadecimal
+pub hex-length : (bs : List ℕ) → length (hexBytes bs) ≡ 2 * length bs
+unfolding hexBytes
+hex-length [] = refl
+hex-length (b ∷ bs) = omega (arith, length-append (digits 16 2 b) (hexBytes bs), digits-length 16 2 b, hex-length bs)
+
+pub hex-next : (bs : List ℕ) (i : ℕ) → i < length bs → hexBytes (drop i bs) ≡ digits 16 2 (getD bs i 0) ++ hexBytes (drop (i + 1) bs)
+unfolding hexBytes
+hex-next bs i h = rw (add-one, drop-cons bs i 0)
+
+pub hex-end : (bs : List ℕ) (i : ℕ) → length bs ≤ i → hexBytes (drop i bs) ≡ []
+unfolding hexBytes
+hex-end bs i h = rw (drop-of-length-le bs h)
+
 -- ---- the sign
 pub signed-from : (z : ℤ) → isNegative z ≡ false → signedField z ≡ field (size z)
 unfolding isNegative size signedField
 signed-from (pos n) h = refl
 signed-from (negsuc n) h = cc
 
-pub signed-below : (z : ℤ) → isNegative z ≡ true → signedField z ≡ (32 ∷ []) ++ (45 ∷ []) ++ decimal (size z + 1)
+pub signed-below : (z : ℤ) → isNegative z ≡ true → signedField z ≡ bytesOf " -" ++ decimal (size z + 1)
 unfolding isNegative size signedField
 signed-below (pos n) h = cc
 signed-below (negsuc n) h = refl
+
+-- ---- the most that a number and a refusal take
+pub field-most : (n : ℕ) → length (field n) ≤ 21
+field-most n = omega (arith, decimal-most 20 n)
+
+pub last-most : (n : ℕ) → length (lastField n) ≤ 22
+last-most n = omega (arith, length-append (field n) (bytesOf "\n"), field-most n)
+
+signed-most : (z : ℤ) → length (signedField z) ≤ 22
+unfolding signedField
+signed-most (pos n) = omega (arith, field-most n)
+signed-most (negsuc n) = omega (arith, decimal-most 20 (n + 1))
+
+pub refused-length : (n : Numbered) → length (refusedLine n)
+    ≡ 7 + length (field (n .number)) + length (locationFields (n .location)) + length (signedField (n .a)) + length (lastField (n .b))
+unfolding refusedLine
+refused-length n =
+    let number = bytesOf "refused" ++ field (n .number) in
+    let location = number ++ locationFields (n .location) in
+    let a = location ++ signedField (n .a) in
+    omega (arith, length-append a (lastField (n .b)), length-append location (signedField (n .a)), length-append number (locationFields (n .location)))
+
+pub refused-most : (n : Numbered) → length (refusedLine n) ≤ 114
+refused-most n =
+    let l = length-append (field (n .location .source)) (field (n .location .index)) in
+    omega (
+      arith,
+      refused-length n,
+      field-most (n .number),
+      field-most (n .location .source),
+      field-most (n .location .index),
+      signed-most (n .a),
+      last-most (n .b),
+    )

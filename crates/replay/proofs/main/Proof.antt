@@ -1,28 +1,22 @@
--- The loop ends: the calls are counted up to a bound. Assumes nothing.
-use Prim.Native.Nat.{_-_, _≤_}
+-- What is read and what is written is a part of its buffer. Assumes nothing.
+use Prim.Native.Nat.{ℕ}
+use mathlib.Core.Path.{sym}
+use lib.ListN.{length-replicate}
 use borrow.Author.Needs.{needs}
+use Rattle.text.specs.TextLaws.{put-counts}
 use Rattle.replay.proofs.main.Statement.{statement}
 use Rattle.replay.proofs.main.Tie as tie
-
-abbrev Inv-loop : tie.InvT-loop
-Inv-loop calls₀ differ₀ kind₀ calls differ kind = (calls ≤ 4294967296) × (differ ≤ calls)
-
-abbrev μ-loop : tie.MeasureT-loop
-μ-loop calls₀ differ₀ kind₀ calls differ kind = 4294967296 - calls
 
 pub main-spec : {M : Type 1} → statement M
 main-spec =
     tie.close
     (tie.spec
-    Inv-loop
-    μ-loop
+    (λ c. sym (length-replicate {A = ℕ} 4194304 0))
     (λ c κs. search needs)
-    (λ c. search needs)
+    (λ c. c .before .read-full .ensures .0)
+    (λ c. c .before .before .read-full .ensures .1)
     (λ c κs. search needs)
-    (λ c. search needs)
-    (λ c. search needs)
-    (λ c κs. search needs)
-    (λ c. search needs)
-    (λ c. search needs)
+    (λ c. put-counts _ _ _ _ _ (c .replay .ensures) .0)
+    (λ c. put-counts _ _ _ _ _ (c .before .replay .ensures) .1)
     (λ c κs. search needs)
     (λ c. search needs))

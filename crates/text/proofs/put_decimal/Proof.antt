@@ -1,25 +1,24 @@
--- 64 bits have 20 digits at most. Assumes nothing.
-use native.Mathlib.Omega.{arith}
-use Prim.Native.Nat.{_≤_}
-use lib.ListN.{length-take}
+-- 64 bits have 20 digits at most, and as many are put as there are. Assumes nothing.
+use mathlib.Core.Path.{_≡_, sym, _∙_}
+use lib.ListN.{take}
 use borrow.Author.Needs.{needs}
+use Rattle.text.specs.Text.{decimal}
 use Rattle.text.specs.TextLaws.{word-digits, decimal-in}
 use Rattle.text.proofs.put_decimal.Statement.{statement}
 use Rattle.text.proofs.put_decimal.Tie as tie
 
-count-most : (c : tie.After-decimal) → c .decimal .result ≤ 20
-count-most c = word-digits _ (c .decimal .result) (c .before .before .before .fits .n .fits) (c .decimal .ensures .1 .0)
+-- the digits made are the number's
+made : (c : tie.After-decimal) → take (c .decimal .result) (c .decimal .last .1 .0) ≡ decimal (c .before .before .before .args .n)
+made c =
+    let s = c .before .before .before in
+    let f = c .decimal .ensures .1 .0 in
+    c .decimal .ensures .1 .1 ∙ sym (decimal-in 20 (s .args .n) (c .decimal .result) (word-digits (s .args .n) (c .decimal .result) (s .fits .n .fits) f) f)
 
 put-text-requires : tie.Need-put-text-requires
-put-text-requires c κs = let m = count-most (c .before .before) in simp length-take (omega arith)
+put-text-requires c κs = rw (made (c .before .before)) (c .before .before .before .before .before .pre)
 
 returns : tie.Need-returns
-returns c =
-    let h = c .before .before .before .before .before in
-    let m = count-most h in (
-      rw (h .decimal .ensures .1 .1, ← decimal-in 20 _ (h .decimal .result) m (h .decimal .ensures .1 .0)) at (c .before .before .put-text .ensures),
-      rw (c .before .before .put-text .ensures .ends) (simp length-take (omega arith)),
-    )
+returns c = rw (made (c .before .before .before .before .before)) at (c .before .before .put-text .ensures)
 
 pub put-decimal-spec : {M : Type 1} → statement M
 put-decimal-spec =

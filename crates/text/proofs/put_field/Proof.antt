@@ -6,7 +6,7 @@ use Rattle.text.proofs.put_field.Tie as tie
 
 returns : tie.Need-returns
 returns c =
-    (put-then _ _ _ _ _ (c .before .before .before .before .before .before .put-byte .ensures) _ _ _ (c .before .before .put-decimal .ensures .0), search needs)
+    put-then _ _ _ _ _ (c .before .before .before .before .before .before .put-byte .ensures) _ _ _ (c .before .before .put-decimal .ensures)
 
 pub put-field-spec : {M : Type 1} → statement M
 put-field-spec = tie.close (tie.spec (λ c κs. search needs) (λ c κs. search needs) (λ c. search needs) returns)

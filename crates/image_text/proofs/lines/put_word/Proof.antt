@@ -1,10 +1,13 @@
 -- Four texts, each behind the one before. Assumes nothing.
 use borrow.Author.Needs.{needs}
 use Rattle.text.specs.TextLaws.{put-then}
+use Rattle.image_text.specs.Image.{wordLine}
+use Rattle.image_text.specs.ImageLaws.{word-length}
 use Rattle.image_text.proofs.lines.put_word.Statement.{statement}
 use Rattle.image_text.proofs.lines.put_word.Tie as tie
 
 returns : tie.Need-returns
+unfolding wordLine
 returns c =
     let c2 = c .before .before .before .before .before .before in
     let c1 = c2 .before .before .before .before in
@@ -17,9 +20,9 @@ pub put-word-spec : {M : Type 1} → statement M
 put-word-spec =
     tie.close
     (tie.spec
-    (λ c κs. search needs)
-    (λ c κs. search needs)
-    (λ c κs. search needs)
-    (λ c κs. search needs)
+    (λ c κs. let l = word-length (c .before .before .args .pc) (c .before .before .args .word) in search needs)
+    (λ c κs. let l = word-length (c .before .before .before .before .before .before .args .pc) (c .before .before .before .before .before .before .args .word) in search needs)
+    (λ c κs. let l = word-length (c .before .before .before .before .before .before .before .before .before .before .args .pc) (c .before .before .before .before .before .before .before .before .before .before .args .word) in search needs)
+    (λ c κs. let l = word-length (c .before .before .before .before .before .before .before .before .before .before .before .before .before .before .args .pc) (c .before .before .before .before .before .before .before .before .before .before .before .before .before .before .args .word) in search needs)
     (λ c. search needs)
     returns)

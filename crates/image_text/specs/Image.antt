@@ -1,0 +1,62 @@
+-- What `finish` prints (document 01, `finish`). Assumes nothing.
+use Prim.Native.Nat.{ℕ, _+_}
+use mathlib.Core.List.{List, [], _∷_, _++_}
+use Rattle.io.specs.Digits.{digits}
+use Rattle.record.specs.Bytes.{le32}
+use Rattle.pseudo_names.specs.PseudoNames.{bytesOf}
+use Rattle.refusal.specs.Numbers.{numbered}
+use Rattle.patch.specs.Patches.{wrap32}
+use Rattle.build_outcome.specs.declared.Built.{Built}
+use Rattle.build_outcome.specs.declared.Built.the-variants.{Entry, Refused}
+use Rattle.build_outcome.specs.Build.{BuildOutcome, buildOutcome}
+use Rattle.reading.specs.Reading.{ImageRegion, Image, imageOf}
+use Rattle.input.specs.Input.{listOf}
+use Rattle.text.specs.Text.{field, hexBytes, refusedLine}
+
+-- "Entry, address, pc and word have eight lower-case hexadecimal digits each"
+abbrev pub eight : ℕ → List ℕ
+eight n = digits 16 8 n
+
+-- "It prints `entry` and the entry, then per region `region`, its number (decimal) and address, then a line of pc and word for each four bytes."
+unfoldable pub entryLine : (entry : ℕ) → List ℕ
+entryLine entry = bytesOf "entry " ++ eight entry ++ bytesOf "\n"
+
+unfoldable pub regionLine : (number address : ℕ) → List ℕ
+regionLine number address = bytesOf "region" ++ field number ++ bytesOf " " ++ eight address ++ bytesOf "\n"
+
+unfoldable pub wordLine : (pc word : ℕ) → List ℕ
+wordLine pc word = eight pc ++ bytesOf " " ++ eight word ++ bytesOf "\n"
+
+-- "(a last part word: its bytes, two digits each)"
+unfoldable pub partLine : (pc : ℕ) → List ℕ → List ℕ
+partLine pc bytes = eight pc ++ bytesOf " " ++ hexBytes bytes ++ bytesOf "\n"
+
+-- data from offset i on; "pc, which is region address plus offset", wraps at 2^32
+unfoldable pub dataLines : (address i : ℕ) → List ℕ → List ℕ
+dataLines address i [] = []
+dataLines address i (a ∷ []) = partLine (wrap32 (address + i)) (a ∷ [])
+dataLines address i (a ∷ b ∷ []) = partLine (wrap32 (address + i)) (a ∷ b ∷ [])
+dataLines address i (a ∷ b ∷ c ∷ []) = partLine (wrap32 (address + i)) (a ∷ b ∷ c ∷ [])
+dataLines address i (a ∷ b ∷ c ∷ d ∷ rest) = wordLine (wrap32 (address + i)) (le32 (a ∷ b ∷ c ∷ d ∷ []) 0) ++ dataLines address (i + 4) rest
+
+abbrev pub regionText : (number : ℕ) → ImageRegion → List ℕ
+regionText number r = regionLine number (r .address) ++ dataLines (r .address) 0 (r .bytes)
+
+unfoldable pub regionsText : (number : ℕ) → Image → List ℕ
+regionsText number [] = []
+regionsText number (r ∷ rs) = regionText number r ++ regionsText (number + 1) rs
+
+abbrev pub imageText : (entry : ℕ) → Image → List ℕ
+imageText entry image = entryLine entry ++ regionsText 0 image
+
+-- "A refusal prints alone"
+abbrev pub outcomeText : Built → (regions : List ℕ) → List ℕ
+outcomeText (Entry entry) regions = imageText entry (imageOf regions)
+outcomeText (Refused r) regions = refusedLine (numbered r)
+
+abbrev pub buildText : (labels entry regions pending : List ℕ) → List ℕ
+buildText labels entry regions pending = let o = buildOutcome labels entry regions pending in outcomeText (o .answer) (o .regions)
+
+-- "reads the build's buffers from standard input in argument order: labels, entry, regions, pending"
+unfoldable pub finishText : List ℕ → List ℕ
+finishText s = buildText (listOf 0 s) (listOf 1 s) (listOf 2 s) (listOf 3 s)
