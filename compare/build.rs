@@ -4,12 +4,13 @@
 use std::env;
 
 fn main() {
-    println!("cargo:rustc-check-cfg=cfg(library_build, library_line, library_count)");
+    println!("cargo:rustc-check-cfg=cfg(library_build, library_line, library_count, library_text)");
     for name in [
         "NAZGWERN_FOLDER",
         "NAZGWERN_BUILD",
         "NAZGWERN_LINE",
         "NAZGWERN_COUNT",
+        "NAZGWERN_TEXT",
     ] {
         println!("cargo:rerun-if-env-changed={name}");
     }
@@ -30,5 +31,8 @@ fn main() {
     }
     if env::var("NAZGWERN_COUNT").is_ok() {
         println!("cargo:rustc-cfg=library_count");
+    }
+    if env::var("NAZGWERN_TEXT").is_ok() {
+        println!("cargo:rustc-cfg=library_text");
     }
 }

@@ -103,6 +103,7 @@ struct buffer {
 
 static struct buffer tokens, mnemonic, descriptors, data, pending, breakpoints, counts, answer;
 static struct buffer labels, entry, regions, patches; /* a build's pending list is only read */
+static struct buffer typed, records;                  /* a text, and the records of its tokens */
 
 static void *mapped(void *at, size_t size, int protection, int flags, int file)
 {
@@ -572,6 +573,61 @@ static void count_forms(void)
         unchanged(&counts);
 }
 
+/* ---- a text */
+
+/* Pieces of a text, good ones first. */
+static const char *const pieces[] = {
+    "add",   "loop1", ":",     ",",  "(",    ")",    "+",      "-",    " ",   "\t",  "\r",
+    "\n",    ".word", ".",     "%a", "$t0",  "$f31", "$31",    "0x1F", "420", "0X1", "\"seam\"",
+    "# pen", "\"\"",  "_x",    "$",  "$f32", "%",    "0x",     "\"",   "#\t", "~",   "\x80",
+    "0123456789abcdef0123456789abcdef0123456789abcdef0123456789abcdef", "99999999999999999999",
+};
+enum { PIECES = sizeof pieces / sizeof *pieces, GOOD_PIECES = 25 };
+
+static void some_text(void)
+{
+    uint32_t good = once_in(8) ? PIECES : GOOD_PIECES;
+
+    typed.length = 0;
+    if (once_in(8)) {
+        put_any(&typed, below(40));
+        return;
+    }
+    for (uint32_t left = once_in(1000) ? 9000 : below(20); left > 0; left--) {
+        put_text(&typed, pieces[below(good)]);
+        if (once_in(2))
+            put_text(&typed, " ");
+    }
+}
+
+static void read_text(void)
+{
+    some_text();
+    records.length = 0;
+    put_any(&records, once_in(4) ? below(200) : 16 * typed.length % NAZGWERN_MOST_BYTES);
+    some_room(&answer, NAZGWERN_ANSWER_BYTES);
+    if (once_in(1000)) { /* the limit, or over it */
+        struct buffer *buffer = once_in(2) ? &typed : &records;
+        buffer->length = NAZGWERN_MOST_BYTES + below(64);
+    }
+    lend(&typed);
+    lend(&records);
+    lend(&answer);
+
+    uint32_t number = nazgwern_read_text(typed.lent, typed.length, (uint32_t)chance(), records.lent,
+                                         records.length, answer.lent, answer.length);
+
+    unchanged(&typed);
+    if (!answered(number, answer.length >= NAZGWERN_ANSWER_BYTES) || number != 0) {
+        unchanged(&records);
+        return;
+    }
+    uint32_t fill = number_at(answer.lent, 20);
+    if (fill > records.length)
+        fail("a fill past the buffer's end");
+    kept(&records, 0, fill, "a byte behind the records was changed");
+}
+
 /* ---- the entries, each with how many calls */
 
 static const struct {
@@ -582,6 +638,7 @@ static const struct {
     {"nazgwern_do_instruction", do_instruction, 1000000},
     {"nazgwern_build", build, 500000},
     {"nazgwern_count_forms", count_forms, 500000},
+    {"nazgwern_read_text", read_text, 500000},
 };
 
 static void report(const struct tally *tally)
@@ -603,6 +660,7 @@ int main(int count, char **words)
     make(&labels, only_read), make(&entry, only_read), make(&patches, only_read);
     make(&data, lent), make(&pending, lent), make(&breakpoints, lent), make(&regions, lent);
     make(&counts, lent), make(&answer, lent);
+    make(&typed, only_read), make(&records, lent);
     signal(SIGSEGV, touched);
     signal(SIGBUS, touched);
 

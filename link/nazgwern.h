@@ -47,10 +47,10 @@
    Whatever the bytes and the numbers are, a call ends and has an answer. It keeps nothing behind:
    all state is in the buffers.
 
-   ANSWER. Six numbers of four bytes: number, source, index, a, b, and a line's position or a
-   build's entry. Number 0 is an accepted call, 1 to 16
-   and 30 are refusals; source and index are the
-   refusal's location, a is given by its low 32 bits, and numbers that are not named here are 0. Of
+   ANSWER. Six numbers of four bytes: number, source, index, a, b, and a line's position, a build's
+   entry or a text's fill. Number 0 is an accepted call, 1 to 16, 21 to 23 and 30 are refusals;
+   source and index are the refusal's location, a is given by its low 32 bits, and numbers that are
+   not named here are 0. Of
    an accepted line a says how its constant is loaded: 0 none is, 1 addiu alone, 2 ori alone, 3 lui
    alone, 4 both halves. The number is returned too. On refusal the answer is written and no other
    lent byte changes. If the answer has fewer than 24 bytes, or the counts fewer than 12 (a
@@ -77,16 +77,23 @@
      14  A patch ends past its region's data.
      15  A patch's name is unknown.
      16  A branch or jump is out of range (a: destination, b: pc).
+     21  A byte starts no token, a byte of a comment or string lies outside 0x20 to 0x7E, or a
+         string is not closed on its line.
+     22  A text is over 64 bytes, a parameter has no name, a number is over 64 bits, 0x has no
+         digit, or a register is unknown.
+     23  The token buffer is too short for the token.
      30  The range's start exceeds its end.
 
    The location is zero for 1, 2 and 30; the mnemonic's for 3, 4 and 9 to 12; for 5 to 8 that of the
    token that was met, or the mnemonic's at a NewLine; the name's for 13 and 15, and the pending's
-   for 14 and 16. docs/REFUSALS.md says what to do about each.
+   for 14 and 16; for 21 to 23 the call's source and the place of the token's first byte.
+   docs/REFUSALS.md says what to do about each.
 
    STACK. Measured, not proved, on x86-64 with gcc as the caller's compiler: link/stack ran over a
-   million calls of nazgwern_do_instruction, of which none took more than 4,152 bytes of stack, and
-   731 of nazgwern_build, of which none took more than 160; arguments and return address counted.
-   The code may also use the 128 bytes below its stack pointer, as the x86-64 convention allows. */
+   million calls of nazgwern_do_instruction, of which none took more than 4,184 bytes of stack, 731
+   of nazgwern_build, of which none took more than 160, and 20,506 of nazgwern_read_text, of which
+   none took more than 944; arguments and return address counted. The code may also use the 128
+   bytes below its stack pointer, as the x86-64 convention allows. */
 #ifndef NAZGWERN_H
 #define NAZGWERN_H
 
@@ -153,6 +160,17 @@ uint32_t nazgwern_build(
 uint32_t nazgwern_count_forms(
     uint32_t start, uint32_t end,
     uint8_t *counts, size_t counts_length,
+    uint8_t *answer, size_t answer_length);
+
+/* Reads a text into token records, from the start of the token buffer on. docs/TEXT.md says what
+   the tokens of a text are.
+   text         any bytes
+   source       the source of each token's location; its index is the place of the first byte
+   tokens       kinds 0 to 5 and 7 to 15; only written, and what stands behind the records stays
+   The last number of the answer is the fill of the token buffer, and 0 on refusal. */
+uint32_t nazgwern_read_text(
+    const uint8_t *text, size_t text_length, uint32_t source,
+    uint8_t *tokens, size_t tokens_length,
     uint8_t *answer, size_t answer_length);
 
 #ifdef __cplusplus

@@ -4,7 +4,7 @@
 
    Stack goes by the branches that a call takes and not by the length of its lists, so the lists
    are short and the calls are many: each encoding and each pseudo-instruction with every line of
-   up to four operands, each patch, and each refusal. */
+   up to four operands, each patch, every text of up to three pieces, and each refusal. */
 #define _XOPEN_SOURCE 700
 #include "nazgwern.h"
 
@@ -17,13 +17,22 @@
 #define PAINT UINT64_C(0xa5a5a5a5a5a5a5a5)
 
 enum { ENCODINGS = 21, PSEUDOS = 29, OFFSET = 13 };
-enum { NEAR = 0x00400000, FAR = 0x10500000 };
+enum { NEAR = 0x00400000, FAR = 0x10500000, GREATEST_NUMBER = 23 };
 
 static const char *const pseudos[PSEUDOS + 1] = {
     "nop", "abs", "blt", "bgt", "ble", "bge", "bltu", "bgtu", "bleu", "bgeu", "sge", "sgt", "sle",
     "sgeu", "sgtu", "sleu", "beqz", "bnez", "seq", "sne", "neg", "negu", "not", "li", "la", "move",
     "b", "subi", "subiu", "neither",
 };
+
+/* One for each kind of token and each fault. */
+static const char *const pieces[] = {
+    "# c",  "#\t", ".d", "%p", "%",     "$t0", "$31", "$f31", "$f32", "420", "0x1F",
+    "0x",   "\"s\"", "\"", "sym", "+", "-",   ",",   ":",    "\n",   "(",   ")",
+    "\t",  "~",   "18446744073709551615", "18446744073709551616",
+    "0123456789abcdef0123456789abcdef0123456789abcdef0123456789abcdef_",
+};
+enum { PIECES = sizeof pieces / sizeof *pieces };
 
 struct list {
     size_t length;
@@ -32,17 +41,20 @@ struct list {
 
 /* The arguments of the call that is measured. */
 static struct list tokens, mnemonic, descriptors, data, pending, breakpoints;
-static struct list labels, entry, regions;
+static struct list labels, entry, regions, text;
 static uint8_t counts[NAZGWERN_COUNTS_BYTES], filled[NAZGWERN_COUNTS_BYTES];
 static uint8_t answer[NAZGWERN_ANSWER_BYTES];
 static size_t counts_length = sizeof counts, answer_length = sizeof answer;
 static uint16_t region;
 static uint32_t address, number;
 
+/* A text that is too long. */
+static const uint8_t over[NAZGWERN_MOST_BYTES + 1];
+
 static uint64_t area[2048];
 static uint8_t *frame;
 static size_t greatest, calls;
-static bool seen[17], short_seen;
+static bool seen[GREATEST_NUMBER + 1], short_seen;
 
 static void do_instruction(void)
 {
@@ -59,6 +71,13 @@ static void build(void)
     frame = __builtin_frame_address(0);
     number = nazgwern_build(labels.bytes, labels.length, entry.bytes, entry.length, regions.bytes,
                             regions.length, pending.bytes, pending.length, answer, answer_length);
+}
+
+static void read_text(void)
+{
+    frame = __builtin_frame_address(0);
+    number = nazgwern_read_text(text.length > sizeof text.bytes ? over : text.bytes, text.length, 7,
+                                tokens.bytes, tokens.length, answer, answer_length);
 }
 
 /* Runs the call on a freshly painted stack. */
@@ -84,7 +103,7 @@ static void measure(void (*call)(void))
     run(call);
     while (area[word] == PAINT)
         word++;
-    if (word == 0 || (number > 16 && number != NAZGWERN_TOO_SHORT)) {
+    if (word == 0 || (number > GREATEST_NUMBER && number != NAZGWERN_TOO_SHORT)) {
         printf("no room on the painted stack, or no such answer\n");
         exit(1);
     }
@@ -101,7 +120,7 @@ static void measure(void (*call)(void))
 static void report(const char *name)
 {
     printf("%s: %zu bytes; %zu calls, answers", name, greatest, calls);
-    for (int i = 0; i <= 16; i++)
+    for (int i = 0; i <= GREATEST_NUMBER; i++)
         if (seen[i])
             printf(" %d", i);
     printf("%s\n", short_seen ? ", too short" : "");
@@ -333,6 +352,36 @@ static void refused_builds(void)
     measure(build);
 }
 
+/* Every text that goes on from this one by up to so many pieces, with a blank before each. */
+static void texts(int left)
+{
+    size_t length = text.length;
+
+    measure(read_text);
+    for (int i = 0; left > 0 && i < PIECES; i++) {
+        put_text(&text, " ");
+        put_text(&text, pieces[i]);
+        texts(left - 1);
+        text.length = length;
+    }
+}
+
+/* Refusals 1 and 23, and an answer that is too short, besides. */
+static void all_texts(void)
+{
+    text.length = 0;
+    tokens.length = sizeof tokens.bytes;
+    texts(3);
+    put_text(&text, "add $t0, 1");
+    for (tokens.length = 0; tokens.length < 64; tokens.length++)
+        measure(read_text);
+    text.length = sizeof over;
+    measure(read_text);
+    answer_length--;
+    measure(read_text);
+    answer_length++;
+}
+
 int main(void)
 {
     data.length = pending.length = breakpoints.length = 1024;
@@ -351,6 +400,9 @@ int main(void)
     all_builds();
     refused_builds();
     report("nazgwern_build");
+
+    all_texts();
+    report("nazgwern_read_text");
 
     return 0;
 }

@@ -50,6 +50,11 @@ mod second_list;
 mod second_pseudo;
 mod second_reader;
 mod second_words;
+mod text_generate;
+mod text_input;
+mod text_lexer;
+mod text_library;
+mod text_run;
 mod tokens;
 
 use std::process::ExitCode;
@@ -73,7 +78,8 @@ fn main() -> ExitCode {
         "line" if has_line => run_line::run(&options),
         "list" if has_build && has_line => list::run(&options),
         "count_forms" if options.other.has_count() => count_forms::run(options.other),
-        "bench" | "build" | "count_forms" | "line" | "list" => {
+        "text" if text_library::HAS_TEXT => text_run::run(&options),
+        "bench" | "build" | "count_forms" | "line" | "list" | "text" => {
             eprintln!("the library has no entry for {}", options.mode);
             return ExitCode::from(2);
         }

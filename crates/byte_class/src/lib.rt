@@ -1,7 +1,7 @@
 // The class of each byte of a text, from a constant table.
 ghost use mathlib.Core.Path.{_≡_};
 ghost use Rattle.byte_class.specs.Class.{classOf, wordByte};
-ghost use Rattle.byte_class.specs.Letters.{letterOf};
+ghost use Rattle.byte_class.specs.Letters.{letterOf, letters};
 
 pub enum Class {
     Blank,
@@ -38,17 +38,26 @@ const CLASSES: [u8; 256] = *b"\
     ~~~~~~~~~~~~~~~~~~~~~~~~~~~~~~~~\
     ~~~~~~~~~~~~~~~~~~~~~~~~~~~~~~~~";
 
-// The table's letter for a byte.
-fn letter_of(byte: u8) -> u8
-    ensures { λ r. ⌜ r ≡ letterOf (classOf byte) ⌝ }
+// The table as a value: a constant is made anew wherever it stands, so whoever reads a text takes it once.
+pub fn table() -> [u8; 256]
+    ensures { λ r. ⌜ r ≡ letters ⌝ }
 {
-    CLASSES[byte as usize]
+    CLASSES
 }
 
-pub fn class_of(byte: u8) -> Class
+// The table's letter for a byte.
+fn letter_of(table: &[u8; 256], byte: u8) -> u8
+    requires { ⌜ now table ≡ letters ⌝ }
+    ensures { λ r. ⌜ r ≡ letterOf (classOf byte) ⌝ }
+{
+    table[byte as usize]
+}
+
+pub fn class_of(table: &[u8; 256], byte: u8) -> Class
+    requires { ⌜ now table ≡ letters ⌝ }
     ensures { λ r. ⌜ r ≡ classOf byte ⌝ }
 {
-    match letter_of(byte) {
+    match letter_of(table, byte) {
         b'b' => Class::Blank,
         b'n' => Class::Newline,
         b'0' => Class::Digit,
@@ -69,10 +78,11 @@ pub fn class_of(byte: u8) -> Class
 }
 
 // Whether the byte is a letter or a digit.
-pub fn is_word_byte(byte: u8) -> bool
+pub fn is_word_byte(table: &[u8; 256], byte: u8) -> bool
+    requires { ⌜ now table ≡ letters ⌝ }
     ensures { λ r. ⌜ r ≡ wordByte byte ⌝ }
 {
-    match letter_of(byte) {
+    match letter_of(table, byte) {
         b'a' => true,
         b'0' => true,
         _ => false,

@@ -1,12 +1,13 @@
 -- What the linked calls give back and leave in their lent buffers. Assumes nothing.
-use Prim.Native.Nat.{ℕ, _-_, _^_}
+use Prim.Native.Nat.{ℕ}
 use mathlib.Core.List.{List, [], _∷_, _++_}
 use mathlib.Core.Bool.{true, false, _&&_}
 use lib.ListN.{length}
 use lib.Dec.{leb}
 use Rattle.record.specs.Stores.{append, le64Bytes}
 use Rattle.record.specs.Bytes.{le32}
-use Rattle.nazgwern.specs.Words.{builtWords, emittedWords, countedWords, numberOf, wordsAsBytes}
+use Rattle.linked_answer.specs.Words.{answerBytes, tooShort, numberOf, wordsAsBytes}
+use Rattle.nazgwern.specs.Words.{builtWords, emittedWords, countedWords}
 use Rattle.build_outcome.specs.Build.{BuildOutcome, buildOutcome}
 use Rattle.emit_outcome.specs.declared.FillCounts.{FillCounts}
 use Rattle.emit_outcome.specs.declared.EmitAnswer.{EmitAnswer}
@@ -19,16 +20,9 @@ use Rattle.form_counts.specs.declared.CountAnswer.{CountAnswer}
 use Rattle.form_counts.specs.declared.CountAnswer.the-variants.{Counted, Refused as RangeRefused}
 use Rattle.form_counts.specs.FormCounts.{countForms}
 
--- the bytes of an answer, and of the fill counts
-abbrev pub answerBytes : ℕ
-answerBytes = 24
-
+-- the bytes of the fill counts
 abbrev pub countsBytes : ℕ
 countsBytes = 12
-
--- what a call returns that has no room for them: no refusal's number
-abbrev pub tooShort : ℕ
-tooShort = 2 ^ 32 - 1
 
 -- ---- a build
 pub record Linked : Type 0 where

@@ -7,7 +7,8 @@ use lib.ListN.{length}
 use lib.Dec.{leb}
 use borrow.Author.Tests.{le-leb, lt-leb}
 use Rattle.record.specs.Stores.{append}
-use Rattle.nazgwern.specs.Words.{builtWords, emittedWords, countedWords, numberOf, wordsAsBytes}
+use Rattle.linked_answer.specs.Words.{answerBytes, tooShort, numberOf, wordsAsBytes}
+use Rattle.nazgwern.specs.Words.{builtWords, emittedWords, countedWords}
 use Rattle.build_outcome.specs.declared.Built.{Built}
 use Rattle.build_outcome.specs.Build.{buildOutcome}
 use Rattle.emit_outcome.specs.declared.FillCounts.{FillCounts}
@@ -17,7 +18,7 @@ use Rattle.emit_outcome.specs.Call.{Lent, callOf, outcomeOf}
 use Rattle.emit_outcome.specs.Emit.{emitOutcome}
 use Rattle.form_counts.specs.declared.CountAnswer.{CountAnswer}
 use Rattle.form_counts.specs.FormCounts.{countForms}
-use Rattle.nazgwern.specs.Answer.{answerBytes, countsBytes, tooShort, linkedBuild, countsAt, countsAfter, linkedLine, formCountBytes, formCountsAfter, linkedCount}
+use Rattle.nazgwern.specs.Answer.{countsBytes, linkedBuild, countsAt, countsAfter, linkedLine, formCountBytes, formCountsAfter, linkedCount}
 
 -- ---- a build
 module _ (labels entry regions pending answer : List ℕ) where

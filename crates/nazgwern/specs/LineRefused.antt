@@ -7,13 +7,14 @@ use borrow.Author.Tests.{le-leb}
 use Rattle.record.specs.Stores.{append}
 use Rattle.refusal.specs.declared.Refusal.{Refusal}
 use Rattle.refusal.specs.Numbers.{numbered}
-use Rattle.nazgwern.specs.Words.{emittedWords, wordsAsBytes}
+use Rattle.linked_answer.specs.Words.{answerBytes, wordsAsBytes}
+use Rattle.nazgwern.specs.Words.{emittedWords}
 use Rattle.emit_outcome.specs.declared.LinePlace.{LinePlace}
 use Rattle.emit_outcome.specs.declared.EmitAnswer.the-variants.{Refused}
 use Rattle.emit_outcome.specs.Call.{Lent, callOf}
 use Rattle.emit_outcome.specs.Emit.{emitOutcome}
 use Rattle.emit_outcome.specs.Refused.{refused-stays}
-use Rattle.nazgwern.specs.Answer.{answerBytes, countsBytes, countsAt, linkedLine}
+use Rattle.nazgwern.specs.Answer.{countsBytes, countsAt, linkedLine}
 
 pub line-refused : (token-list mnemonic descriptors : List ℕ) (lent : Lent) (counts : List ℕ) (place : LinePlace) (answer : List ℕ) (r : Refusal) (p : ℕ)
     → answerBytes ≤ length answer → countsBytes ≤ length counts → emitOutcome (callOf token-list mnemonic descriptors lent (countsAt counts) place) .answer ≡ Refused r p

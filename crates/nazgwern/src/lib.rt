@@ -1,10 +1,11 @@
-// The library to link: a build, a line and the counts of a range by the C calling convention, where a slice goes as a pointer and a length.
+// The library to link: a build, a line, the counts of a range and a text's tokens by the C calling convention, where a slice goes as a pointer and a length.
 ghost use mathlib.Core.Path.{_≡_};
 ghost use Prim.Native.Nat.{_≤_};
 ghost use lib.ListN.{length};
 ghost use Rattle.record.specs.Stores.{append};
 ghost use Rattle.emit_outcome.specs.Call.{lentOf};
 ghost use Rattle.nazgwern.specs.Answer.{countsBytes, countsAt, countsAfter, formCountBytes, formCounts, formCountsAfter, linkedBuild, linkedLine, linkedCount};
+ghost use Rattle.linked_text.specs.LinkedText.{linkedText};
 
 pub mod answer;
 
@@ -13,18 +14,14 @@ use emit_outcome::FillCounts;
 use emit_outcome::LinePlace;
 use form_counts::CountAnswer;
 use form_counts::FormCounts;
-
-// Number, source, index, a, b and the last, each four bytes.
-const ANSWER_BYTES: usize = 24;
+use linked_answer::ANSWER_BYTES;
+use linked_answer::TOO_SHORT;
 
 // The fill counts of the region data, the pending and the breakpoint buffer, each four bytes.
 const COUNTS_BYTES: usize = 12;
 
 // How many constants load by addiu, by ori, by lui and by both halves, each eight bytes.
 const FORM_COUNT_BYTES: usize = 32;
-
-// No refusal has this number.
-const TOO_SHORT: u32 = 0xFFFF_FFFF;
 
 // Patches the regions in place or refuses, writes the answer and returns its number: 0 for an accepted build.
 // Where the answer is too short it returns TOO_SHORT and changes nothing.
@@ -44,7 +41,7 @@ pub extern "C" fn nazgwern_build(
     }
     let built = binary_builder::build(labels, entry, regions, pending);
     let words = answer::built_words(built);
-    answer::store_words(answer, &words[..]);
+    linked_answer::store_words(answer, &words[..]);
     words[0]
 }
 
@@ -73,7 +70,7 @@ fn put_counts(counts: &mut [u8], answer: EmitAnswer, filled: FillCounts)
             loaded: _,
         } => {
             let words = [filled.data_len, filled.pending, filled.breakpoints];
-            answer::store_words(counts, &words[..]);
+            linked_answer::store_words(counts, &words[..]);
         }
         EmitAnswer::Refused(_, _) => {}
     }
@@ -130,7 +127,7 @@ pub extern "C" fn nazgwern_do_instruction(
     let filled = emitted.counts;
     let words = answer::emitted_words(given);
     put_counts(counts, given, filled);
-    answer::store_words(answer, &words[..]);
+    linked_answer::store_words(answer, &words[..]);
     words[0]
 }
 
@@ -176,6 +173,20 @@ pub extern "C" fn nazgwern_count_forms(
     let given = form_counts::count_forms(start, end);
     let words = answer::counted_words(given);
     put_form_counts(counts, given);
-    answer::store_words(answer, &words[..]);
+    linked_answer::store_words(answer, &words[..]);
     words[0]
+}
+
+// Reads a text into token records or refuses: linked_text says how.
+#[no_mangle]
+pub extern "C" fn nazgwern_read_text(
+    text: &[u8],
+    source: u32,
+    tokens: &mut [u8],
+    answer: &mut [u8],
+) -> u32
+    ensures { λ r. ⌜ linkedText (now (text .entry)) source (now (tokens .entry)) (now (answer .entry))
+        ≡ (record { result = r; tokens = now (tokens .exit); answer = now (answer .exit) }) ⌝ }
+{
+    linked_text::read_text(text, source, tokens, answer)
 }

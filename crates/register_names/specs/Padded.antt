@@ -14,9 +14,9 @@ abbrev pub joined : List (List ℕ) → List ℕ
 joined [] = []
 joined (n ∷ ns) = padded n ++ joined ns
 
-unfoldable pub table : List ℕ
+unfoldable pub paddedNames : List ℕ
 unfolding names
-table = joined names
+paddedNames = joined names
 
 -- the four bytes as one number
 abbrev pub keyOf : List ℕ → ℕ

@@ -10,7 +10,7 @@ use Rattle.record.specs.Bytes.{byteAt, all}
 use Rattle.byte_class.specs.Class.{wordByte}
 use Rattle.byte_class.specs.ClassLaws.{word-range}
 use Rattle.register_names.specs.RegisterNames.{names}
-use Rattle.register_names.specs.Padded.{byteOrBlank, padded, joined, table, keyOf}
+use Rattle.register_names.specs.Padded.{byteOrBlank, padded, joined, paddedNames, keyOf}
 
 -- ---- the table
 joined-at : (ns : List (List ℕ)) (i j k : ℕ) → i < length ns → j < 4 → k ≡ 4 * i + j → byteAt (joined ns) k ≡ byteAt (padded (getD ns i [])) j
@@ -22,9 +22,9 @@ joined-at (n ∷ ns) (suc i) j k h b e =
     let m : k ≡ suc (suc (suc (suc (4 * i + j)))) = omega arith in
     ap (byteAt (joined (n ∷ ns))) m ∙ joined-at ns i j (4 * i + j) (omega arith) b refl
 
-pub table-key : (i : ℕ) → i < length names
-    → byteAt table (4 * i) + 256 * byteAt table (4 * i + 1) + 65536 * byteAt table (4 * i + 2) + 16777216 * byteAt table (4 * i + 3) ≡ keyOf (getD names i [])
-unfolding table
+table-key : (i : ℕ) → i < length names
+    → byteAt paddedNames (4 * i) + 256 * byteAt paddedNames (4 * i + 1) + 65536 * byteAt paddedNames (4 * i + 2) + 16777216 * byteAt paddedNames (4 * i + 3) ≡ keyOf (getD names i [])
+unfolding paddedNames
 table-key i h =
     omega (
       arith,
@@ -33,6 +33,10 @@ table-key i h =
       joined-at names i 2 (4 * i + 2) h (omega arith) refl,
       joined-at names i 3 (4 * i + 3) h (omega arith) refl,
     )
+
+pub list-key : (list : List ℕ) (i : ℕ) → list ≡ paddedNames → i < length names
+    → byteAt list (4 * i) + 256 * byteAt list (4 * i + 1) + 65536 * byteAt list (4 * i + 2) + 16777216 * byteAt list (4 * i + 3) ≡ keyOf (getD names i [])
+list-key list i e h = rw e (table-key i h)
 
 -- ---- names of letters and digits
 pub record Word (name : List ℕ) : Type 0 where

@@ -4,10 +4,10 @@ ghost use mathlib.Core.Bool.{true};
 ghost use mathlib.Core.List.{[]};
 ghost use Prim.Native.Nat.{_+_, _*_, _<_, _≤_};
 ghost use lib.ListN.{length, getD};
-ghost use Rattle.record.specs.Bytes.{all, byteAt};
+ghost use Rattle.record.specs.Bytes.{all};
 ghost use Rattle.byte_class.specs.Class.{wordByte};
 ghost use Rattle.register_names.specs.RegisterNames.{names, placeOf, registerNamed};
-ghost use Rattle.register_names.specs.Padded.{byteOrBlank, keyOf, table};
+ghost use Rattle.register_names.specs.Padded.{byteOrBlank, keyOf, paddedNames};
 use registers::FPRegisterSlot;
 use registers::RegisterSlot;
 
@@ -37,11 +37,11 @@ const NAMES: [u8; 384] = *b"\
     f16 f17 f18 f19 f20 f21 f22 f23 \
     f24 f25 f26 f27 f28 f29 f30 f31 ";
 
-fn table_byte(at: usize) -> u8
-    requires { ⌜ at < 384 ⌝ }
-    ensures { λ r. ⌜ r ≡ byteAt table at ⌝ }
+// The table as a value: a constant is made anew wherever it stands, so whoever reads a text takes it once.
+pub fn all_names() -> [u8; 384]
+    ensures { λ r. ⌜ r ≡ paddedNames ⌝ }
 {
-    NAMES[at]
+    NAMES
 }
 
 fn wide(byte: u8) -> u32
@@ -51,14 +51,16 @@ fn wide(byte: u8) -> u32
 }
 
 // The four bytes of the name at that place of the table.
-fn key_at(place: usize) -> u32
+fn key_at(list: &[u8; 384], place: usize) -> u32
+    requires { ⌜ now list ≡ paddedNames ⌝ }
     requires { ⌜ place < 96 ⌝ }
     ensures { λ r. ⌜ r ≡ keyOf (getD names place []) ⌝ }
 {
-    wide(table_byte(4 * place))
-        + 256 * wide(table_byte(4 * place + 1))
-        + 65536 * wide(table_byte(4 * place + 2))
-        + 16777216 * wide(table_byte(4 * place + 3))
+    let at = 4 * place;
+    wide(list[at])
+        + 256 * wide(list[at + 1])
+        + 65536 * wide(list[at + 2])
+        + 16777216 * wide(list[at + 3])
 }
 
 fn byte_or_blank(name: &[u8], i: usize) -> u8
@@ -78,7 +80,8 @@ fn key_of(name: &[u8]) -> u32
 }
 
 // The name's place in the table, or the number of names.
-fn place_of(name: &[u8]) -> usize
+fn place_of(list: &[u8; 384], name: &[u8]) -> usize
+    requires { ⌜ now list ≡ paddedNames ⌝ }
     requires { ⌜ all wordByte (now name) ≡ true ⌝ }
     ensures { λ r. ⌜ r ≡ placeOf (now (name .entry)) names ⌝ }
 {
@@ -88,7 +91,7 @@ fn place_of(name: &[u8]) -> usize
     let key = key_of(name);
     let mut place = 0;
     while place < COUNT {
-        if key_at(place) == key {
+        if key_at(list, place) == key {
             return place;
         }
         place += 1;
@@ -97,11 +100,12 @@ fn place_of(name: &[u8]) -> usize
 }
 
 // The register of a name of letters and digits.
-pub fn register_named(name: &[u8]) -> NamedRegister
+pub fn register_named(list: &[u8; 384], name: &[u8]) -> NamedRegister
+    requires { ⌜ now list ≡ paddedNames ⌝ }
     requires { ⌜ all wordByte (now name) ≡ true ⌝ }
     ensures { λ r. ⌜ r ≡ registerNamed (now (name .entry)) ⌝ }
 {
-    let place = place_of(name);
+    let place = place_of(list, name);
     if place < 32 {
         return NamedRegister::General(registers::register_of(place as u8));
     }

@@ -2,6 +2,8 @@
 ghost use mathlib.Core.Path.{_≡_};
 ghost use Prim.Native.Nat.{_+_, _<_, _≤_};
 ghost use lib.ListN.{length, drop};
+ghost use Rattle.byte_class.specs.Letters.{letters};
+ghost use Rattle.register_names.specs.Padded.{paddedNames};
 ghost use Rattle.text_runs.specs.Numbers.{numberIn};
 ghost use Rattle.text_pieces.specs.Pieces.{lineEnds, symbolAt, directiveAt, parameterAt, commentAt, stringAt, registerAt};
 ghost use Rattle.text_pieces.specs.Pieces.{startsHexadecimal, hexadecimalPiece, numberAt, markAt, pieceAt};
@@ -24,35 +26,38 @@ pub enum Piece {
     BadToken,
 }
 
-fn symbol_at(text: &[u8], at: usize) -> Piece
+fn symbol_at(table: &[u8; 256], text: &[u8], at: usize) -> Piece
+    requires { ⌜ now table ≡ letters ⌝ }
     requires { ⌜ at < length (now text) ⌝ }
     ensures { λ r. ⌜ r ≡ symbolAt (now (text .entry)) at ⌝ }
 {
-    let len = text_runs::word_len(&text[at..]);
+    let len = text_runs::word_len(table, &text[at..]);
     if len > LONGEST {
         return Piece::BadToken;
     }
     Piece::Token(TokenKind::Symbol(Text { start: at, len }), len)
 }
 
-fn directive_at(text: &[u8], at: usize) -> Piece
+fn directive_at(table: &[u8; 256], text: &[u8], at: usize) -> Piece
+    requires { ⌜ now table ≡ letters ⌝ }
     requires { ⌜ at < length (now text) ⌝ }
     ensures { λ r. ⌜ r ≡ directiveAt (now (text .entry)) at ⌝ }
 {
     let start = at + 1;
-    let len = text_runs::word_len(&text[start..]);
+    let len = text_runs::word_len(table, &text[start..]);
     if len > LONGEST {
         return Piece::BadToken;
     }
     Piece::Token(TokenKind::Directive(Text { start, len }), len + 1)
 }
 
-fn parameter_at(text: &[u8], at: usize) -> Piece
+fn parameter_at(table: &[u8; 256], text: &[u8], at: usize) -> Piece
+    requires { ⌜ now table ≡ letters ⌝ }
     requires { ⌜ at < length (now text) ⌝ }
     ensures { λ r. ⌜ r ≡ parameterAt (now (text .entry)) at ⌝ }
 {
     let start = at + 1;
-    let len = text_runs::word_len(&text[start..]);
+    let len = text_runs::word_len(table, &text[start..]);
     if len == 0 {
         return Piece::BadToken;
     }
@@ -107,14 +112,15 @@ fn string_at(text: &[u8], at: usize) -> Piece
     Piece::Token(TokenKind::StringLiteral(Text { start, len }), len + 2)
 }
 
-fn register_at(text: &[u8], at: usize) -> Piece
+fn register_at(table: &[u8; 256], names: &[u8; 384], text: &[u8], at: usize) -> Piece
+    requires { ⌜ (now table ≡ letters) × (now names ≡ paddedNames) ⌝ }
     requires { ⌜ at < length (now text) ⌝ }
     ensures { λ r. ⌜ r ≡ registerAt (now (text .entry)) at ⌝ }
 {
     let start = at + 1;
-    let len = text_runs::word_len(&text[start..]);
+    let len = text_runs::word_len(table, &text[start..]);
     let end = start + len;
-    match register_names::register_named(&text[start..end]) {
+    match register_names::register_named(names, &text[start..end]) {
         NamedRegister::General(r) => Piece::Token(TokenKind::Register(r), len + 1),
         NamedRegister::Float(r) => Piece::Token(TokenKind::FPRegister(r), len + 1),
         NamedRegister::Unknown => Piece::BadToken,
@@ -160,15 +166,16 @@ fn number_at(text: &[u8], at: usize) -> Piece
     }
 }
 
-fn mark_at(mark: Mark, text: &[u8], at: usize) -> Piece
+fn mark_at(table: &[u8; 256], names: &[u8; 384], mark: Mark, text: &[u8], at: usize) -> Piece
+    requires { ⌜ (now table ≡ letters) × (now names ≡ paddedNames) ⌝ }
     requires { ⌜ at < length (now text) ⌝ }
     ensures { λ r. ⌜ r ≡ markAt mark (now (text .entry)) at ⌝ }
 {
     match mark {
         Mark::Comment => comment_at(text, at),
-        Mark::Directive => directive_at(text, at),
-        Mark::Parameter => parameter_at(text, at),
-        Mark::Register => register_at(text, at),
+        Mark::Directive => directive_at(table, text, at),
+        Mark::Parameter => parameter_at(table, text, at),
+        Mark::Register => register_at(table, names, text, at),
         Mark::StringLiteral => string_at(text, at),
         Mark::Plus => Piece::Token(TokenKind::Plus, 1),
         Mark::Minus => Piece::Token(TokenKind::Minus, 1),
@@ -179,16 +186,17 @@ fn mark_at(mark: Mark, text: &[u8], at: usize) -> Piece
     }
 }
 
-pub fn piece_at(text: &[u8], at: usize) -> Piece
+pub fn piece_at(table: &[u8; 256], names: &[u8; 384], text: &[u8], at: usize) -> Piece
+    requires { ⌜ (now table ≡ letters) × (now names ≡ paddedNames) ⌝ }
     requires { ⌜ at < length (now text) ⌝ }
     ensures { λ r. ⌜ r ≡ pieceAt (now (text .entry)) at ⌝ }
 {
-    match byte_class::class_of(text[at]) {
+    match byte_class::class_of(table, text[at]) {
         Class::Blank => Piece::Blank,
         Class::Newline => Piece::Token(TokenKind::NewLine, 1),
         Class::Digit => number_at(text, at),
-        Class::Letter => symbol_at(text, at),
-        Class::Mark(mark) => mark_at(mark, text, at),
+        Class::Letter => symbol_at(table, text, at),
+        Class::Mark(mark) => mark_at(table, names, mark, text, at),
         Class::Nothing => Piece::BadByte,
     }
 }

@@ -66,6 +66,14 @@ module _ (text : List ℕ) (source : ℕ) (tokens : List ℕ) (fill : ℕ) (read
       ∙ filled-append tokens 0 records (omega arith)
       ∙ bytes-are text (reading source text)
 
+-- the fill is within the token buffer
+pub fill-within : (text : List ℕ) (source : ℕ) (tokens : List ℕ) (fill : ℕ) → readText text source tokens .answer ≡ Read fill → fill ≤ length tokens
+unfolding readText
+fill-within text source tokens fill read =
+    let w = within text source tokens fill read in
+    let a = sym (within-limits text source tokens (w .0) (w .1)) ∙ read in
+    omega (arith, read-fits text (length tokens) 0 (reading source text) (omega arith) (ap isRead a), filled text source tokens fill read .0)
+
 -- the filled part of the token buffer keeps the layout that an emit call asks of its token list, and read as such it is the tokens of the
 -- text, location, kind and text of each
 pub reads-back : (text : List ℕ) (source : ℕ) (tokens : List ℕ) (fill : ℕ) → source < 2 ^ 32 → readText text source tokens .answer ≡ Read fill

@@ -35,10 +35,12 @@ fn measure(text: &[u8], source: u32, room: usize) -> TextRead
     requires { ⌜ (length (now text) ≤ limit) × (room ≤ limit) ⌝ }
     ensures { λ r. ⌜ r ≡ answerFrom (now (text .entry)) room 0 (reading source (now (text .entry))) ⌝ }
 {
+    let table = byte_class::table();
+    let names = register_names::all_names();
     let mut at: usize = 0;
     let mut fill: usize = 0;
     while at < text.len() {
-        match text_pieces::piece_at(text, at) {
+        match text_pieces::piece_at(&table, &names, text, at) {
             Piece::Blank => {
                 at += 1;
             }
@@ -66,10 +68,12 @@ fn write(text: &[u8], source: u32, tokens: &mut [u8])
     requires { ⌜ isRead (answerFrom (now text) (length (now tokens)) 0 (reading source (now text))) ≡ true ⌝ }
     ensures { λ _. ⌜ now (tokens .exit) ≡ append (now (tokens .entry)) 0 (bytesOf (now (text .entry)) (reading source (now (text .entry)))) ⌝ }
 {
+    let table = byte_class::table();
+    let names = register_names::all_names();
     let mut at: usize = 0;
     let mut fill: usize = 0;
     while at < text.len() {
-        match text_pieces::piece_at(text, at) {
+        match text_pieces::piece_at(&table, &names, text, at) {
             Piece::Blank => {
                 at += 1;
             }

@@ -3,6 +3,7 @@ ghost use mathlib.Core.Path.{_≡_};
 ghost use Prim.Native.Nat.{_<_, _≤_};
 ghost use lib.ListN.{length};
 ghost use Rattle.byte_class.specs.Class.{wordByte};
+ghost use Rattle.byte_class.specs.Letters.{letters};
 ghost use Rattle.text_runs.specs.Leading.{leading, plain};
 ghost use Rattle.text_runs.specs.Numbers.{digitValue, numberIn};
 
@@ -13,12 +14,13 @@ pub enum Number {
 }
 
 // How many letters and digits the text begins with.
-pub fn word_len(text: &[u8]) -> usize
+pub fn word_len(table: &[u8; 256], text: &[u8]) -> usize
+    requires { ⌜ now table ≡ letters ⌝ }
     ensures { λ r. ⌜ (r ≡ length (leading wordByte (now (text .entry)))) × (r ≤ length (now (text .entry))) ⌝ }
 {
     let mut i = 0;
     while i < text.len() {
-        if !byte_class::is_word_byte(text[i]) {
+        if !byte_class::is_word_byte(table, text[i]) {
             return i;
         }
         i += 1;

@@ -13,13 +13,13 @@ use Rattle.register_names.proofs.place_of.Statement.{statement}
 use Rattle.register_names.proofs.place_of.Tie as tie
 
 abbrev Inv-loop : tie.InvT-loop
-Inv-loop name key place₀ place = (place ≤ 96) × (placeOf name names ≡ place + placeOf name (drop place names))
+Inv-loop list name key place₀ place = (place ≤ 96) × (placeOf name names ≡ place + placeOf name (drop place names))
 
 abbrev μ-loop : tie.MeasureT-loop
-μ-loop name key place₀ place = 96 - place
+μ-loop list name key place₀ place = 96 - place
 
 word : (c : tie.Else1 Inv-loop μ-loop) → Word (c .before .before .args .name .now)
-word c = record { short = c .if1 .left; word = c .before .before .pre }
+word c = record { short = c .if1 .left; word = c .before .before .pre .1 }
 
 returns-2 : tie.Need-returns-2 Inv-loop μ-loop
 returns-2 c =

@@ -8,7 +8,7 @@ register-named-requires : tie.Need-register-named-requires
 register-named-requires c κs =
     let w = c .before in
     let a = w .before .before .before .args in
-    name-word (a .text .now) (a .at) _ (w .word-len .ensures .0)
+    (search needs, name-word (a .text .now) (a .at) _ (w .word-len .ensures .0))
 
 returns : tie.Need-returns
 returns c =

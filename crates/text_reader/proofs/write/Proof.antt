@@ -19,7 +19,7 @@ use Rattle.text_reader.proofs.write.Statement.{statement}
 use Rattle.text_reader.proofs.write.Tie as tie
 
 abbrev Inv-loop : tie.InvT-loop
-Inv-loop text source tokens₀ at₀ fill₀ tokens at fill =
+Inv-loop text source tokens₀ table names at₀ fill₀ tokens at fill =
     (at ≤ length text)
     × (fill ≤ length tokens)
     × (length tokens ≡ length tokens₀)
@@ -27,36 +27,36 @@ Inv-loop text source tokens₀ at₀ fill₀ tokens at fill =
     × (append tokens₀ 0 (bytesAt source text 0) ≡ append tokens fill (bytesAt source text at))
 
 abbrev μ-loop : tie.MeasureT-loop
-μ-loop text source tokens₀ at₀ fill₀ tokens at fill = length text - at
+μ-loop text source tokens₀ table names at₀ fill₀ tokens at fill = length text - at
 
 -- the token lies in the text, and there is room for its record
-token : (c : tie.After-kind Inv-loop μ-loop) → let l = c .before .before .before .before in
-    Stands (l .before .before .before .args .text .now) (l .loop .at) (c .kind .given .0 .0) (c .kind .given .0 .1 .0)
+token : (c : tie.After-kind Inv-loop μ-loop) → let l = c .before .before .before .before .before .before in
+    Stands (l .before .before .before .before .before .args .text .now) (l .loop .at) (c .kind .given .0 .0) (c .kind .given .0 .1 .0)
 token c =
     let p = c .before .before in
-    let l = p .before .before in
-    let a = l .before .before .before .args in
-    stands (a .source) (a .text .now) (l .loop .at) _ (p .before .loop-test .taken) (p .piece-at .ensures) _ _ (c .kind .given .1)
+    let l = p .before .before .before .before in
+    let a = l .before .before .before .before .before .args in
+    stands (a .source) (a .text .now) (l .loop .at) _ (p .before .before .before .loop-test .taken) (p .piece-at .ensures) _ _ (c .kind .given .1)
 
 small : (c : tie.After-kind Inv-loop μ-loop) → carriedSize (carriedBy (c .kind .given .0 .0)) ≤ 64
 small c = stands-small _ _ _ _ (token c)
 
-room : (c : tie.After-kind Inv-loop μ-loop) → let l = c .before .before .before .before in
-    let a = l .before .before .before .args in
+room : (c : tie.After-kind Inv-loop μ-loop) → let l = c .before .before .before .before .before .before in
+    let a = l .before .before .before .before .before .args in
     (l .loop .fill + recordSize (c .kind .given .0 .0) ≤ length (l .loop .tokens))
     × (isRead (answerAt (a .source) (a .text .now) (l .loop .at + c .kind .given .0 .1 .0) (length (l .loop .tokens)) (l .loop .fill + recordSize (c .kind .given .0 .0))) ≡ true)
 room c =
     let p = c .before .before in
-    let l = p .before .before in
-    let a = l .before .before .before .args in
-    token-read (a .source) (a .text .now) (l .loop .at) _ (p .before .loop-test .taken) (p .piece-at .ensures) _ _ (c .kind .given .1) (length (l .loop .tokens)) (l .loop .fill) (l .loop .inv .3)
+    let l = p .before .before .before .before in
+    let a = l .before .before .before .before .before .args in
+    token-read (a .source) (a .text .now) (l .loop .at) _ (p .before .before .before .loop-test .taken) (p .piece-at .ensures) _ _ (c .kind .given .1) (length (l .loop .tokens)) (l .loop .fill) (l .loop .inv .3)
 
 loop-again : tie.Need-loop-again Inv-loop μ-loop
 loop-again c =
     let p = c .before .before in
-    let l = p .before .before in
-    let a = l .before .before .before .args in
-    let h = p .before .loop-test .taken in
+    let l = p .before .before .before .before in
+    let a = l .before .before .before .before .before .args in
+    let h = p .before .before .before .loop-test .taken in
     let e = p .piece-at .ensures in
     let f = c .enum-told .given .1 in (
       omega arith,
@@ -76,8 +76,8 @@ loop-again-2 c =
     let put = c .before .before .before in
     let k = put .before .before .before .before in
     let p = k .before .before in
-    let l = p .before .before in
-    let a = l .before .before .before .args in
+    let l = p .before .before .before .before in
+    let a = l .before .before .before .before .before .args in
     let kind = k .kind .given .0 .0 in
     let size = k .kind .given .0 .1 .0 in
     let d = put .put-token .last .0 in
@@ -91,34 +91,34 @@ loop-again-2 c =
       kept ∙ l .loop .inv .2,
       ap₂ (λ (m r : ℕ). isRead (answerAt (a .source) (a .text .now) (l .loop .at + size) r (l .loop .fill + m))) n kept ∙ room k .1,
       l .loop .inv .4
-          ∙ write-turn (a .source) (a .text .now) (l .loop .at) _ (p .before .loop-test .taken) (p .piece-at .ensures) kind size (k .kind .given .1) (l .loop .tokens) d (l .loop .fill) (l .loop .inv .3) w
+          ∙ write-turn (a .source) (a .text .now) (l .loop .at) _ (p .before .before .before .loop-test .taken) (p .piece-at .ensures) kind size (k .kind .given .1) (l .loop .tokens) d (l .loop .fill) (l .loop .inv .3) w
           ∙ ap (λ (m : ℕ). append d (l .loop .fill + m) (bytesAt (a .source) (a .text .now) (l .loop .at + size))) (sym n),
     )
 
 returns : tie.Need-returns Inv-loop μ-loop
 returns c =
     let p = c .before .before in
-    let l = p .before .before in
-    let a = l .before .before .before .args in
+    let l = p .before .before .before .before in
+    let a = l .before .before .before .before .before .args in
     absurd
     (false≢true
-    (sym (ap isRead (answer-byte (a .source) (a .text .now) (l .loop .at) _ (p .before .loop-test .taken) (p .piece-at .ensures) (c .enum-told2 .given .1) (length (l .loop .tokens)) (l .loop .fill)))
+    (sym (ap isRead (answer-byte (a .source) (a .text .now) (l .loop .at) _ (p .before .before .before .loop-test .taken) (p .piece-at .ensures) (c .enum-told2 .given .1) (length (l .loop .tokens)) (l .loop .fill)))
     ∙ l .loop .inv .3))
 
 returns-2 : tie.Need-returns-2 Inv-loop μ-loop
 returns-2 c =
     let p = c .before .before in
-    let l = p .before .before in
-    let a = l .before .before .before .args in
+    let l = p .before .before .before .before in
+    let a = l .before .before .before .before .before .args in
     absurd
     (false≢true
-    (sym (ap isRead (answer-bad (a .source) (a .text .now) (l .loop .at) _ (p .before .loop-test .taken) (p .piece-at .ensures) (c .enum-told3 .given .1) (length (l .loop .tokens)) (l .loop .fill)))
+    (sym (ap isRead (answer-bad (a .source) (a .text .now) (l .loop .at) _ (p .before .before .before .loop-test .taken) (p .piece-at .ensures) (c .enum-told3 .given .1) (length (l .loop .tokens)) (l .loop .fill)))
     ∙ l .loop .inv .3))
 
 returns-3 : tie.Need-returns-3 Inv-loop μ-loop
 returns-3 c =
     let l = c .before in
-    let a = l .before .before .before .args in
+    let a = l .before .before .before .before .before .args in
     sym
     (l .loop .inv .4
     ∙ ap (append (l .loop .tokens) (l .loop .fill)) (bytes-end (a .source) (a .text .now) (l .loop .at) (c .loop-test .left))
@@ -130,7 +130,9 @@ write-spec =
     (tie.spec
     Inv-loop
     μ-loop
-    (λ c. (search needs, search needs, refl, c .before .before .pre .1, refl))
+    (λ c κs. search needs)
+    (λ c κs. search needs)
+    (λ c. (search needs, search needs, refl, c .before .before .before .before .pre .1, refl))
     (λ c κs. search needs)
     (λ c. search needs)
     (λ c. search needs)
@@ -145,10 +147,10 @@ write-spec =
     (λ c. omega (arith, token (c .before .before .before .before .before .before .before) .within, token (c .before .before .before .before .before .before .before) .least))
     loop-again-2
     (λ c. search needs)
-    (λ c. c .before .before .before .before .loop .inv .2)
+    (λ c. c .before .before .before .before .before .before .loop .inv .2)
     returns
     (λ c. search needs)
-    (λ c. c .before .before .before .before .loop .inv .2)
+    (λ c. c .before .before .before .before .before .before .loop .inv .2)
     returns-2
     (λ c. c .before .loop .inv .2)
     returns-3)

@@ -12,10 +12,10 @@ use Rattle.text_runs.proofs.word_len.Statement.{statement}
 use Rattle.text_runs.proofs.word_len.Tie as tie
 
 abbrev Inv-loop : tie.InvT-loop
-Inv-loop text i₀ i = (i ≤ length text) × (length (leading wordByte text) ≡ i + length (leading wordByte (drop i text)))
+Inv-loop table text i₀ i = (i ≤ length text) × (length (leading wordByte text) ≡ i + length (leading wordByte (drop i text)))
 
 abbrev μ-loop : tie.MeasureT-loop
-μ-loop text i₀ i = length text - i
+μ-loop table text i₀ i = length text - i
 
 returns : tie.Need-returns Inv-loop μ-loop
 returns c =

@@ -1,0 +1,2 @@
+pub mod LinkedText
+pub mod LinkedTextLaws
