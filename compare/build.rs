@@ -5,12 +5,14 @@ use std::env;
 
 fn main() {
     println!("cargo:rustc-check-cfg=cfg(library_build, library_line, library_count, library_text)");
+    println!("cargo:rustc-check-cfg=cfg(library_dry_run)");
     for name in [
         "NAZGWERN_FOLDER",
         "NAZGWERN_BUILD",
         "NAZGWERN_LINE",
         "NAZGWERN_COUNT",
         "NAZGWERN_TEXT",
+        "NAZGWERN_DRY_RUN",
     ] {
         println!("cargo:rerun-if-env-changed={name}");
     }
@@ -34,5 +36,8 @@ fn main() {
     }
     if env::var("NAZGWERN_TEXT").is_ok() {
         println!("cargo:rustc-cfg=library_text");
+    }
+    if env::var("NAZGWERN_DRY_RUN").is_ok() {
+        println!("cargo:rustc-cfg=library_dry_run");
     }
 }

@@ -105,6 +105,8 @@ static struct buffer tokens, mnemonic, descriptors, data, pending, breakpoints, 
 static struct buffer labels, entry, regions, patches; /* a build's pending list is only read */
 static struct buffer typed, records;                  /* a text, and the records of its tokens */
 
+static struct buffer image, held;                     /* a dry run's regions and registers */
+
 static void *mapped(void *at, size_t size, int protection, int flags, int file)
 {
     void *pages = mmap(at, size, protection, flags, file, 0);
@@ -628,6 +630,67 @@ static void read_text(void)
     kept(&records, 0, fill, "a byte behind the records was changed");
 }
 
+/* ---- a dry run */
+
+/* A word of each instruction, and its bits that may be any. */
+static const uint32_t shapes[][2] = {
+    {0x00000000, 0x00000000}, {0x24000000, 0x03ffffff}, {0x20000000, 0x03ffffff},
+    {0x00000020, 0x03fff800}, {0x00000021, 0x03fff800}, {0x00000022, 0x03fff800},
+    {0x00000023, 0x03fff800}, {0x0000002a, 0x03fff800}, {0x0000002b, 0x03fff800},
+    {0x34000000, 0x03ffffff}, {0x38000000, 0x03ffffff}, {0x00000026, 0x03fff800},
+    {0x00000027, 0x03fff800}, {0x3c000000, 0x001fffff}, {0x00000003, 0x001fffc0},
+    {0x10000000, 0x03ff0007}, {0x1400fff8, 0x03ff0007}, {0x08100000, 0x0000000f},
+    {0x00000000, 0xffffffff},
+};
+enum { SHAPES = sizeof shapes / sizeof *shapes };
+
+static void some_image(void)
+{
+    image.length = 0;
+    for (uint32_t left = once_in(20) ? below(18) : 1 + below(3); left > 0; left--) {
+        size_t words = once_in(2000) ? 3000 : below(24), extra = once_in(2) ? below(4) : 0;
+        put_head(&image, 4 + 4 * words + extra, 35);
+        put(&image, once_in(20) ? 0xfffffff0 : 0x00400000 + 4 * below(8), 4);
+        for (; words > 0; words--) {
+            const uint32_t *shape = shapes[below(once_in(20) ? SHAPES : SHAPES - 1)];
+            put(&image, shape[0] | ((uint32_t)chance() & shape[1]), 4);
+        }
+        put_any(&image, extra);
+    }
+}
+
+static void dry_run(void)
+{
+    uint32_t pc = once_in(20) ? (uint32_t)chance() : 0x00400000 + 4 * below(8);
+    uint32_t allowance = once_in(4) ? below(4) : below(200);
+
+    some_image();
+    some_room(&held, NAZGWERN_REGISTERS_BYTES);
+    some_room(&answer, NAZGWERN_ANSWER_BYTES);
+    if (once_in(5))
+        damage(&image);
+    lend(&image);
+    lend(&held);
+    lend(&answer);
+
+    uint32_t number = nazgwern_dry_run(image.lent, image.length, held.lent, held.length, pc,
+                                       allowance, answer.lent, answer.length);
+
+    unchanged(&image);
+    if (!answered(number, held.length >= NAZGWERN_REGISTERS_BYTES &&
+                              answer.length >= NAZGWERN_ANSWER_BYTES) ||
+        number != 0) {
+        unchanged(&held);
+        return;
+    }
+    uint32_t reason = number_at(answer.lent, 12), steps = number_at(answer.lent, 16);
+    if (reason > 3 || steps > allowance || (reason == 0) != (steps == allowance))
+        fail("a reason or a number of steps that no run has");
+    if (number_at(held.lent, 0) != 0)
+        fail("$zero is not 0");
+    kept(&held, 0, NAZGWERN_REGISTERS_BYTES, "a byte behind the registers was changed");
+}
+
 /* ---- the entries, each with how many calls */
 
 static const struct {
@@ -639,6 +702,7 @@ static const struct {
     {"nazgwern_build", build, 500000},
     {"nazgwern_count_forms", count_forms, 500000},
     {"nazgwern_read_text", read_text, 500000},
+    {"nazgwern_dry_run", dry_run, 500000},
 };
 
 static void report(const struct tally *tally)
@@ -661,6 +725,7 @@ int main(int count, char **words)
     make(&data, lent), make(&pending, lent), make(&breakpoints, lent), make(&regions, lent);
     make(&counts, lent), make(&answer, lent);
     make(&typed, only_read), make(&records, lent);
+    make(&image, only_read), make(&held, lent);
     signal(SIGSEGV, touched);
     signal(SIGBUS, touched);
 

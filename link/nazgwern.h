@@ -48,14 +48,14 @@
    all state is in the buffers.
 
    ANSWER. Six numbers of four bytes: number, source, index, a, b, and a line's position, a build's
-   entry or a text's fill. Number 0 is an accepted call, 1 to 16, 21 to 23 and 30 are refusals;
-   source and index are the refusal's location, a is given by its low 32 bits, and numbers that are
-   not named here are 0. Of
-   an accepted line a says how its constant is loaded: 0 none is, 1 addiu alone, 2 ori alone, 3 lui
-   alone, 4 both halves. The number is returned too. On refusal the answer is written and no other
-   lent byte changes. If the answer has fewer than 24 bytes, or the counts fewer than 12 (a
-   range's fewer than 32), the call returns NAZGWERN_TOO_SHORT and changes nothing at all. Bytes
-   behind these stay as they are.
+   entry, a text's fill or a dry run's pc. Number 0 is an accepted call, 1 to 16, 21 to 23, 28 and
+   30 are refusals; source and index are the refusal's location, a is given by its low 32 bits, and
+   numbers that are not named here are 0. Of an accepted line a says how its constant is loaded: 0
+   none is, 1 addiu alone, 2 ori alone, 3 lui alone, 4 both halves. The number is returned too. On
+   refusal the answer is written and no other lent byte changes. If the answer has fewer than 24
+   bytes, or the counts fewer than 12 (a range's fewer than 32), or the registers fewer than 128,
+   the call returns NAZGWERN_TOO_SHORT and changes nothing at all. Bytes behind these stay as they
+   are.
 
       1  A record breaks the layout or sits in the wrong list, a buffer is over 65,536 bytes, a fill
          count is over its buffer's length, or the region's number is none (a: buffer in argument
@@ -82,18 +82,20 @@
      22  A text is over 64 bytes, a parameter has no name, a number is over 64 bits, 0x has no
          digit, or a register is unknown.
      23  The token buffer is too short for the token.
+     28  A dry run's pc is no multiple of four, or no whole word stands there.
      30  The range's start exceeds its end.
 
-   The location is zero for 1, 2 and 30; the mnemonic's for 3, 4 and 9 to 12; for 5 to 8 that of the
-   token that was met, or the mnemonic's at a NewLine; the name's for 13 and 15, and the pending's
-   for 14 and 16; for 21 to 23 the call's source and the place of the token's first byte.
+   The location is zero for 1, 2, 28 and 30; the mnemonic's for 3, 4 and 9 to 12; for 5 to 8 that of
+   the token that was met, or the mnemonic's at a NewLine; the name's for 13 and 15, and the
+   pending's for 14 and 16; for 21 to 23 the call's source and the place of the token's first byte.
    docs/REFUSALS.md says what to do about each.
 
    STACK. Measured, not proved, on x86-64 with gcc as the caller's compiler: link/stack ran over a
    million calls of nazgwern_do_instruction, of which none took more than 4,184 bytes of stack, 731
-   of nazgwern_build, of which none took more than 160, and 20,506 of nazgwern_read_text, of which
-   none took more than 944; arguments and return address counted. The code may also use the 128
-   bytes below its stack pointer, as the x86-64 convention allows. */
+   of nazgwern_build, of which none took more than 216, 20,506 of nazgwern_read_text, of which none
+   took more than 928, and 1,338 of nazgwern_dry_run, of which none took more than 680; arguments
+   and return address counted. The code may also use the 128 bytes below its stack pointer, as the
+   x86-64 convention allows. */
 #ifndef NAZGWERN_H
 #define NAZGWERN_H
 
@@ -107,6 +109,7 @@ extern "C" {
 #define NAZGWERN_ANSWER_BYTES 24
 #define NAZGWERN_COUNTS_BYTES 12
 #define NAZGWERN_FORM_COUNTS_BYTES 32
+#define NAZGWERN_REGISTERS_BYTES 128
 #define NAZGWERN_NO_REGION 65535
 #define NAZGWERN_TOO_SHORT UINT32_C(0xFFFFFFFF)
 
@@ -171,6 +174,24 @@ uint32_t nazgwern_count_forms(
 uint32_t nazgwern_read_text(
     const uint8_t *text, size_t text_length, uint32_t source,
     uint8_t *tokens, size_t tokens_length,
+    uint8_t *answer, size_t answer_length);
+
+/* Runs an image dry: nop, addiu, addi, add, addu, sub, subu, slt, sltu, ori, xori, xor, nor, lui,
+   sra, beq, bne and j, without delay slots.
+   regions      1 to 16 records of kind 35, numbered from 0; where they overlap the lowest number
+                that has the whole word is read
+   registers    32 numbers of four bytes: given, and as the run leaves them, the first as 0; a
+                refused call leaves all of them as given, the first too
+   pc           where the run starts
+   allowance    the most steps that it takes
+   Of an accepted run a is why it stopped: 0 the allowance is used up, 1 the pc has no whole word,
+   2 another word or a field that is not zero where the manual wants it zero, 3 signed overflow of
+   add, addi or sub. b is the number of steps taken. The last number of the answer is the pc, on
+   refusal the one that was given. */
+uint32_t nazgwern_dry_run(
+    const uint8_t *regions, size_t regions_length,
+    uint8_t *registers, size_t registers_length,
+    uint32_t pc, uint32_t allowance,
     uint8_t *answer, size_t answer_length);
 
 #ifdef __cplusplus

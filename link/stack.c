@@ -4,7 +4,8 @@
 
    Stack goes by the branches that a call takes and not by the length of its lists, so the lists
    are short and the calls are many: each encoding and each pseudo-instruction with every line of
-   up to four operands, each patch, every text of up to three pieces, and each refusal. */
+   up to four operands, each patch, every text of up to three pieces, each instruction of a
+   dry run at both ends of its registers, and each refusal. */
 #define _XOPEN_SOURCE 700
 #include "nazgwern.h"
 
@@ -17,7 +18,7 @@
 #define PAINT UINT64_C(0xa5a5a5a5a5a5a5a5)
 
 enum { ENCODINGS = 21, PSEUDOS = 29, OFFSET = 13 };
-enum { NEAR = 0x00400000, FAR = 0x10500000, GREATEST_NUMBER = 23 };
+enum { NEAR = 0x00400000, FAR = 0x10500000, GREATEST_NUMBER = 28 };
 
 static const char *const pseudos[PSEUDOS + 1] = {
     "nop", "abs", "blt", "bgt", "ble", "bge", "bltu", "bgtu", "bleu", "bgeu", "sge", "sgt", "sle",
@@ -47,6 +48,11 @@ static uint8_t answer[NAZGWERN_ANSWER_BYTES];
 static size_t counts_length = sizeof counts, answer_length = sizeof answer;
 static uint16_t region;
 static uint32_t address, number;
+
+/* A dry run's registers and allowance. */
+static uint8_t registers[NAZGWERN_REGISTERS_BYTES];
+static size_t registers_length = sizeof registers;
+static uint32_t allowance;
 
 /* A text that is too long. */
 static const uint8_t over[NAZGWERN_MOST_BYTES + 1];
@@ -78,6 +84,13 @@ static void read_text(void)
     frame = __builtin_frame_address(0);
     number = nazgwern_read_text(text.length > sizeof text.bytes ? over : text.bytes, text.length, 7,
                                 tokens.bytes, tokens.length, answer, answer_length);
+}
+
+static void dry_run(void)
+{
+    frame = __builtin_frame_address(0);
+    number = nazgwern_dry_run(regions.bytes, regions.length, registers, registers_length, address,
+                              allowance, answer, answer_length);
 }
 
 /* Runs the call on a freshly painted stack. */
@@ -382,6 +395,51 @@ static void all_texts(void)
     answer_length++;
 }
 
+/* One word, run from every register's value of 0, 2^31 - 1 and 2^31 on. */
+static void one_run(uint32_t word)
+{
+    static const uint32_t values[] = {0, 0x7fffffff, 0x80000000};
+
+    for (int i = 0; i < 3; i++)
+        for (allowance = 0; allowance < 3; allowance++) {
+            for (size_t r = 0; r < sizeof registers; r++)
+                registers[r] = (uint8_t)(values[i] >> 8 * (r % 4));
+            regions.length = 0;
+            put_head(&regions, 4 + 4, 35);
+            put(&regions, NEAR, 4);
+            put(&regions, word, 4);
+            measure(dry_run);
+        }
+}
+
+/* Each instruction, other words, refusals 1 and 28, and buffers that are too short. */
+static void all_runs(void)
+{
+    static const uint32_t immediates[] = {4, 5, 8, 9, 13, 14, 15, 2, 63};
+
+    address = NEAR;
+    for (size_t i = 0; i < sizeof immediates / sizeof *immediates; i++)
+        for (uint32_t half = 0; half < 2; half++)
+            one_run(immediates[i] << 26 | 3 << 16 | (half == 0 ? 1 : 0xffff));
+    for (uint32_t function = 0; function < 64; function++)
+        for (uint32_t shift = 0; shift < 2; shift++)
+            one_run(4 << 21 | 5 << 16 | 6 << 11 | shift << 6 | function);
+    one_run(5 << 16 | 6 << 11 | 31 << 6 | 3);
+    one_run(0);
+    damaged(&regions, dry_run);
+    address += 2;
+    measure(dry_run);
+    address += 2;
+    measure(dry_run);
+    address = NEAR;
+    answer_length--;
+    measure(dry_run);
+    answer_length++;
+    registers_length--;
+    measure(dry_run);
+    registers_length++;
+}
+
 int main(void)
 {
     data.length = pending.length = breakpoints.length = 1024;
@@ -403,6 +461,9 @@ int main(void)
 
     all_texts();
     report("nazgwern_read_text");
+
+    all_runs();
+    report("nazgwern_dry_run");
 
     return 0;
 }

@@ -22,6 +22,11 @@ mod damage;
 mod damage_build;
 mod damage_line;
 mod descriptors;
+mod dry_run;
+mod dry_run_generate;
+mod dry_run_input;
+mod dry_run_library;
+mod dry_run_plain;
 mod generate_build;
 mod generate_full_build;
 mod generate_full_line;
@@ -79,7 +84,8 @@ fn main() -> ExitCode {
         "list" if has_build && has_line => list::run(&options),
         "count_forms" if options.other.has_count() => count_forms::run(options.other),
         "text" if text_library::HAS_TEXT => text_run::run(&options),
-        "bench" | "build" | "count_forms" | "line" | "list" | "text" => {
+        "dry_run" if dry_run_library::HAS_DRY_RUN => dry_run::run(&options),
+        "bench" | "build" | "count_forms" | "dry_run" | "line" | "list" | "text" => {
             eprintln!("the library has no entry for {}", options.mode);
             return ExitCode::from(2);
         }

@@ -14,7 +14,7 @@ pub fn read() -> Result<Options, String> {
     let mut words = env::args().skip(1);
     let mode = words
         .next()
-        .ok_or("a mode is needed: build, line, count_forms, text, bench or list")?;
+        .ok_or("a mode is needed: build, line, count_forms, text, dry_run, bench or list")?;
     let mut options = Options {
         mode,
         count: 200_000,

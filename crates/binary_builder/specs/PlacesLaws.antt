@@ -1,9 +1,8 @@
 -- A place that a layout names is at most the limit, and the layouts of the four lists one after the other. Assumes nothing.
 use Prim.Native.Nat.{ℕ, _≤_}
 use native.Mathlib.Omega.{arith}
-use mathlib.Core.List.{List, [], _∷_}
-use mathlib.Core.Path.{_≡_, refl, ap, _∙_}
-use lib.ListN.{length}
+use mathlib.Core.List.{List}
+use mathlib.Core.Path.{_≡_}
 use Rattle.record.specs.Records.{places, firstBad, firstBadOf, limit}
 use Rattle.record.specs.RecordsLaws.{of-place, limit-bad, limit-good, first-limit}
 use Rattle.record.specs.declared.Layout.{Layout}
@@ -14,7 +13,7 @@ use Rattle.refusal.specs.declared.Verdict.the-variants.{Pass}
 use Rattle.labels.specs.Labels.{labelOk, labelLayout, labelRepeat}
 use Rattle.names.specs.NamesLaws.{later-place}
 use Rattle.names.specs.declared.Repeat.the-variants.{Later}
-use Rattle.regions.specs.Regions.{regionOk, regionRecords, regionLayout, regionCount}
+use Rattle.regions.specs.Regions.{regionLayout, regionCount}
 use Rattle.address_label.specs.Entries.{entryOk, entryLayout}
 use Rattle.pending.specs.Pendings.{pendingOk, pendingLayout}
 use Rattle.build_outcome.specs.Build.{layoutVerdicts}
@@ -26,15 +25,6 @@ label-place s p e = first-limit (labelOk s) s p e
 pub entry-place : (s : List ℕ) (p : ℕ) → entryLayout s ≡ Bad p → p ≤ limit
 unfolding entryLayout
 entry-place s p e = limit-bad s (firstBadOf 1 (entryOk s) (places s)) p e (of-place 1 (entryOk s) s p)
-
-record-place : (s ps : List ℕ) (p : ℕ) → places s ≡ ps → regionRecords s ps ≡ Bad p → p ≤ length s
-unfolding regionRecords
-record-place s [] p q e = let z : length s ≡ p = cc in omega arith
-record-place s (x ∷ ps) p q e = of-place 16 (regionOk s) s p (ap (firstBadOf 16 (regionOk s)) q ∙ e)
-
-pub region-place : (s : List ℕ) (p : ℕ) → regionLayout s ≡ Bad p → p ≤ limit
-unfolding regionLayout
-region-place s p e = limit-bad s (regionRecords s (places s)) p e (record-place s (places s) p refl)
 
 pub pending-place : (count : ℕ) (s : List ℕ) (p : ℕ) → pendingLayout count s ≡ Bad p → p ≤ limit
 unfolding pendingLayout

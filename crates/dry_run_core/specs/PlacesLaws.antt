@@ -2,14 +2,14 @@
 use Prim.Native.Nat.{ℕ, _+_, _≤_, _<_}
 use native.Mathlib.Numerals.{add-one}
 use native.Mathlib.Omega.{arith}
-use mathlib.Core.List.{List, [], _∷_, _++_, append-nil}
-use mathlib.Core.Path.{_≡_, refl, sym, ap, _∙_}
+use mathlib.Core.List.{List, _∷_, _++_, append-nil}
+use mathlib.Core.Path.{_≡_, sym, ap, _∙_}
 use lib.ListN.{length, take, set, length-append, length-take, length-set}
 use lib.Seq.{take-suc-set, append-snoc}
-use Rattle.record.specs.Records.{next, places, placesFrom, firstBad, firstBadOf, limit}
-use Rattle.record.specs.RecordsLaws.{layoutFrom, places-all, places-step, places-end, good-ok, good-next, of-place, limit-bad}
-use Rattle.record.specs.declared.Layout.the-variants.{Good, Bad}
-use Rattle.regions.specs.Regions.{regionOk, regionRecords, regionLayout}
+use Rattle.record.specs.Records.{next, places, placesFrom, firstBad}
+use Rattle.record.specs.RecordsLaws.{layoutFrom, places-all, places-step, places-end, good-ok, good-next}
+use Rattle.record.specs.declared.Layout.the-variants.{Good}
+use Rattle.regions.specs.Regions.{regionOk, regionLayout}
 use Rattle.regions.specs.RegionsLaws.{RegionIs, region-is, region-good}
 
 -- the first `count` of those found, and then those from `place` on, are the places of s
@@ -61,14 +61,3 @@ module _ (s found : List ℕ) (count place : ℕ) (p : Passed s found count plac
           held = rw length-set (omega arith);
           slots = length-set found count place ∙ p .slots;
         }
-
--- ---- the place of a list that breaks its layout is within the limit
-
-bad-record : (s ps : List ℕ) (p : ℕ) → places s ≡ ps → regionRecords s ps ≡ Bad p → p ≤ length s
-unfolding regionRecords
-bad-record s [] p q e = let z : length s ≡ p = cc in omega arith
-bad-record s (x ∷ ps) p q e = of-place 16 (regionOk s) s p (ap (firstBadOf 16 (regionOk s)) q ∙ e)
-
-pub bad-place : (s : List ℕ) (p : ℕ) → regionLayout s ≡ Bad p → p ≤ limit
-unfolding regionLayout
-bad-place s p e = limit-bad s (regionRecords s (places s)) p e (bad-record s (places s) p refl)

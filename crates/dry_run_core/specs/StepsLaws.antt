@@ -1,11 +1,11 @@
 -- The steps of a run: what a loop knows before each, and what each leaves. Assumes nothing.
-use Prim.Native.Nat.{ℕ, suc, _+_, _-_, _≤_, _<_}
+use Prim.Native.Nat.{ℕ, _+_, _-_, _≤_, _<_}
 use native.Mathlib.Omega.{arith}
 use mathlib.Core.Path.{_≡_, refl, sym, ap, ap₂, _∙_}
 use mathlib.Core.List.{[], _∷_}
 use mathlib.Core.Bool.{Bool, true, false}
 use lib.Dec.{eqb}
-use lib.ListN.{length, getD, set}
+use lib.ListN.{getD, set}
 use lib.Seq.{set-set, getD-set-other}
 use borrow.Author.Tests.{eqb-true, eqb-false}
 use Rattle.loading.specs.Run.{Registers, readRegister, writeRegister}
@@ -21,7 +21,7 @@ use Rattle.machine.specs.StepLaws.{Zero}
 use Rattle.dry_run_outcome.specs.declared.Fetched.{Fetched}
 use Rattle.dry_run_outcome.specs.declared.Fetched.the-variants.{Word, Missing}
 use Rattle.dry_run_outcome.specs.Fetch.{fetch}
-use Rattle.dry_run_outcome.specs.Run.{stepFetched, step, later, run}
+use Rattle.dry_run_outcome.specs.Run.{step, later, run}
 use Rattle.dry_run_outcome.specs.RunLaws.{ranFor, loop-start, loop-end, loop-goes, loop-stops}
 use Rattle.dry_run_outcome.specs.Zero.{step-zero}
 

@@ -1,10 +1,9 @@
 -- "never above the allowance. The allowance is given as the reason exactly when steps equal it." Assumes nothing.
 use Prim.Native.Nat.{ℕ, zero, suc, _≤_}
 use native.Mathlib.Omega.{arith}
-use mathlib.Core.Path.{_≡_, refl, ap, _∙_}
+use mathlib.Core.Path.{_≡_, refl}
 use Rattle.reading.specs.Reading.{Image}
 use Rattle.machine.specs.declared.Machine.{Machine}
-use Rattle.machine.specs.declared.Reason.{Reason}
 use Rattle.machine.specs.declared.Reason.the-variants.{Allowance}
 use Rattle.machine.specs.Step.{Step, goes, stops}
 use Rattle.dry_run_outcome.specs.declared.Ran.{Ran}

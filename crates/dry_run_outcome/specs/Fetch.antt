@@ -5,7 +5,7 @@ use mathlib.Core.Bool.{true, false}
 use lib.Dec.{leb}
 use lib.ListN.{length}
 use Rattle.record.specs.Bytes.{le32}
-use Rattle.reading.specs.Reading.{ImageRegion, Image}
+use Rattle.reading.specs.Reading.{Image}
 use Rattle.dry_run_outcome.specs.declared.Fetched.{Fetched}
 use Rattle.dry_run_outcome.specs.declared.Fetched.the-variants.{Word, Missing}
 

@@ -1,11 +1,10 @@
 -- "the stopping word changes nothing": the state that is returned is that after the steps taken, and it is there that the run stops. Assumes nothing.
-use Prim.Native.Nat.{ℕ, zero, suc, _+_}
+use Prim.Native.Nat.{ℕ, zero, suc}
 use native.Mathlib.Nat.{add-comm}
 use native.Mathlib.Numerals.{add-one}
-use mathlib.Core.Path.{_≡_, refl, sym, ap, _∙_}
+use mathlib.Core.Path.{_≡_, refl, ap, _∙_}
 use Rattle.reading.specs.Reading.{Image}
 use Rattle.machine.specs.declared.Machine.{Machine}
-use Rattle.machine.specs.declared.Reason.{Reason}
 use Rattle.machine.specs.declared.Reason.the-variants.{Allowance}
 use Rattle.machine.specs.Step.{Step, goes, stops}
 use Rattle.dry_run_outcome.specs.declared.Ran.{Ran}

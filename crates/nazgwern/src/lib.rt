@@ -1,4 +1,4 @@
-// The library to link: a build, a line, the counts of a range and a text's tokens by the C calling convention, where a slice goes as a pointer and a length.
+// The library to link: a build, a line, the counts of a range, a text's tokens and a dry run by the C calling convention, where a slice goes as a pointer and a length.
 ghost use mathlib.Core.Path.{_≡_};
 ghost use Prim.Native.Nat.{_≤_};
 ghost use lib.ListN.{length};
@@ -6,6 +6,7 @@ ghost use Rattle.record.specs.Stores.{append};
 ghost use Rattle.emit_outcome.specs.Call.{lentOf};
 ghost use Rattle.nazgwern.specs.Answer.{countsBytes, countsAt, countsAfter, formCountBytes, formCounts, formCountsAfter, linkedBuild, linkedLine, linkedCount};
 ghost use Rattle.linked_text.specs.LinkedText.{linkedText};
+ghost use Rattle.linked_dry_run.specs.LinkedDryRun.{linkedDryRun};
 
 pub mod answer;
 
@@ -189,4 +190,19 @@ pub extern "C" fn nazgwern_read_text(
         ≡ (record { result = r; tokens = now (tokens .exit); answer = now (answer .exit) }) ⌝ }
 {
     linked_text::read_text(text, source, tokens, answer)
+}
+
+// Runs a region list dry or refuses: linked_dry_run says how.
+#[no_mangle]
+pub extern "C" fn nazgwern_dry_run(
+    regions: &[u8],
+    registers: &mut [u8],
+    pc: u32,
+    allowance: u32,
+    answer: &mut [u8],
+) -> u32
+    ensures { λ r. ⌜ linkedDryRun (now (regions .entry)) (now (registers .entry)) pc allowance (now (answer .entry))
+        ≡ (record { result = r; registers = now (registers .exit); answer = now (answer .exit) }) ⌝ }
+{
+    linked_dry_run::dry_run(regions, registers, pc, allowance, answer)
 }

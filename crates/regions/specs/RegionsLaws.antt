@@ -1,4 +1,4 @@
--- Laws of regions: what a layout that is kept says of each region, that regions stand one after another, and that a change within one region's data moves none. Assumes nothing.
+-- Laws of regions: what a layout that is kept says of each region, that regions stand one after another, that a change within one region's data moves none, and where a layout breaks. Assumes nothing.
 use Prim.Native.Nat.{ℕ, zero, suc, _+_, _-_, _≤_, _<_}
 use native.Mathlib.Numerals.{add-one}
 use native.Mathlib.Omega.{arith}
@@ -11,7 +11,7 @@ use lib.Dec.{leb, eqb, ltb}
 use borrow.Author.Tests.{leb-true, ltb-true, ltb-false}
 use Rattle.record.specs.Bytes.{byteAt, le16}
 use Rattle.record.specs.Records.{bodyLen, kindAt, whole, next, places, placesFrom, firstBad, firstBadOf, limit, withinLimit}
-use Rattle.record.specs.RecordsLaws.{places-end, places-step, places-cut, places-all, places-cons, whole-is, first-good, of-good, limit-good, limit-kept, limit-passed}
+use Rattle.record.specs.RecordsLaws.{places-end, places-step, places-cut, places-all, places-cons, whole-is, first-good, of-good, of-place, limit-bad, limit-good, limit-kept, limit-passed}
 use Rattle.record.specs.declared.Layout.the-variants.{Good, Bad}
 use Rattle.regions.specs.Regions.{regionOk, regionRecords, regionLayout, regionCount, regionPlace}
 
@@ -208,3 +208,14 @@ module _ (s t : List ℕ) (r i : ℕ) (l : length s ≡ length t) (g : regionLay
 
   pub places-kept : (places t ≡ places s) × (regionLayout t ≡ Good)
   places-kept = (places-same s t l (λ n h. heads-same n h .0), layout-same s t l heads-same ∙ g)
+
+-- ---- the place of a list that breaks its layout is within the limit
+
+record-place : (s ps : List ℕ) (p : ℕ) → places s ≡ ps → regionRecords s ps ≡ Bad p → p ≤ length s
+unfolding regionRecords
+record-place s [] p q e = let z : length s ≡ p = cc in omega arith
+record-place s (x ∷ ps) p q e = of-place 16 (regionOk s) s p (ap (firstBadOf 16 (regionOk s)) q ∙ e)
+
+pub region-place : (s : List ℕ) (p : ℕ) → regionLayout s ≡ Bad p → p ≤ limit
+unfolding regionLayout
+region-place s p e = limit-bad s (regionRecords s (places s)) p e (record-place s (places s) p refl)

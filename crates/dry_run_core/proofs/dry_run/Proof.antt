@@ -2,10 +2,10 @@
 use native.Mathlib.Omega.{arith}
 use mathlib.Core.Path.{_≡_, sym, _∙_}
 use borrow.Author.Needs.{needs}
-use Rattle.record.specs.declared.Layout.the-variants.{Good, Bad}
+use Rattle.record.specs.declared.Layout.the-variants.{Bad}
 use Rattle.regions.specs.Regions.{regionLayout}
+use Rattle.regions.specs.RegionsLaws.{region-place}
 use Rattle.dry_run_outcome.specs.DryRunLaws.{outcome-layout}
-use Rattle.dry_run_core.specs.PlacesLaws.{bad-place}
 use Rattle.dry_run_core.proofs.dry_run.Statement.{statement}
 use Rattle.dry_run_core.proofs.dry_run.Tie as tie
 
@@ -23,7 +23,7 @@ dry-run-spec =
     (tie.spec
     (λ c κs. search needs)
     (λ c. search needs)
-    (λ c. omega (arith, bad-place _ _ (bad (c .before))))
+    (λ c. omega (arith, region-place _ _ (bad (c .before))))
     (λ c κs. search needs)
     (λ c. search needs)
     (λ c κs. sym (c .before .before .first-bad-region .ensures) ∙ c .enum-told .given .1)

@@ -4,7 +4,6 @@ use mathlib.Core.Path.{_≡_, sym, ap, _∙_}
 use lib.ListN.{length, take, length-take}
 use borrow.Author.Needs.{needs}
 use borrow.Author.Tests.{not-true, not-false}
-use Rattle.machine.specs.declared.Machine.{Machine}
 use Rattle.reading.specs.Reading.{imageOf}
 use Rattle.dry_run_outcome.specs.Run.{run}
 use Rattle.dry_run_outcome.specs.DryRunLaws.{stoppedRun, outcome-start, outcome-run}

@@ -3,7 +3,6 @@ use Prim.Native.Nat.{_-_}
 use native.Mathlib.Omega.{arith}
 use mathlib.Core.Path.{refl}
 use lib.ListN.{length}
-use borrow.Author.Needs.{needs}
 use Rattle.regions.specs.RegionsLaws.{RegionIs}
 use Rattle.dry_run_core.specs.PlacesLaws.{Passed, passed-none, passed-end, region-there, room, passed-next}
 use Rattle.dry_run_core.proofs.image.region_places.Statement.{statement}

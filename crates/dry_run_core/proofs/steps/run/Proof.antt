@@ -1,17 +1,15 @@
 -- `run` meets its contract. Invariant: the whole run is the steps so far and then a run of what is left of the allowance. Assumes nothing.
 use Prim.Native.Nat.{ℕ, _-_}
-use native.Mathlib.Omega.{arith}
-use mathlib.Core.List.{List}
-use mathlib.Core.Path.{_≡_, sym, ap, ap₂, _∙_}
+use mathlib.Core.Path.{_≡_, ap, _∙_}
 use lib.ListN.{getD}
 use borrow.Author.Needs.{needs}
 use Rattle.reading.specs.Reading.{Image, imageOf}
 use Rattle.machine.specs.declared.Effect.{Effect}
 use Rattle.machine.specs.declared.Effect.the-variants.{SetRt, SetRd, Go, Overflows, Unknown}
 use Rattle.machine.specs.declared.Machine.{Machine}
-use Rattle.machine.specs.declared.Reason.the-variants.{Allowance, Pc, Word, Overflow}
+use Rattle.machine.specs.declared.Reason.the-variants.{Pc, Word, Overflow}
 use Rattle.machine.specs.Instructions.{rt, rd}
-use Rattle.machine.specs.Step.{Step, goes, stops, at, apply}
+use Rattle.machine.specs.Step.{apply}
 use Rattle.dry_run_outcome.specs.Run.{step}
 use Rattle.dry_run_core.specs.StepsLaws.{Here, here-start, here-end, here-goes, here-stops, step-none, step-word, step-sets}
 use Rattle.dry_run_core.proofs.steps.run.Statement.{statement}

@@ -1,0 +1,3 @@
+pub mod LinkedDryRun
+pub mod LinkedDryRunLaws
+pub mod ReadsBack

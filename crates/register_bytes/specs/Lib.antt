@@ -1,0 +1,2 @@
+pub mod RegisterBytes
+pub mod RegisterBytesLaws
