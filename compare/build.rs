@@ -3,6 +3,13 @@
 
 use std::env;
 
+/// The entries of jobs by the manual: what ./run sets for each, and what the sources ask.
+const JOBS: [(&str, &str); 3] = [
+    ("NAZGWERN_MANUAL_BUILD", "library_manual_build"),
+    ("NAZGWERN_MANUAL_LINE", "library_manual_line"),
+    ("NAZGWERN_RELEASE_6_LINE", "library_release_6_line"),
+];
+
 fn main() {
     println!("cargo:rustc-check-cfg=cfg(library_build, library_line, library_count, library_text)");
     println!("cargo:rustc-check-cfg=cfg(library_dry_run)");
@@ -17,6 +24,11 @@ fn main() {
         println!("cargo:rerun-if-env-changed={name}");
     }
 
+    for (name, asked) in JOBS {
+        println!("cargo:rerun-if-env-changed={name}");
+        println!("cargo:rustc-check-cfg=cfg({asked})");
+    }
+
     let Ok(folder) = env::var("NAZGWERN_FOLDER") else {
         return;
     };
@@ -25,6 +37,11 @@ fn main() {
     println!("cargo:rustc-link-search=native={folder}");
     println!("cargo:rustc-link-lib=static=nazgwern");
 
+    for (name, asked) in JOBS {
+        if env::var(name).is_ok() {
+            println!("cargo:rustc-cfg={asked}");
+        }
+    }
     if env::var("NAZGWERN_BUILD").is_ok() {
         println!("cargo:rustc-cfg=library_build");
     }

@@ -22,8 +22,8 @@
 enum { PAGE = 4096, ROOM = 18 * PAGE, EDGE = 64, MARK = 0xa5, REFUSALS = 30 };
 enum { PSEUDOS = 29, ENCODINGS = 21, NAMES = 4 };
 
-/* A letter stands for an operand: r and f registers, v a register or number, i a number, s a label,
-   a an offset before b, a register in brackets. */
+/* A letter stands for an operand: r and f registers, v a register or number, i a number, c a shift
+   amount or condition code, s a label, a an offset before b, a register in brackets. */
 static const char *const pseudos[PSEUDOS][2] = {
     {"nop", ""},     {"abs", "rr"},   {"blt", "rvs"},  {"bgt", "rvs"},  {"ble", "rvs"},
     {"bge", "rvs"},  {"bltu", "rvs"}, {"bgtu", "rvs"}, {"bleu", "rvs"}, {"bgeu", "rvs"},
@@ -33,8 +33,8 @@ static const char *const pseudos[PSEUDOS][2] = {
     {"move", "rr"},  {"b", "s"},      {"subi", "rri"}, {"subiu", "rri"},
 };
 static const char *const encodings[ENCODINGS] = {
-    "rrv", "rrr", "r",   "r",   "rrv", "rri", "rs", "rri", "ri",  "s",  "rvs",
-    "rs",  "",    "rab", "fab", "fff", "ff",  "ffi", "iff", "fr", "is",
+    "rrv", "rrr", "r",   "r",   "rrv", "rrc", "rs", "rri", "ri",  "s",  "rvs",
+    "rs",  "",    "rab", "fab", "fff", "ff",  "ffc", "cff", "fr", "cs",
 };
 
 /* The last is as long as a name may be. */
@@ -307,6 +307,7 @@ static void operand(char letter)
     case 'r': token(3, below(32), 1); break;
     case 'f': token(4, below(32), 1); break;
     case 'i': token(5, below(65536), 8); break;
+    case 'c': token(5, below(once_in(2) ? 10 : 34), 8); break;
     case 'n': token(5, once_in(2) ? chance() : chance() >> 32, 8); break;
     case 'm': token(9 + (uint16_t)below(2), 0, 0), token(5, below(65536), 8); break;
     case 's': text(8, names[below(NAMES)]); break;
@@ -329,6 +330,7 @@ static char some_operand(char letter)
     switch (letter) {
     case 'v': return "rinm"[below(4)];
     case 'i': return "inm"[below(3)];
+    case 'c': return "cccinm"[below(6)];
     case 's': return "spi"[below(3)];
     case 'a': return "inmsp"[below(5)];
     case 'b': return "bbbbo"[below(5)];
@@ -432,7 +434,11 @@ static uint32_t grown(const struct buffer *buffer, size_t which, uint32_t most)
 
 static uint32_t greatest[3];
 
-static void do_instruction(void)
+typedef uint32_t line_call(const uint8_t *, size_t, const uint8_t *, size_t, const uint8_t *,
+                           size_t, uint8_t *, size_t, uint8_t *, size_t, uint8_t *, size_t,
+                           uint8_t *, size_t, uint32_t, uint16_t, uint32_t, uint8_t *, size_t);
+
+static void line(line_call *call)
 {
     struct buffer *const lists[] = {&tokens, &mnemonic, &descriptors,
                                     &data,   &pending,  &breakpoints};
@@ -450,7 +456,7 @@ static void do_instruction(void)
     lend(&counts);
     lend(&answer);
 
-    uint32_t number = nazgwern_do_instruction(
+    uint32_t number = call(
         tokens.lent, tokens.length, mnemonic.lent, mnemonic.length, descriptors.lent,
         descriptors.length, data.lent, data.length, pending.lent, pending.length, breakpoints.lent,
         breakpoints.length, counts.lent, counts.length, position, region, address, answer.lent,
@@ -473,6 +479,16 @@ static void do_instruction(void)
         greatest[i] = added > greatest[i] ? added : greatest[i];
     }
     kept(&counts, 0, NAZGWERN_COUNTS_BYTES, "a byte behind the counts was changed");
+}
+
+static void do_instruction(void)
+{
+    line(nazgwern_do_instruction);
+}
+
+static void do_manual_instruction(void)
+{
+    line(nazgwern_do_manual_instruction);
 }
 
 /* ---- a build */
@@ -528,7 +544,10 @@ static void patched(void)
     kept(&regions, 0, regions.length, "");
 }
 
-static void build(void)
+typedef uint32_t build_call(const uint8_t *, size_t, const uint8_t *, size_t, uint8_t *, size_t,
+                            const uint8_t *, size_t, uint8_t *, size_t);
+
+static void one_build(build_call *call)
 {
     struct buffer *const lists[] = {&labels, &entry, &patches, &regions};
 
@@ -540,9 +559,9 @@ static void build(void)
         lend(lists[i]);
     lend(&answer);
 
-    uint32_t number = nazgwern_build(labels.lent, labels.length, entry.lent, entry.length,
-                                     regions.lent, regions.length, patches.lent, patches.length,
-                                     answer.lent, answer.length);
+    uint32_t number = call(labels.lent, labels.length, entry.lent, entry.length, regions.lent,
+                           regions.length, patches.lent, patches.length, answer.lent,
+                           answer.length);
 
     for (size_t i = 0; i < 3; i++)
         unchanged(lists[i]);
@@ -550,6 +569,16 @@ static void build(void)
         patched();
     else
         unchanged(&regions);
+}
+
+static void build(void)
+{
+    one_build(nazgwern_build);
+}
+
+static void build_manual(void)
+{
+    one_build(nazgwern_build_manual);
 }
 
 /* ---- the counts of a range */
@@ -699,7 +728,9 @@ static const struct {
     size_t calls;
 } entries[] = {
     {"nazgwern_do_instruction", do_instruction, 1000000},
+    {"nazgwern_do_manual_instruction", do_manual_instruction, 1000000},
     {"nazgwern_build", build, 500000},
+    {"nazgwern_build_manual", build_manual, 500000},
     {"nazgwern_count_forms", count_forms, 500000},
     {"nazgwern_read_text", read_text, 500000},
     {"nazgwern_dry_run", dry_run, 500000},

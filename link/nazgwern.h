@@ -48,7 +48,7 @@
    all state is in the buffers.
 
    ANSWER. Six numbers of four bytes: number, source, index, a, b, and a line's position, a build's
-   entry, a text's fill or a dry run's pc. Number 0 is an accepted call, 1 to 16, 21 to 23, 28 and
+   entry, a text's fill or a dry run's pc. Number 0 is an accepted call, 1 to 16, 19 to 23, 28 and
    30 are refusals; source and index are the refusal's location, a is given by its low 32 bits, and
    numbers that are not named here are 0. Of an accepted line a says how its constant is loaded: 0
    none is, 1 addiu alone, 2 ori alone, 3 lui alone, 4 both halves. The number is returned too. On
@@ -77,6 +77,8 @@
      14  A patch ends past its region's data.
      15  A patch's name is unknown.
      16  A branch or jump is out of range (a: destination, b: pc).
+     19  In a manual job, the shift amount of encoding 5 lies outside 0 to 31.
+     20  In a manual job, the condition code of encoding 17, 18 or 20 lies outside 0 to 7.
      21  A byte starts no token, a byte of a comment or string lies outside 0x20 to 0x7E, or a
          string is not closed on its line.
      22  A text is over 64 bytes, a parameter has no name, a number is over 64 bits, 0x has no
@@ -85,17 +87,17 @@
      28  A dry run's pc is no multiple of four, or no whole word stands there.
      30  The range's start exceeds its end.
 
-   The location is zero for 1, 2, 28 and 30; the mnemonic's for 3, 4 and 9 to 12; for 5 to 8 that of
-   the token that was met, or the mnemonic's at a NewLine; the name's for 13 and 15, and the
+   The location is zero for 1, 2, 28 and 30; the mnemonic's for 3, 4, 9 to 12, 19 and 20; for 5 to 8
+   that of the token that was met, or the mnemonic's at a NewLine; the name's for 13 and 15, and the
    pending's for 14 and 16; for 21 to 23 the call's source and the place of the token's first byte.
    docs/REFUSALS.md says what to do about each.
 
    STACK. Measured, not proved, on x86-64 with gcc as the caller's compiler: link/stack ran over a
-   million calls of nazgwern_do_instruction, of which none took more than 4,184 bytes of stack, 731
-   of nazgwern_build, of which none took more than 216, 20,506 of nazgwern_read_text, of which none
-   took more than 928, and 1,338 of nazgwern_dry_run, of which none took more than 680; arguments
-   and return address counted. The code may also use the 128 bytes below its stack pointer, as the
-   x86-64 convention allows. */
+   million calls of nazgwern_do_instruction, of which none took more than 4,616 bytes of stack, 731
+   of nazgwern_build, of which none took more than 312, as many by the manual, of which none took
+   more than these, 20,506 of nazgwern_read_text, of which none took more than 928, and 1,338 of
+   nazgwern_dry_run, of which none took more than 680; arguments and return address counted. The
+   code may also use the 128 bytes below its stack pointer, as the x86-64 convention allows. */
 #ifndef NAZGWERN_H
 #define NAZGWERN_H
 
@@ -144,6 +146,20 @@ uint32_t nazgwern_do_instruction(
     uint32_t position, uint16_t region, uint32_t address,
     uint8_t *answer, size_t answer_length);
 
+/* The same for a manual job: size Word is 20 in the field fmt, in place of 18; abs begins with
+   sra $at,source,31; and a shift amount or condition code out of range is refused with 19 or 20,
+   tested as 64 bits when the operands are read, before 9. */
+uint32_t nazgwern_do_manual_instruction(
+    const uint8_t *tokens, size_t tokens_length,
+    const uint8_t *mnemonic, size_t mnemonic_length,
+    const uint8_t *descriptors, size_t descriptors_length,
+    uint8_t *data, size_t data_length,
+    uint8_t *pending, size_t pending_length,
+    uint8_t *breakpoints, size_t breakpoints_length,
+    uint8_t *counts, size_t counts_length,
+    uint32_t position, uint16_t region, uint32_t address,
+    uint8_t *answer, size_t answer_length);
+
 /* Builds: patches the region list in place.
    labels       kind 34
    entry        at most one record of kind 38; without one the entry is 0x00400000
@@ -151,6 +167,15 @@ uint32_t nazgwern_do_instruction(
    pending      kind 36, the filled part only
    The last number of the answer is the entry, and 0 on refusal. */
 uint32_t nazgwern_build(
+    const uint8_t *labels, size_t labels_length,
+    const uint8_t *entry, size_t entry_length,
+    uint8_t *regions, size_t regions_length,
+    const uint8_t *pending, size_t pending_length,
+    uint8_t *answer, size_t answer_length);
+
+/* The same for a manual job: a branch is out of range from -32,769 and from 32,768 words on, and
+   not only past -65,536 and 65,535. */
+uint32_t nazgwern_build_manual(
     const uint8_t *labels, size_t labels_length,
     const uint8_t *entry, size_t entry_length,
     uint8_t *regions, size_t regions_length,

@@ -62,10 +62,17 @@ static uint8_t *frame;
 static size_t greatest, calls;
 static bool seen[GREATEST_NUMBER + 1], short_seen;
 
+/* The entries of the job that is measured. */
+static uint32_t (*emit)(const uint8_t *, size_t, const uint8_t *, size_t, const uint8_t *, size_t,
+                        uint8_t *, size_t, uint8_t *, size_t, uint8_t *, size_t, uint8_t *,
+                        size_t, uint32_t, uint16_t, uint32_t, uint8_t *, size_t);
+static uint32_t (*finish)(const uint8_t *, size_t, const uint8_t *, size_t, uint8_t *, size_t,
+                          const uint8_t *, size_t, uint8_t *, size_t);
+
 static void do_instruction(void)
 {
     frame = __builtin_frame_address(0);
-    number = nazgwern_do_instruction(
+    number = emit(
         tokens.bytes, tokens.length, mnemonic.bytes, mnemonic.length, descriptors.bytes,
         descriptors.length, data.bytes, data.length, pending.bytes, pending.length,
         breakpoints.bytes, breakpoints.length, counts, counts_length, 0, region, address,
@@ -75,8 +82,8 @@ static void do_instruction(void)
 static void build(void)
 {
     frame = __builtin_frame_address(0);
-    number = nazgwern_build(labels.bytes, labels.length, entry.bytes, entry.length, regions.bytes,
-                            regions.length, pending.bytes, pending.length, answer, answer_length);
+    number = finish(labels.bytes, labels.length, entry.bytes, entry.length, regions.bytes,
+                    regions.length, pending.bytes, pending.length, answer, answer_length);
 }
 
 static void read_text(void)
@@ -440,9 +447,15 @@ static void all_runs(void)
     registers_length++;
 }
 
-int main(void)
+/* Measures the two entries of a job, from empty lists on. */
+static void job(const char *line_name, const char *build_name)
 {
+    struct list *const lists[] = {&tokens, &mnemonic, &descriptors, &labels, &entry, &regions};
+
+    for (size_t i = 0; i < sizeof lists / sizeof *lists; i++)
+        lists[i]->length = 0;
     data.length = pending.length = breakpoints.length = 1024;
+    memset(filled, 0, sizeof filled);
     address = NEAR;
 
     /* The first line fills the buffers in part, and all others come after its words and records. */
@@ -453,11 +466,20 @@ int main(void)
 
     all_lines();
     refused_lines();
-    report("nazgwern_do_instruction");
+    report(line_name);
 
     all_builds();
     refused_builds();
-    report("nazgwern_build");
+    report(build_name);
+}
+
+int main(void)
+{
+    emit = nazgwern_do_instruction, finish = nazgwern_build;
+    job("nazgwern_do_instruction", "nazgwern_build");
+
+    emit = nazgwern_do_manual_instruction, finish = nazgwern_build_manual;
+    job("nazgwern_do_manual_instruction", "nazgwern_build_manual");
 
     all_texts();
     report("nazgwern_read_text");

@@ -44,11 +44,11 @@ impl Answer {
 }
 
 /// How many answers of each number a run has seen.
-pub struct Tally([u64; 17]);
+pub struct Tally([u64; 31]);
 
 impl Tally {
     pub fn new() -> Tally {
-        Tally([0; 17])
+        Tally([0; 31])
     }
 
     pub fn count(&mut self, answer: &Answer) {

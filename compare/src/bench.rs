@@ -2,6 +2,7 @@
 
 use crate::answer::Answer;
 use crate::build_input::BuildInput;
+use crate::job::Job;
 use crate::judge_build;
 use crate::options::Options;
 use crate::other::{library, Other};
@@ -42,7 +43,9 @@ pub fn run(options: &Options) -> bool {
 
     for (labels, pendings, length, batch) in SIZES {
         let input = input(labels, pendings, length);
-        if run_build::agreed(options.other, &input) != Some(Answer::accepted(ENTRY)) {
+        if run_build::agreed(options, &input).map(|(answer, _)| answer)
+            != Some(Answer::accepted(ENTRY))
+        {
             println!("the sides differ on {labels} labels");
             return false;
         }
@@ -64,7 +67,11 @@ pub fn run(options: &Options) -> bool {
             ));
             other.push(match options.other {
                 Other::Library => time(batch, || input.clone(), call_library),
-                Other::Second => time(batch, || input.clone(), |input| second_build::build(&input)),
+                Other::Second => time(
+                    batch,
+                    || input.clone(),
+                    |input| second_build::build(Job::Commit, &input),
+                ),
             });
         }
 

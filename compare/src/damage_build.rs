@@ -3,13 +3,11 @@
 
 use crate::build_input::BuildInput;
 use crate::damage::{any_bytes, grow, replace_name, swap_kind};
-use crate::generate_build::{well_formed, BuildLists};
+use crate::generate_build::BuildLists;
 use crate::random::Random;
 use crate::records::{addressed, entry, kind, Record, Reference};
 
-pub fn damaged(random: &mut Random) -> BuildInput {
-    let mut lists = well_formed(random);
-
+pub fn damaged(random: &mut Random, mut lists: BuildLists) -> BuildInput {
     for _ in 0..random.below(4) {
         damage_records(random, &mut lists);
     }

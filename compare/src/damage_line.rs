@@ -3,15 +3,13 @@
 
 use crate::damage::{any_bytes, grow, replace_name, swap_kind};
 use crate::descriptors::made_up;
-use crate::generate_line::{well_formed, Line};
+use crate::generate_line::Line;
 use crate::line_input::LineInput;
 use crate::random::Random;
 use crate::records::{kind, Record};
 use crate::tokens::{of_kind, COMMA};
 
-pub fn damaged(random: &mut Random) -> LineInput {
-    let mut line = well_formed(random);
-
+pub fn damaged(random: &mut Random, mut line: Line) -> LineInput {
     for _ in 0..random.below(3) {
         damage_records(random, &mut line);
     }

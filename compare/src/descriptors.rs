@@ -6,7 +6,7 @@ use crate::random::Random;
 use crate::records::{kind, Record};
 use std::sync::OnceLock;
 
-fn record(fields: [u8; 8], name: &[u8]) -> Record {
+pub fn record(fields: [u8; 8], name: &[u8]) -> Record {
     Record {
         kind: kind::DESCRIPTOR,
         body: [&fields, name].concat(),

@@ -1,6 +1,7 @@
 //! Well-formed build inputs: lists to which neither refusal 1 nor 2 is due.
 
 use crate::build_input::BuildInput;
+use crate::job::Job;
 use crate::names::{place, unknown_name};
 use crate::random::Random;
 use crate::records::{addressed, entry, kind, write, Pending, Record, Reference};
@@ -51,7 +52,7 @@ enum Fault {
     Any,
 }
 
-pub fn well_formed(random: &mut Random) -> BuildLists {
+pub fn well_formed(random: &mut Random, job: Job) -> BuildLists {
     let plan = random.pick(&[
         Plan::Clean,
         Plan::Clean,
@@ -74,9 +75,11 @@ pub fn well_formed(random: &mut Random) -> BuildLists {
     for number in 0..count {
         let fault = match plan {
             Plan::Free if random.one_in(8) => Fault::Any,
-            Plan::OneFault if number == faulty => {
-                random.pick(&[Fault::PastEnd, Fault::UnknownName, Fault::OutOfRange])
-            }
+            // Of a manual job what is out of range, which is its listed point.
+            Plan::OneFault if number == faulty => match job != Job::Commit && random.one_in(2) {
+                true => Fault::OutOfRange,
+                false => random.pick(&[Fault::PastEnd, Fault::UnknownName, Fault::OutOfRange]),
+            },
             _ => Fault::None,
         };
 
@@ -95,7 +98,7 @@ pub fn well_formed(random: &mut Random) -> BuildLists {
             }
         }
 
-        pending.extend(pending_of(random, fault, &regions, &labels, &names));
+        pending.extend(pending_of(random, job, fault, &regions, &labels, &names));
     }
 
     let entry_fault =
@@ -240,6 +243,7 @@ fn refer(random: &mut Random, destination: u32, labels: &[Label]) -> Reference {
 
 fn pending_of(
     random: &mut Random,
+    job: Job,
     fault: Fault,
     regions: &[Region],
     labels: &[Label],
@@ -273,12 +277,13 @@ fn pending_of(
 
     let pc = regions[region].address.wrapping_add(offset);
     let patch = match fault {
-        Fault::OutOfRange => random.below(2) as u8,
+        Fault::OutOfRange if job == Job::Commit => random.below(2) as u8,
+        Fault::OutOfRange => random.pick(&[0, 0, 0, 1]),
         _ => random.below(5) as u8,
     };
     let out = fault == Fault::OutOfRange || fault == Fault::Any && random.one_in(2);
     let destination = match patch {
-        0 => branch_destination(random, pc, out),
+        0 => branch_destination(random, job, pc, out),
         1 => jump_destination(random, pc, out),
         _ => random.pick(&[
             0,
@@ -308,13 +313,22 @@ fn pending_of(
 
 /// A branch's destination at or about the accepted distances' ends. A distance that leaves the
 /// 30 bits of a word address wraps to a far one, so then the next word is taken instead.
-fn branch_destination(random: &mut Random, pc: u32, out: bool) -> u32 {
+fn branch_destination(random: &mut Random, job: Job, pc: u32, out: bool) -> u32 {
     let far = random.below(0x20000) as i64 - 0x10000;
-    let distance = match out {
-        true => random.pick(&[-0x10001, 0x10000, -0x10002, 0x10001, 0x20000, -0x20000]),
-        false => random.pick(&[
+    let distance = match (job, out) {
+        (Job::Commit, true) => {
+            random.pick(&[-0x10001, 0x10000, -0x10002, 0x10001, 0x20000, -0x20000])
+        }
+        (Job::Commit, false) => random.pick(&[
             -0x10000, 0xffff, -0xffff, 0xfffe, -32768, 32767, -32769, 32768, 0, -1, 1, 8, far, far,
         ]),
+        // What is out of range is what the Rust accepts, for the most part.
+        (Job::Manual | Job::Release6, true) => random.pick(&[
+            -32769, 32768, -32769, 32768, -32770, 32769, -0x10000, 0xffff, -0x10001, 0x10000,
+        ]),
+        (Job::Manual | Job::Release6, false) => {
+            random.pick(&[-32768, 32767, -32767, 32766, 0, -1, 1, 8, far / 2, far / 2])
+        }
     };
     let base = (pc.wrapping_add(4) >> 2) as i64;
     let word = base + distance;

@@ -1,12 +1,10 @@
 //! Well-formed build inputs with lists of exactly 65,536 bytes, the longest that are lent.
 
-use crate::generate_build::{well_formed, BuildLists};
+use crate::generate_build::BuildLists;
 use crate::random::Random;
 use crate::records::{addressed, kind, Pending, Reference};
 
-pub fn full_list(random: &mut Random) -> BuildLists {
-    let mut lists = well_formed(random);
-
+pub fn full_list(random: &mut Random, mut lists: BuildLists) -> BuildLists {
     match random.below(3) {
         0 => full_labels(random, &mut lists),
         1 => full_region(random, &mut lists),

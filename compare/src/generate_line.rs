@@ -75,6 +75,16 @@ pub fn well_formed(random: &mut Random) -> Line {
     let descriptors = descriptors(random);
     let (mnemonic, operands) = mnemonic(random, &descriptors);
 
+    line_of(random, descriptors, mnemonic, operands)
+}
+
+/// A line of this mnemonic, with operands that are right for it or nearly so.
+pub fn line_of(
+    random: &mut Random,
+    descriptors: Vec<Record>,
+    mnemonic: Record,
+    operands: &str,
+) -> Line {
     let mut tokens = vec![];
     if random.one_in(4) {
         mixed(random, &mut tokens);
@@ -151,7 +161,7 @@ fn place_region(random: &mut Random, line: &mut Line) {
     }
 }
 
-fn descriptors(random: &mut Random) -> Vec<Record> {
+pub fn descriptors(random: &mut Random) -> Vec<Record> {
     let mut records: Vec<Record> = match random.below(4) {
         0 => table().to_vec(),
         1 => vec![],
@@ -179,7 +189,7 @@ fn descriptors(random: &mut Random) -> Vec<Record> {
 
 /// A mnemonic and the operands that it reads.
 fn mnemonic(random: &mut Random, descriptors: &[Record]) -> (Record, &'static str) {
-    let (mut text, operands) = match random.below(20) {
+    let (text, operands) = match random.below(20) {
         0 => {
             // Mostly neither a descriptor's nor a pseudo-instruction's.
             let mut text = match random.below(3) {
@@ -208,7 +218,11 @@ fn mnemonic(random: &mut Random, descriptors: &[Record]) -> (Record, &'static st
         }
     };
 
-    // "lowered by ASCII rules"
+    (named(random, text), operands)
+}
+
+/// A mnemonic record, at times with capitals: "lowered by ASCII rules".
+pub fn named(random: &mut Random, mut text: Vec<u8>) -> Record {
     if random.one_in(4) {
         for byte in &mut text {
             if random.one_in(2) {
@@ -222,13 +236,10 @@ fn mnemonic(random: &mut Random, descriptors: &[Record]) -> (Record, &'static st
         .concat();
     body.extend(text);
 
-    (
-        Record {
-            kind: kind::MNEMONIC,
-            body,
-        },
-        operands,
-    )
+    Record {
+        kind: kind::MNEMONIC,
+        body,
+    }
 }
 
 fn pending(random: &mut Random) -> Record {

@@ -10,6 +10,7 @@ use crate::assembler::emit::do_instruction;
 use crate::assembler::instructions::{Encoding, Instruction, Opcode, Size};
 use crate::assembler::lexer::{Location, StrippedKind, SymbolName, Token, TokenKind};
 use crate::assembler::registers::{FPRegisterSlot, RegisterSlot};
+use crate::job::Job;
 use crate::line_input::{LineInput, LineOutcome, NO_REGION};
 use crate::model_line;
 use crate::records::{bodies, kind, u32_at, u64_at, write, Pending, Record, Reference};
@@ -113,7 +114,7 @@ fn accepted(input: &LineInput, start: Location, builder: &BinaryBuilder, last: u
     }
 
     // The Rust has no report of how a constant was loaded: the second implementation gives it.
-    let loaded = second_line::do_instruction(input).answer.a;
+    let loaded = second_line::do_instruction(Job::Commit, input).answer.a;
     let mut outcome = input.refused(Answer {
         a: loaded,
         ..Answer::accepted(last)

@@ -115,9 +115,9 @@ pub fn run(options: &Options) -> bool {
             let agreed = [
                 build
                     .filter(|(_, call)| builds.keeps(call, lengths))
-                    .map(|(input, _)| run_build::agreed(options.other, &input)),
+                    .map(|(input, _)| run_build::agreed(options, &input)),
                 line.filter(|(_, call)| lines.keeps(call, lengths))
-                    .map(|(input, _)| run_line::agreed(options.other, &input)),
+                    .map(|(input, _)| run_line::agreed(options, &input)),
             ];
 
             if agreed.contains(&Some(None)) {

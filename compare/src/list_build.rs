@@ -2,6 +2,7 @@
 
 use crate::answer::Answer;
 use crate::build_input::{BuildInput, BuildOutcome};
+use crate::job::Job;
 use crate::judge_build;
 use crate::list::{build_call, by_length, fault, fits, is_long, Call, Chosen, Class};
 use crate::records::{bodies, u32_at, Pending, Reference};
@@ -13,7 +14,7 @@ pub fn buffers(input: &BuildInput) -> [&Vec<u8>; 4] {
 
 /// The call of this index, where `replay` has room for it.
 pub fn listed(seed: u64, index: u64) -> Option<(BuildInput, Call)> {
-    let (_, input) = generated(seed, index);
+    let (_, input) = generated(seed, index, Job::Commit);
     if !fits(&buffers(&input)) {
         return None;
     }

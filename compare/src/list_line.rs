@@ -2,6 +2,7 @@
 
 use crate::answer::Answer;
 use crate::descriptors::table;
+use crate::job::Job;
 use crate::judge_line;
 use crate::line_input::{LineInput, LineOutcome};
 use crate::list::{by_length, fault, fits, is_long, line_call, Call, Chosen, Class};
@@ -25,7 +26,7 @@ pub fn buffers(input: &LineInput) -> [&Vec<u8>; 6] {
 
 /// The call of this index, where `replay` has room for it.
 pub fn listed(seed: u64, index: u64) -> Option<(LineInput, Call)> {
-    let (_, input, _) = generated(seed, index);
+    let (_, input, _) = generated(seed, index, Job::Commit);
     if !fits(&buffers(&input)) {
         return None;
     }

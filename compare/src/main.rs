@@ -17,6 +17,7 @@ mod answer;
 mod bench;
 mod bench_line;
 mod build_input;
+mod cases;
 mod count_forms;
 mod damage;
 mod damage_build;
@@ -30,8 +31,11 @@ mod dry_run_plain;
 mod generate_build;
 mod generate_full_build;
 mod generate_full_line;
+mod generate_job_line;
 mod generate_line;
+mod job;
 mod judge_build;
+mod judge_job;
 mod judge_line;
 mod line_input;
 mod list;
@@ -73,7 +77,7 @@ fn main() -> ExitCode {
         }
     };
 
-    let (has_build, has_line) = options.other.has();
+    let (has_build, has_line) = options.other.has(options.job);
 
     judge_build::keep_its_panics_quiet();
 
@@ -82,6 +86,7 @@ fn main() -> ExitCode {
         "build" if has_build => run_build::run(&options),
         "line" if has_line => run_line::run(&options),
         "list" if has_build && has_line => list::run(&options),
+        "cases" => cases::run(),
         "count_forms" if options.other.has_count() => count_forms::run(options.other),
         "text" if text_library::HAS_TEXT => text_run::run(&options),
         "dry_run" if dry_run_library::HAS_DRY_RUN => dry_run::run(&options),

@@ -1,5 +1,6 @@
 //! The words given to the program. ./run has already looked at its own.
 
+use crate::job::Job;
 use crate::other::Other;
 use std::env;
 
@@ -8,18 +9,20 @@ pub struct Options {
     pub count: u64,
     pub seed: u64,
     pub other: Other,
+    pub job: Job,
 }
 
 pub fn read() -> Result<Options, String> {
     let mut words = env::args().skip(1);
     let mode = words
         .next()
-        .ok_or("a mode is needed: build, line, count_forms, text, dry_run, bench or list")?;
+        .ok_or("a mode is needed: build, line, cases, count_forms, text, dry_run, bench or list")?;
     let mut options = Options {
         mode,
         count: 200_000,
         seed: 1,
         other: Other::Library,
+        job: Job::Commit,
     };
 
     while let Some(word) = words.next() {
@@ -34,9 +37,15 @@ pub fn read() -> Result<Options, String> {
             "--count" => options.count = number()?,
             "--seed" => options.seed = number()?,
             "--self" => options.other = Other::Second,
+            "--manual" => options.job = Job::Manual,
+            "--release6" => options.job = Job::Release6,
             _ => return Err(format!("unknown word {word}")),
         }
     }
 
-    Ok(options)
+    match (options.job, options.mode.as_str()) {
+        (Job::Commit, _) | (Job::Manual, "line" | "build") | (Job::Release6, "line") => Ok(options),
+        (Job::Manual, _) => Err("--manual goes with line and build".to_string()),
+        (Job::Release6, _) => Err("--release6 goes with line; its build is --manual".to_string()),
+    }
 }

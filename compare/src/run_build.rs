@@ -5,19 +5,21 @@ use crate::build_input::BuildInput;
 use crate::damage_build::damaged;
 use crate::generate_build::well_formed;
 use crate::generate_full_build::full_list;
-use crate::judge_build;
+use crate::job::Job;
+use crate::judge_job::{self, Judge, Judged};
 use crate::model;
 use crate::options::Options;
-use crate::other::Other;
 use crate::random::Random;
+use crate::second_build;
 
 /// Compares `count` builds; false at the first difference.
 pub fn run(options: &Options) -> bool {
     let mut tally = Tally::new();
+    let mut judged = Judged::default();
     let mut whole = 0u64;
 
     for index in 0..options.count {
-        let (well, input) = generated(options.seed, index);
+        let (well, input) = generated(options.seed, index, options.job);
 
         if well {
             whole += 1;
@@ -27,12 +29,13 @@ pub fn run(options: &Options) -> bool {
             );
         }
 
-        let Some(answer) = agreed(options.other, &input) else {
+        let Some((answer, judge)) = agreed(options, &input) else {
             println!("input {index} of seed {} differs", options.seed);
             return false;
         };
 
         tally.count(&answer);
+        judged.count(judge);
     }
 
     println!(
@@ -42,6 +45,7 @@ pub fn run(options: &Options) -> bool {
     );
     println!("well-formed inputs {whole}");
     println!("damaged inputs {}", options.count - whole);
+    print!("{}", judged.text(options.job));
     print!("{}", tally.text());
     println!("0 differ");
 
@@ -49,33 +53,40 @@ pub fn run(options: &Options) -> bool {
 }
 
 /// A build call, and whether it was made well formed.
-pub fn generated(seed: u64, index: u64) -> (bool, BuildInput) {
+pub fn generated(seed: u64, index: u64, job: Job) -> (bool, BuildInput) {
     let mut random = Random::of(seed, index);
     let well = random.one_in(2);
+    let full = well && random.one_in(400);
+    let lists = well_formed(&mut random, job);
 
-    let input = match well {
-        true if random.one_in(400) => full_list(&mut random).write(),
-        true => well_formed(&mut random).write(),
-        false => damaged(&mut random),
+    let input = match (well, full) {
+        (true, true) => full_list(&mut random, lists).write(),
+        (true, false) => lists.write(),
+        (false, _) => damaged(&mut random, lists),
     };
 
     (well, input)
 }
 
-/// The answer that both sides give; none where they differ, which is printed whole.
-pub fn agreed(other: Other, input: &BuildInput) -> Option<Answer> {
-    let expected = judge_build::expected(input);
-    let met = other.build(input);
+/// The answer that both sides give, and the judge; none where they differ, which is printed whole.
+pub fn agreed(options: &Options, input: &BuildInput) -> Option<(Answer, Judge)> {
+    let (expected, judge) = judge_job::build(options.job, input);
+    let second = second_build::build(options.job, input);
+    let met = options.other.build(options.job, input);
+    let second_agrees = judge != Judge::Second || second == expected;
 
-    if met.as_ref().ok() == Some(&expected) {
-        return Some(expected.answer);
+    if second_agrees && met.as_ref().ok() == Some(&expected) {
+        return Some((expected.answer, judge));
     }
 
     input.print();
     expected.print("judge");
+    if !second_agrees {
+        second.print("second implementation");
+    }
     match met {
-        Ok(outcome) => outcome.print(other.name()),
-        Err(fault) => println!("{}: {fault}", other.name()),
+        Ok(outcome) => outcome.print(options.other.name()),
+        Err(fault) => println!("{}: {fault}", options.other.name()),
     }
 
     None

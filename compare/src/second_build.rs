@@ -3,6 +3,7 @@
 
 use crate::answer::{Answer, NO_ENTRY};
 use crate::build_input::{BuildInput, BuildOutcome};
+use crate::job::Job;
 use crate::second_list::{reference_size_ok, text_ok, walk, Bytes, Walk};
 
 struct Refused {
@@ -38,8 +39,8 @@ struct Lists {
     patches: Vec<usize>,
 }
 
-pub fn build(input: &BuildInput) -> BuildOutcome {
-    match check_and_patch(input) {
+pub fn build(job: Job, input: &BuildInput) -> BuildOutcome {
+    match check_and_patch(job, input) {
         Ok(outcome) => outcome,
         Err(refused) => BuildOutcome {
             answer: Answer {
@@ -55,7 +56,7 @@ pub fn build(input: &BuildInput) -> BuildOutcome {
     }
 }
 
-fn check_and_patch(input: &BuildInput) -> Result<BuildOutcome, Refused> {
+fn check_and_patch(job: Job, input: &BuildInput) -> Result<BuildOutcome, Refused> {
     let lists = read(input)?;
 
     // Refusal 2.
@@ -81,7 +82,7 @@ fn check_and_patch(input: &BuildInput) -> Result<BuildOutcome, Refused> {
     let mut regions = input.regions.to_vec();
 
     for place in &lists.patches {
-        patch(input, &lists, *place, &mut regions)?;
+        patch(job, input, &lists, *place, &mut regions)?;
     }
 
     Ok(BuildOutcome {
@@ -186,6 +187,7 @@ fn destination(
 }
 
 fn patch(
+    job: Job,
     input: &BuildInput,
     lists: &Lists,
     place: usize,
@@ -215,7 +217,7 @@ fn patch(
     let (value, bits) = match list[place + 18] {
         0 => {
             let distance = (target / 4) as i64 - (next / 4) as i64;
-            if distance < -0x10000 || distance > 0xffff {
+            if !job.reaches(distance) {
                 return Err(out());
             }
             (distance.rem_euclid(0x10000) as u64, 16)

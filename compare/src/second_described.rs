@@ -1,16 +1,34 @@
 //! Lines by descriptor in the second implementation: what each encoding reads and writes, as the
 //! Rust has it.
 
-use crate::second_reader::Reader;
+use crate::job::{Job, Seen};
+use crate::second_reader::{Reader, Stop};
 use crate::second_words::{
     func, held, one, reach, then, with_immediate, Base, Begun, Words, BRANCH, JUMP, RD, RS, RT, SA,
 };
 
-/// The words of a line that a descriptor's fields (its body's first eight bytes) describe.
-pub fn described(fields: &[u8], reader: &mut Reader) -> Words {
-    let base = Base(fields[0], fields[1]);
+/// The words of a line that a descriptor's fields (its body's first eight bytes) describe. The
+/// job's own refusals come "after the line's last operand is read, before 9".
+pub fn described(job: Job, fields: &[u8], reader: &mut Reader) -> Words {
+    let mut seen = Seen::default();
+    let words = encoded(job, fields, reader, &mut seen);
+
+    match (&words, job.refusal(Base(fields[0], fields[1]), &seen)) {
+        (Err(stop), _) if stop.number < 9 => words,
+        (_, None) => words,
+        (_, Some(number)) => Err(Stop {
+            number,
+            location: None,
+            a: 0,
+            b: 0,
+        }),
+    }
+}
+
+fn encoded(job: Job, fields: &[u8], reader: &mut Reader, seen: &mut Seen) -> Words {
+    let base = job.base(Base(fields[0], fields[1]), fields[2]);
     let begun = Begun::of(base);
-    let size = 16 + fields[3] as u64;
+    let size = job.size_code(fields[3]);
     let flag = fields[4] as u64;
 
     match fields[2] {
@@ -34,6 +52,7 @@ pub fn described(fields: &[u8], reader: &mut Reader) -> Words {
             match reader.optional_value() {
                 None => one(begun.field(RS, first).field(RT, second)),
                 Some(value) => {
+                    seen.third_input = true;
                     let (rt, words) = held(value);
                     let mflo = Begun::of(func(18)).field(RD, first);
                     then(
@@ -45,8 +64,9 @@ pub fn described(fields: &[u8], reader: &mut Reader) -> Words {
         }
         5 => {
             let (rd, rt) = (reader.register()?, reader.register()?);
-            let amount = reader.constant()? % 256;
-            one(begun.field(RD, rd).field(RT, rt).field(SA, amount))
+            let amount = reader.constant()?;
+            seen.amount = Some(amount);
+            one(begun.field(RD, rd).field(RT, rt).field(SA, amount % 256))
         }
         6 | 11 => branch_on_one(begun, reader),
         7 => {
@@ -97,7 +117,7 @@ pub fn described(fields: &[u8], reader: &mut Reader) -> Words {
         }
         17 => {
             let (fd, fs) = (reader.fp_register()?, reader.fp_register()?);
-            let code = reader.code()? * 4 % 256 + flag;
+            let code = code(reader, seen)? + flag;
             one(begun
                 .field(SA, fd)
                 .field(RD, fs)
@@ -105,7 +125,7 @@ pub fn described(fields: &[u8], reader: &mut Reader) -> Words {
                 .field(RS, size))
         }
         18 => {
-            let code = reader.code()? * 4 % 256;
+            let code = code(reader, seen)?;
             let (fs, ft) = (reader.fp_register()?, reader.fp_register()?);
             one(begun
                 .field(SA, code)
@@ -121,10 +141,18 @@ pub fn described(fields: &[u8], reader: &mut Reader) -> Words {
             one(begun.field(RT, t).field(RD, s))
         }
         _ => {
-            let code = reader.code()? * 4 % 256 + flag;
+            let code = code(reader, seen)? + flag;
             Ok(vec![begun.field(RT, code).patched(BRANCH, reader.label()?)])
         }
     }
+}
+
+/// A condition code as it is written: its low eight bits, times four in eight bits.
+fn code(reader: &mut Reader, seen: &mut Seen) -> Result<u64, Stop> {
+    let code = reader.code()?;
+    seen.code = Some(code);
+
+    Ok(code % 256 * 4 % 256)
 }
 
 pub fn branch_on_one(begun: Begun, reader: &mut Reader) -> Words {

@@ -2,6 +2,7 @@
 //! --self run. It walks the buffers in order and stops at the first fault.
 
 use crate::answer::Answer;
+use crate::job::Job;
 use crate::line_input::{LineInput, LineOutcome};
 use crate::second_described::described;
 use crate::second_list::{reference_size_ok, text_ok, walk, Bytes, Walk};
@@ -9,7 +10,7 @@ use crate::second_pseudo::pseudo;
 use crate::second_reader::{Label, Reader, Stop};
 use crate::second_words::{form, Word};
 
-pub fn do_instruction(input: &LineInput) -> LineOutcome {
+pub fn do_instruction(job: Job, input: &LineInput) -> LineOutcome {
     let mut outcome = LineOutcome {
         answer: Answer::accepted(0),
         counts: input.counts,
@@ -17,7 +18,7 @@ pub fn do_instruction(input: &LineInput) -> LineOutcome {
         pending: input.pending.to_vec(),
         breakpoints: input.breakpoints.to_vec(),
     };
-    outcome.answer = match line(input, &mut outcome) {
+    outcome.answer = match line(job, input, &mut outcome) {
         Ok(answer) | Err(answer) => answer,
     };
 
@@ -25,7 +26,7 @@ pub fn do_instruction(input: &LineInput) -> LineOutcome {
 }
 
 /// The accepted answer, the outcome's buffers grown; or a refusal, the buffers as they were.
-fn line(input: &LineInput, outcome: &mut LineOutcome) -> Result<Answer, Answer> {
+fn line(job: Job, input: &LineInput, outcome: &mut LineOutcome) -> Result<Answer, Answer> {
     let given = input.position;
     let early = |number, a, b: usize| Answer {
         number,
@@ -57,8 +58,8 @@ fn line(input: &LineInput, outcome: &mut LineOutcome) -> Result<Answer, Answer> 
     let mut reader = Reader::new(&input.tokens, &tokens, given as usize);
 
     let words = match descriptors.iter().find(|place| name(**place) == lowered) {
-        Some(place) => described(&input.descriptors[place + 4..place + 12], &mut reader),
-        None => match pseudo(&lowered, &mut reader) {
+        Some(place) => described(job, &input.descriptors[place + 4..place + 12], &mut reader),
+        None => match pseudo(job, &lowered, &mut reader) {
             Some(words) => words,
             None => {
                 return Err(Answer {

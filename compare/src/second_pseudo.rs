@@ -1,5 +1,6 @@
 //! Pseudo-instructions in the second implementation, as the Rust writes them out.
 
+use crate::job::Job;
 use crate::second_described::branch_on_one;
 use crate::second_reader::Reader;
 use crate::second_words::{
@@ -8,10 +9,10 @@ use crate::second_words::{
 };
 
 /// The words of a pseudo-instruction, or none where the name is not one.
-pub fn pseudo(name: &[u8], reader: &mut Reader) -> Option<Words> {
+pub fn pseudo(job: Job, name: &[u8], reader: &mut Reader) -> Option<Words> {
     Some(match name {
         b"nop" => one(Begun::of(func(0))),
-        b"abs" => abs(reader),
+        b"abs" => abs(job, reader),
         b"neg" => two_registers(reader, |rd, s| {
             Begun::of(func(34)).field(RD, rd).field(RT, s)
         }),
@@ -60,12 +61,11 @@ fn two_registers(reader: &mut Reader, word: impl Fn(u64, u64) -> Begun) -> Words
     one(word(rd, source))
 }
 
-/// The first word's immediate of 31 takes the place of rd, shift amount and function.
-fn abs(reader: &mut Reader) -> Words {
+fn abs(job: Job, reader: &mut Reader) -> Words {
     let (rd, source) = (reader.register()?, reader.register()?);
 
     Ok(vec![
-        Begun::of(func(3)).field(RT, source).immediate(31).done(),
+        job.first_of_abs(source),
         Begun::of(func(38))
             .field(RD, rd)
             .field(RT, AT)

@@ -145,7 +145,7 @@ impl Reader {
 
     /// A condition code takes no sign.
     pub fn code(&mut self) -> Result<u64, Stop> {
-        self.take_kind(INTEGER, 6).map(|number| number % 256)
+        self.take_kind(INTEGER, 6)
     }
 
     /// The integer that begins at token `number`, and the position behind it. "A sign must be

@@ -1,2 +1,4 @@
 pub mod Marked
+pub mod Unlisted
+pub mod AsCommit
 pub mod Demands

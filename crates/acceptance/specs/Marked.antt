@@ -5,6 +5,8 @@ use mathlib.Core.Path.{_≡_, refl}
 use Prim.Native.Nat.{ℕ}
 use lib.IntN.{ℤ, pos}
 use mathlib.Core.List.{List, [], _∷_, _++_}
+use Rattle.jobs.specs.declared.Job.{Job}
+use Rattle.jobs.specs.declared.Job.the-variants.{Commit, Manual}
 use Rattle.field.specs.Field.{setField}
 use Rattle.record.specs.Bytes.{all, sameBytes}
 use Rattle.record.specs.Records.{placesF, placesFrom, places, firstBad, firstBadOf, withinLimit}
@@ -24,7 +26,7 @@ use Rattle.build_outcome.specs.Build.{keep, orderFrom, layoutVerdicts, buildVer
 use Rattle.build_outcome.specs.Returned.{returned as buildReturned}
 use Rattle.build_outcome.specs.declared.Built.the-variants.{Entry}
 use Rattle.cursor.specs.Cursors.{passed, peek, step, nextAdjacent, peekAdjacent}
-use Rattle.operands.specs.Operands.{getRegister, signed, getInteger, getConstant, getValue}
+use Rattle.operands.specs.Operands.{getRegister, getFPRegister, getCc, signed, getInteger, getConstant, getValue}
 use Rattle.assembler_util.specs.LabelOperands.{symbolLabel, toLabel, getLabel, braced, afterLabel, getOffsetOrLabel}
 use Rattle.operand_list.specs.OperandLists.{readOperand, readOperands}
 use Rattle.descriptors.specs.Mnemonics.{mnemonicOk, oneMnemonic, mnemonicLayout, mnemonicName}
@@ -42,18 +44,18 @@ use Rattle.emit_outcome.specs.Dispatch.{meaning, tableLine}
 use Rattle.emit_outcome.specs.Checks.{layoutStop, listStop}
 use Rattle.emit_outcome.specs.Room.{edgeStop, roomStop}
 use Rattle.emit_outcome.specs.Emit.{lineOutcome, emitOutcome}
-use Rattle.example_lists.specs.Lists.{register, integer, minus, comma, leftBrace, rightBrace, «addu», «li», «lw», «abs», «sll», descriptor, line, asBytes, pcsFrom, emits, region, patch}
+use Rattle.example_lists.specs.Lists.{register, fpRegister, symbol, integer, minus, comma, leftBrace, rightBrace, «addu», «li», «lw», «abs», «sll», cvtSW, «bc1t», floatDescriptor, descriptor, lineIn, line, asBytes, pcsFrom, emits, region, patch}
 
 -- ---- a refused call, by document 01's numbers; every lent byte and count is as at entry
 
-pub record LineRefuses (call : Call) (number : ℕ) (a : ℤ) (b position : ℕ) : Type 0 where
-  pub returned-is : lineReturned (emitOutcome call .answer) ≡ record { number = number; location = zeroLocation; a = a; b = b; position = position }
-  pub counts-stay : emitOutcome call .counts ≡ call .numbers .counts
-  pub lent-stays : emitOutcome call .lent ≡ call .lent
+pub record LineRefuses (job : Job) (call : Call) (number : ℕ) (a : ℤ) (b position : ℕ) : Type 0 where
+  pub returned-is : lineReturned (emitOutcome job call .answer) ≡ record { number = number; location = zeroLocation; a = a; b = b; position = position }
+  pub counts-stay : emitOutcome job call .counts ≡ call .numbers .counts
+  pub lent-stays : emitOutcome job call .lent ≡ call .lent
 
-pub record BuildRefuses (regions pending : List ℕ) (number : ℕ) (a : ℤ) (b : ℕ) : Type 0 where
-  pub returned-is : buildReturned (buildOutcome [] [] regions pending .answer) ≡ record { number = number; location = zeroLocation; a = a; b = b; entry = 0 }
-  pub regions-stay : buildOutcome [] [] regions pending .regions ≡ regions
+pub record BuildRefuses (job : Job) (regions pending : List ℕ) (number : ℕ) (a : ℤ) (b : ℕ) : Type 0 where
+  pub returned-is : buildReturned (buildOutcome job [] [] regions pending .answer) ≡ record { number = number; location = zeroLocation; a = a; b = b; entry = 0 }
+  pub regions-stay : buildOutcome job [] [] regions pending .regions ≡ regions
 
 -- an accepted build without an entry record
 abbrev pub builds : (regions : List ℕ) → BuildOutcome
@@ -65,42 +67,69 @@ builds regions = record { answer = Entry 0x00400000; regions = regions }
 abbrev pub lwTable : List ℕ
 lwTable = descriptor 0 35 13 «lw»
 
+-- the marks of jobs by the manual (document 02, P5)
+pub record ManualRows : Type 0 where
+  -- abs $t0,$t1: "for `abs $t0,$t1` 00090fc3"
+  pub abs : emitOutcome Manual (line «abs» [] (register 8 ++ comma ++ register 9)) ≡ emits 3 Unloaded (0x00090fc3 ∷ 0x01214026 ∷ 0x01014023 ∷ [])
+  -- cvt.s.w $f0,$f2 (Cop1 32, size Word): 20 in fmt, as GNU as has it
+  pub word-size : emitOutcome Manual (line cvtSW (floatDescriptor 4 32 16 2 0 cvtSW) (fpRegister 0 ++ comma ++ fpRegister 2)) ≡ emits 3 Unloaded (0x46801020 ∷ [])
+  -- sll $t0,$t1,31 (Func 0)
+  pub sll-most : emitOutcome Manual (line «sll» (descriptor 1 0 5 «sll») (register 8 ++ comma ++ register 9 ++ comma ++ integer 31)) ≡ emits 5 Unloaded (0x000947c0 ∷ [])
+  -- sll $t0,$t1,32 and sll $t0,$t1,256: refusal 19, the first without a region too
+  pub sll-over : LineRefuses Manual (line «sll» (descriptor 1 0 5 «sll») (register 8 ++ comma ++ register 9 ++ comma ++ integer 32)) 19 (pos 0) 0 5
+  pub sll-far-over : LineRefuses Manual (line «sll» (descriptor 1 0 5 «sll») (register 8 ++ comma ++ register 9 ++ comma ++ integer 256)) 19 (pos 0) 0 5
+  pub sll-nowhere : LineRefuses Manual (lineIn 65535 «sll» (descriptor 1 0 5 «sll») (register 8 ++ comma ++ register 9 ++ comma ++ integer 32)) 19 (pos 0) 0 5
+  -- bc1t 8,x (Cop1I 8): refusal 20
+  pub code-over : LineRefuses Manual (line «bc1t» (floatDescriptor 5 8 20 0 1 «bc1t») (integer 8 ++ comma ++ symbol (120 ∷ []))) 20 (pos 0) 0 3
+  -- bc1t 8: the label is missed first, refusal 4
+  pub code-alone : LineRefuses Manual (line «bc1t» (floatDescriptor 5 8 20 0 1 «bc1t») (integer 8)) 4 (pos 0) 0 1
+  -- b, pc 00400000 to 00420000
+  pub b-forward : buildOutcome Manual [] [] (region 0x00400000 0x10000000) (patch 0 0x00420000) ≡ builds (region 0x00400000 0x10007fff)
+  -- b, pc 00400000 to 00420004: refusal 16
+  pub b-too-far : BuildRefuses Manual (region 0x00400000 0x10000000) (patch 0 0x00420004) 16 (pos 0x00420004) 0x00400000
+  -- b, pc 00400000 to 003e0004
+  pub b-back : buildOutcome Manual [] [] (region 0x00400000 0x10000000) (patch 0 0x003e0004) ≡ builds (region 0x00400000 0x10008000)
+  -- b, pc 00400000 to 003e0000: refusal 16
+  pub b-too-far-back : BuildRefuses Manual (region 0x00400000 0x10000000) (patch 0 0x003e0000) 16 (pos 0x003e0000) 0x00400000
+
 pub record MarkedTable : Type 0 where
   -- addu $t0,$t1,$t2 (Func 33)
-  pub addu : emitOutcome (line «addu» (descriptor 1 33 0 «addu») (register 8 ++ comma ++ register 9 ++ comma ++ register 10)) ≡ emits 5 Unloaded (0x012a4021 ∷ [])
+  pub addu : emitOutcome Commit (line «addu» (descriptor 1 33 0 «addu») (register 8 ++ comma ++ register 9 ++ comma ++ register 10)) ≡ emits 5 Unloaded (0x012a4021 ∷ [])
   -- li $t0,-32768
-  pub li-least : emitOutcome (line «li» [] (register 8 ++ comma ++ minus ++ integer 32768)) ≡ emits 4 Addiu (0x24088000 ∷ [])
+  pub li-least : emitOutcome Commit (line «li» [] (register 8 ++ comma ++ minus ++ integer 32768)) ≡ emits 4 Addiu (0x24088000 ∷ [])
   -- li $t0,32768
-  pub li-past : emitOutcome (line «li» [] (register 8 ++ comma ++ integer 32768)) ≡ emits 3 Ori (0x34088000 ∷ [])
+  pub li-past : emitOutcome Commit (line «li» [] (register 8 ++ comma ++ integer 32768)) ≡ emits 3 Ori (0x34088000 ∷ [])
   -- li $t0,0x12340000
-  pub li-upper : emitOutcome (line «li» [] (register 8 ++ comma ++ integer 0x12340000)) ≡ emits 3 Lui (0x3c081234 ∷ [])
+  pub li-upper : emitOutcome Commit (line «li» [] (register 8 ++ comma ++ integer 0x12340000)) ≡ emits 3 Lui (0x3c081234 ∷ [])
   -- li $t0,0x12345678
-  pub li-both : emitOutcome (line «li» [] (register 8 ++ comma ++ integer 0x12345678)) ≡ emits 3 BothHalves (0x3c081234 ∷ 0x35085678 ∷ [])
+  pub li-both : emitOutcome Commit (line «li» [] (register 8 ++ comma ++ integer 0x12345678)) ≡ emits 3 BothHalves (0x3c081234 ∷ 0x35085678 ∷ [])
   -- lw $t0,32768($t1) (Op 35)
-  pub lw-far : emitOutcome (line «lw» lwTable (register 8 ++ comma ++ integer 32768 ++ leftBrace ++ register 9 ++ rightBrace)) ≡ emits 6 Ori (0x34018000 ∷ 0x00290820 ∷ 0x8c280000 ∷ [])
+  pub lw-far : emitOutcome Commit (line «lw» lwTable (register 8 ++ comma ++ integer 32768 ++ leftBrace ++ register 9 ++ rightBrace)) ≡ emits 6 Ori (0x34018000 ∷ 0x00290820 ∷ 0x8c280000 ∷ [])
   -- lw $t0,$t2($t1)
-  pub lw-dropped : emitOutcome (line «lw» lwTable (register 8 ++ comma ++ register 10 ++ leftBrace ++ register 9 ++ rightBrace)) ≡ emits 6 Unloaded (0x8d280000 ∷ [])
+  pub lw-dropped : emitOutcome Commit (line «lw» lwTable (register 8 ++ comma ++ register 10 ++ leftBrace ++ register 9 ++ rightBrace)) ≡ emits 6 Unloaded (0x8d280000 ∷ [])
   -- lw $t0,($t1): refusal 7, a = 14
-  pub lw-brace : LineRefuses (line «lw» lwTable (register 8 ++ comma ++ leftBrace ++ register 9 ++ rightBrace)) 7 (pos 14) 0 3
+  pub lw-brace : LineRefuses Commit (line «lw» lwTable (register 8 ++ comma ++ leftBrace ++ register 9 ++ rightBrace)) 7 (pos 14) 0 3
   -- abs $t0,$t1
-  pub abs : emitOutcome (line «abs» [] (register 8 ++ comma ++ register 9)) ≡ emits 3 Unloaded (0x0009001f ∷ 0x01214026 ∷ 0x01014023 ∷ [])
+  pub abs : emitOutcome Commit (line «abs» [] (register 8 ++ comma ++ register 9)) ≡ emits 3 Unloaded (0x0009001f ∷ 0x01214026 ∷ 0x01014023 ∷ [])
   -- sll $t0,$t1,33 (Func 0)
-  pub sll : emitOutcome (line «sll» (descriptor 1 0 5 «sll») (register 8 ++ comma ++ register 9 ++ comma ++ integer 33)) ≡ emits 5 Unloaded (0x00094840 ∷ [])
+  pub sll : emitOutcome Commit (line «sll» (descriptor 1 0 5 «sll») (register 8 ++ comma ++ register 9 ++ comma ++ integer 33)) ≡ emits 5 Unloaded (0x00094840 ∷ [])
   -- b, pc 00400000 to 00440000
-  pub b-forward : buildOutcome [] [] (region 0x00400000 0x10000000) (patch 0 0x00440000) ≡ builds (region 0x00400000 0x1000ffff)
+  pub b-forward : buildOutcome Commit [] [] (region 0x00400000 0x10000000) (patch 0 0x00440000) ≡ builds (region 0x00400000 0x1000ffff)
   -- b, pc 00400000 to 00440004: refusal 16
-  pub b-too-far : BuildRefuses (region 0x00400000 0x10000000) (patch 0 0x00440004) 16 (pos 0x00440004) 0x00400000
+  pub b-too-far : BuildRefuses Commit (region 0x00400000 0x10000000) (patch 0 0x00440004) 16 (pos 0x00440004) 0x00400000
   -- b, pc 00400000 to 003c0004
-  pub b-back : buildOutcome [] [] (region 0x00400000 0x10000000) (patch 0 0x003c0004) ≡ builds (region 0x00400000 0x10000000)
+  pub b-back : buildOutcome Commit [] [] (region 0x00400000 0x10000000) (patch 0 0x003c0004) ≡ builds (region 0x00400000 0x10000000)
   -- b, pc 00400000 to 003c0000: refusal 16
-  pub b-too-far-back : BuildRefuses (region 0x00400000 0x10000000) (patch 0 0x003c0000) 16 (pos 0x003c0000) 0x00400000
+  pub b-too-far-back : BuildRefuses Commit (region 0x00400000 0x10000000) (patch 0 0x003c0000) 16 (pos 0x003c0000) 0x00400000
   -- j (Op 2), pc 0ffffffc to 10000000
-  pub j-next-page : buildOutcome [] [] (region 0x0ffffffc 0x08000000) (patch 1 0x10000000) ≡ builds (region 0x0ffffffc 0x08000000)
+  pub j-next-page : buildOutcome Commit [] [] (region 0x0ffffffc 0x08000000) (patch 1 0x10000000) ≡ builds (region 0x0ffffffc 0x08000000)
   -- j (Op 2), pc 0ffffffc to 0ffffff8: refusal 16
-  pub j-other-page : BuildRefuses (region 0x0ffffffc 0x08000000) (patch 1 0x0ffffff8) 16 (pos 0x0ffffff8) 0x0ffffffc
+  pub j-other-page : BuildRefuses Commit (region 0x0ffffffc 0x08000000) (patch 1 0x0ffffff8) 16 (pos 0x0ffffff8) 0x0ffffffc
+  -- and those of jobs by the manual
+  pub manual : ManualRows
 
 pub marked : MarkedTable
-unfolding emitOutcome lineOutcome tableLine listStop layoutStop roomStop edgeStop meaning wordBytes pendingsBytes pcsBytes append pseudoIn pseudoLine encodingLine loadPairs labelPairs isImmediate immediatePairs breakpointOk filledLayout pendingBufferLayout breakpointBufferLayout dataBufferLayout fieldsOk descriptorOk descriptorLayout mnemonicOk oneMnemonic mnemonicLayout mnemonicName readOperand readOperands symbolLabel toLabel getLabel braced afterLabel getOffsetOrLabel getRegister signed getInteger getConstant getValue passed peek step nextAdjacent peekAdjacent pendingOk addressLabelOk payloadOf payloadOk tokenOk tokenLayout tokens isSmall formOf loadWords firstNamed firstLater firstRepeat firstStop placesF placesFrom places firstBad firstBadOf withinLimit all sameBytes asBytes pcsFrom buildOutcome buildVerdict layoutVerdicts writePatches writePending pendingVerdict reachVerdict orderFrom keep inRange jumpInRange branchInRange fieldValue fieldWidth destination kindFrom pendingLayout entryLayout entryOk regionLayout regionRecords regionOk resolve labelLayout labelOk setField
+unfolding emitOutcome lineOutcome tableLine listStop layoutStop roomStop edgeStop meaning wordBytes pendingsBytes pcsBytes append pseudoIn pseudoLine encodingLine loadPairs labelPairs isImmediate immediatePairs breakpointOk filledLayout pendingBufferLayout breakpointBufferLayout dataBufferLayout fieldsOk descriptorOk descriptorLayout mnemonicOk oneMnemonic mnemonicLayout mnemonicName readOperand readOperands symbolLabel toLabel getLabel braced afterLabel getOffsetOrLabel getRegister getFPRegister getCc signed getInteger getConstant getValue passed peek step nextAdjacent peekAdjacent pendingOk addressLabelOk payloadOf payloadOk tokenOk tokenLayout tokens isSmall formOf loadWords firstNamed firstLater firstRepeat firstStop placesF placesFrom places firstBad firstBadOf withinLimit all sameBytes asBytes pcsFrom buildOutcome buildVerdict layoutVerdicts writePatches writePending pendingVerdict reachVerdict orderFrom keep inRange jumpInRange branchInRange fieldValue fieldWidth destination kindFrom pendingLayout entryLayout entryOk regionLayout regionRecords regionOk resolve labelLayout labelOk setField
 marked = record {
   addu = refl;
   li-least = refl;
@@ -118,4 +147,18 @@ marked = record {
   b-too-far-back = record { returned-is = refl; regions-stay = refl };
   j-next-page = refl;
   j-other-page = record { returned-is = refl; regions-stay = refl };
+  manual = record {
+    abs = refl;
+    word-size = refl;
+    sll-most = refl;
+    sll-over = record { returned-is = refl; counts-stay = refl; lent-stays = refl };
+    sll-far-over = record { returned-is = refl; counts-stay = refl; lent-stays = refl };
+    sll-nowhere = record { returned-is = refl; counts-stay = refl; lent-stays = refl };
+    code-over = record { returned-is = refl; counts-stay = refl; lent-stays = refl };
+    code-alone = record { returned-is = refl; counts-stay = refl; lent-stays = refl };
+    b-forward = refl;
+    b-too-far = record { returned-is = refl; regions-stay = refl };
+    b-back = refl;
+    b-too-far-back = record { returned-is = refl; regions-stay = refl };
+  };
 }

@@ -4,6 +4,7 @@ use native.Mathlib.Omega.{arith}
 use mathlib.Core.List.{List, [], _∷_}
 use mathlib.Core.Path.{_≡_, refl, sym, ap, _∙_}
 use lib.ListN.{length}
+use Rattle.jobs.specs.declared.Job.{Job}
 use Rattle.record.specs.Records.{next, places, firstBad}
 use Rattle.record.specs.RecordsLaws.{first-good}
 use Rattle.record.specs.declared.Layout.the-variants.{Good}
@@ -29,7 +30,7 @@ use Rattle.build_outcome.specs.Returned.{returned}
 use Rattle.build_outcome.specs.BuildLaws.{outcome-accepted, outcome-refused}
 use Rattle.reading.specs.Reading.{imageOf, readings}
 use Rattle.reading.specs.Demand.{reads-back}
-use Rattle.binary_builder.specs.Contract.{BuildIs}
+use Rattle.binary_builder.specs.Contract.{BuildBy}
 use Rattle.binary_builder.specs.Steps.{reachedEntry, entryAnswer}
 use Rattle.binary_builder.specs.OrderLaws.{label-end}
 
@@ -63,31 +64,31 @@ module _ (labels entry : List ℕ) where
   entry-stops (Stated l) r h = reached-unknown l (destination labels entry l) r h
 
 -- ---- the build
-module _ (labels entry regions pending : List ℕ) where
+module _ (job : Job) (labels entry regions pending : List ℕ) where
   pub verdict-is : (a b c d : Verdict) → layoutVerdicts labels entry regions pending ≡ a → nameVerdict 0 (labelRepeat labels) ≡ b
       → entryVerdict labels entry (entryOf entry (places entry)) ≡ c
-      → firstStop (patchVerdict labels regions pending) (patchOrder regions pending) ≡ d
-      → buildVerdict labels entry regions pending ≡ andThen a (andThen b (andThen c d))
+      → firstStop (patchVerdict job labels regions pending) (patchOrder regions pending) ≡ d
+      → buildVerdict job labels entry regions pending ≡ andThen a (andThen b (andThen c d))
   unfolding buildVerdict
   verdict-is a b c d ha hb hc hd = rw (ha, hb, hc, hd)
 
-  build-is : (answer : Built) (exit : List ℕ) → answer ≡ buildOutcome labels entry regions pending .answer → exit ≡ buildOutcome labels entry regions pending .regions
-      → BuildIs labels entry regions pending answer exit
+  build-is : (answer : Built) (exit : List ℕ) → answer ≡ buildOutcome job labels entry regions pending .answer → exit ≡ buildOutcome job labels entry regions pending .regions
+      → BuildBy job labels entry regions pending answer exit
   build-is answer exit a b =
       record {
         answer-is = a;
         returned-is = ap returned a;
         bytes-are = b;
-        reads-back = λ pr. ap (λ (r : List ℕ). readings (imageOf r) pending) b ∙ reads-back labels entry regions pending pr;
+        reads-back = λ pr. ap (λ (r : List ℕ). readings (imageOf r) pending) b ∙ reads-back job labels entry regions pending pr;
       }
 
-  pub refused-is : (r : Refusal) → buildVerdict labels entry regions pending ≡ Stop r → BuildIs labels entry regions pending (Refused r) regions
+  pub refused-is : (r : Refusal) → buildVerdict job labels entry regions pending ≡ Stop r → BuildBy job labels entry regions pending (Refused r) regions
   refused-is r e =
-      let o = outcome-refused labels entry regions pending r e in
+      let o = outcome-refused job labels entry regions pending r e in
       build-is (Refused r) regions (sym (o .0)) (sym (o .1))
 
-  pub accepted-is : (a : ℕ) (exit : List ℕ) → buildVerdict labels entry regions pending ≡ Pass → entryAddress labels entry (entryOf entry (places entry)) ≡ a
-      → exit ≡ patchedRegions labels regions pending → BuildIs labels entry regions pending (BuiltEntry a) exit
+  pub accepted-is : (a : ℕ) (exit : List ℕ) → buildVerdict job labels entry regions pending ≡ Pass → entryAddress labels entry (entryOf entry (places entry)) ≡ a
+      → exit ≡ patchedRegions labels regions pending → BuildBy job labels entry regions pending (BuiltEntry a) exit
   accepted-is a exit e h k =
-      let o = outcome-accepted labels entry regions pending e in
+      let o = outcome-accepted job labels entry regions pending e in
       build-is (BuiltEntry a) exit (cc) (k ∙ sym (o .1))

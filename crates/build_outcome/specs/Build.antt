@@ -3,6 +3,7 @@ use Prim.Native.Nat.{ℕ, zero, suc, _+_}
 use mathlib.Core.List.{List, [], _∷_, _++_}
 use mathlib.Core.Bool.{true, false}
 use lib.Dec.{eqb}
+use Rattle.jobs.specs.declared.Job.{Job}
 use Rattle.record.specs.Records.{places}
 use Rattle.refusal.specs.Verdicts.{andThen, firstStop, layoutVerdict, nameVerdict}
 use Rattle.refusal.specs.declared.Refusal.the-variants.{UnknownEntry}
@@ -39,12 +40,12 @@ patchOrder regions pending = orderFrom (regionCount regions) pending 0
 
 -- ---- the checks of the patch at a place: 14, 15, 16
 
-abbrev pub patchVerdict : (labels regions pending : List ℕ) → ℕ → Verdict
-patchVerdict labels regions pending at = pendingVerdict labels pending (regionFor regions (pendingAt pending at)) (pendingAt pending at)
+abbrev pub patchVerdict : Job → (labels regions pending : List ℕ) → ℕ → Verdict
+patchVerdict job labels regions pending at = pendingVerdict job labels pending (regionFor regions (pendingAt pending at)) (pendingAt pending at)
 
 -- "14 to 16 patch by patch", in patch order
-abbrev pub patchesVerdict : (labels regions pending : List ℕ) → Verdict
-patchesVerdict labels regions pending = firstStop (patchVerdict labels regions pending) (patchOrder regions pending)
+abbrev pub patchesVerdict : Job → (labels regions pending : List ℕ) → Verdict
+patchesVerdict job labels regions pending = firstStop (patchVerdict job labels regions pending) (patchOrder regions pending)
 
 -- ---- the entry: 13
 
@@ -70,13 +71,13 @@ layoutVerdicts labels entry regions pending =
     (andThen (layoutVerdict 1 (entryLayout entry))
     (andThen (layoutVerdict 2 (regionLayout regions)) (layoutVerdict 3 (pendingLayout (regionCount regions) pending))))
 
-unfoldable pub buildVerdict : (labels entry regions pending : List ℕ) → Verdict
+unfoldable pub buildVerdict : Job → (labels entry regions pending : List ℕ) → Verdict
 unfolding layoutVerdicts places firstStop pendingVerdict orderFrom
-buildVerdict labels entry regions pending =
+buildVerdict job labels entry regions pending =
     andThen (layoutVerdicts labels entry regions pending)
     (andThen (nameVerdict 0 (labelRepeat labels))
     (andThen (entryVerdict labels entry (entryOf entry (places entry)))
-    (patchesVerdict labels regions pending)))
+    (patchesVerdict job labels regions pending)))
 
 -- ---- the patches written
 
@@ -102,8 +103,8 @@ abbrev pub outcomeBy : Verdict → ℕ → (patched regions : List ℕ) → Buil
 outcomeBy Pass entry patched regions = record { answer = BuiltEntry entry; regions = patched }
 outcomeBy (Stop refusal) entry patched regions = record { answer = Refused refusal; regions = regions }
 
-unfoldable pub buildOutcome : (labels entry regions pending : List ℕ) → BuildOutcome
+unfoldable pub buildOutcome : Job → (labels entry regions pending : List ℕ) → BuildOutcome
 unfolding buildVerdict writePatches places orderFrom
-buildOutcome labels entry regions pending =
-    outcomeBy (buildVerdict labels entry regions pending) (entryAddress labels entry (entryOf entry (places entry)))
+buildOutcome job labels entry regions pending =
+    outcomeBy (buildVerdict job labels entry regions pending) (entryAddress labels entry (entryOf entry (places entry)))
     (patchedRegions labels regions pending) regions

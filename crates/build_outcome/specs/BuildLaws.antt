@@ -7,6 +7,7 @@ use mathlib.Core.Bool.{Bool, true, false}
 use mathlib.Core.Path.{_≡_, refl, sym, ap, _∙_}
 use lib.Dec.{eqb}
 use borrow.Author.Tests.{eq-eqb, ne-eqb, eqb-true, eqb-false}
+use Rattle.jobs.specs.declared.Job.{Job}
 use Rattle.record.specs.Records.{places}
 use Rattle.record.specs.declared.Layout.the-variants.{Good}
 use Rattle.refusal.specs.Verdicts.{firstStop, layoutVerdict, nameVerdict}
@@ -76,18 +77,18 @@ pub in-order : (regions pending : List ℕ) (p : ℕ) → regionOf pending p < r
 in-order regions pending p h m = order-mem (regionCount regions) pending 0 p (omega arith) (omega arith) m
 
 -- ---- an accepted build
-pub record Accepted (labels entry regions pending : List ℕ) : Type 0 where
+pub record Accepted (job : Job) (labels entry regions pending : List ℕ) : Type 0 where
   pub labels-good : labelLayout labels ≡ Good
   pub entry-good : entryLayout entry ≡ Good
   pub regions-good : regionLayout regions ≡ Good
   pub pending-good : pendingLayout (regionCount regions) pending ≡ Good
   pub names-good : labelRepeat labels ≡ None
   pub entry-passes : entryVerdict labels entry (entryOf entry (places entry)) ≡ Pass
-  pub patches-pass : firstStop (patchVerdict labels regions pending) (patchOrder regions pending) ≡ Pass
+  pub patches-pass : firstStop (patchVerdict job labels regions pending) (patchOrder regions pending) ≡ Pass
 
-pub accepted-is : (labels entry regions pending : List ℕ) → buildVerdict labels entry regions pending ≡ Pass → Accepted labels entry regions pending
+pub accepted-is : (job : Job) (labels entry regions pending : List ℕ) → buildVerdict job labels entry regions pending ≡ Pass → Accepted job labels entry regions pending
 unfolding buildVerdict layoutVerdicts
-accepted-is labels entry regions pending e =
+accepted-is job labels entry regions pending e =
     let b₁ = both-pass (layoutVerdicts labels entry regions pending) _ e in
     let b₂ = both-pass (nameVerdict 0 (labelRepeat labels)) _ (b₁ .1) in
     let b₃ = both-pass (entryVerdict labels entry (entryOf entry (places entry))) _ (b₂ .1) in
@@ -132,13 +133,13 @@ pub ordered-in : (regions pending : List ℕ) (p : ℕ) → List·Memᴰ p (patc
 ordered-in regions pending p m = order-in (regionCount regions) pending 0 p m
 
 -- ---- the outcome
-pub outcome-accepted : (labels entry regions pending : List ℕ) → buildVerdict labels entry regions pending ≡ Pass
-    → (buildOutcome labels entry regions pending .answer ≡ BuiltEntry (entryAddress labels entry (entryOf entry (places entry))))
-    × (buildOutcome labels entry regions pending .regions ≡ patchedRegions labels regions pending)
+pub outcome-accepted : (job : Job) (labels entry regions pending : List ℕ) → buildVerdict job labels entry regions pending ≡ Pass
+    → (buildOutcome job labels entry regions pending .answer ≡ BuiltEntry (entryAddress labels entry (entryOf entry (places entry))))
+    × (buildOutcome job labels entry regions pending .regions ≡ patchedRegions labels regions pending)
 unfolding buildOutcome
-outcome-accepted labels entry regions pending e = (rw e, rw e)
+outcome-accepted job labels entry regions pending e = (rw e, rw e)
 
-pub outcome-refused : (labels entry regions pending : List ℕ) (r : Refusal) → buildVerdict labels entry regions pending ≡ Stop r
-    → (buildOutcome labels entry regions pending .answer ≡ Refused r) × (buildOutcome labels entry regions pending .regions ≡ regions)
+pub outcome-refused : (job : Job) (labels entry regions pending : List ℕ) (r : Refusal) → buildVerdict job labels entry regions pending ≡ Stop r
+    → (buildOutcome job labels entry regions pending .answer ≡ Refused r) × (buildOutcome job labels entry regions pending .regions ≡ regions)
 unfolding buildOutcome
-outcome-refused labels entry regions pending r e = (rw e, rw e)
+outcome-refused job labels entry regions pending r e = (rw e, rw e)

@@ -116,4 +116,4 @@ line-room token-list line numbers lent made = go (made .answer)
     go : (a : LineAnswer) → answerStop token-list line numbers lent (made .pairs) a ≡ Pass → roomStop token-list line numbers lent (made .pairs) ≡ Pass
     go Made e = e
     go (Missed m) e = cc
-    go OutOfRange e = cc
+    go (OutOfRange fault) e = cc

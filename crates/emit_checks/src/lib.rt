@@ -1,16 +1,17 @@
-// The checks of an emit call, over unchanged bytes: the lists (1, 2), and a line that was made (4 to 12).
+// The checks of an emit call, over unchanged bytes: the lists (1, 2), and a line that was made (4 to 12, 19 and 20).
 ghost use mathlib.Core.Path.{_≡_};
 ghost use Prim.Native.Nat.{_≤_};
 ghost use Rattle.emit_outcome.specs.Call.{lentOf};
 ghost use Rattle.emit_outcome.specs.Checks.{layoutStop, listStop, metLocation, missRefusal};
 ghost use Rattle.emit_outcome.specs.Room.{edgeStop, roomStop};
-ghost use Rattle.emit_outcome.specs.Emit.{lineStop};
+ghost use Rattle.emit_outcome.specs.Emit.{faultRefusal, lineStop};
 ghost use Rattle.emit_checks.specs.Made.{pairsOf, lineMade, Filled, MadeGood};
 use emit_dispatch::LineAnswer;
 use emit_dispatch::LineEmit;
 use emit_outcome::FillCounts;
 use emit_outcome::LineNumbers;
 use emit_pairs::EmitInstruction;
+use emit_pairs::Fault;
 use names::Repeat;
 use operand::Miss;
 use record::Layout;
@@ -118,6 +119,17 @@ fn miss_refusal(line: Location, miss: Miss) -> Refusal
     }
 }
 
+// Refusals 9, 19 and 20.
+fn fault_refusal(line: Location, fault: Fault) -> Refusal
+    ensures { λ r. ⌜ r ≡ faultRefusal line fault ⌝ }
+{
+    match fault {
+        Fault::Immediate => Refusal::ConstantOutOfRange(line),
+        Fault::ShiftAmount => Refusal::ShiftOutOfRange(line),
+        Fault::ConditionCode => Refusal::CodeOutOfRange(line),
+    }
+}
+
 // A NewLine gives the mnemonic's location.
 fn met_location(line: Location, kind: u8, met: Location) -> Location
     ensures { λ r. ⌜ r ≡ metLocation line kind met ⌝ }
@@ -184,7 +196,7 @@ fn check_room(
     }
 }
 
-// Refusals 4 to 12 of a line whose mnemonic stands at `line`.
+// Refusals 4 to 12, 19 and 20 of a line whose mnemonic stands at `line`.
 pub fn check_line(
     tokens: &[u8],
     data: &[u8],
@@ -202,7 +214,7 @@ pub fn check_line(
     let e = made.emit;
     match answer {
         LineAnswer::Missed(miss) => Verdict::Stop(miss_refusal(line, miss)),
-        LineAnswer::OutOfRange => Verdict::Stop(Refusal::ConstantOutOfRange(line)),
+        LineAnswer::OutOfRange(fault) => Verdict::Stop(fault_refusal(line, fault)),
         LineAnswer::Made => check_room(tokens, data, pending, breakpoints, numbers, line, e),
     }
 }

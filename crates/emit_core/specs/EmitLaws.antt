@@ -4,6 +4,7 @@ use native.Mathlib.Omega.{arith}
 use mathlib.Core.Path.{_≡_, refl, sym, ap, subst, _∙_}
 use mathlib.Core.List.{List}
 use lib.ListN.{length, length-take}
+use Rattle.jobs.specs.declared.Job.{Job}
 use Rattle.record.specs.declared.Layout.the-variants.{Good}
 use Rattle.names.specs.declared.Named.{Named}
 use Rattle.names.specs.declared.Named.the-variants.{At, Missing}
@@ -36,7 +37,7 @@ use Rattle.emit_outcome.specs.declared.EmitAnswer.{EmitAnswer}
 use Rattle.emit_outcome.specs.declared.FillCounts.{FillCounts}
 use Rattle.emit_outcome.specs.Call.{Lent, Call, EmitOutcome, outcomeOf}
 use Rattle.emit_outcome.specs.Returned.{returned}
-use Rattle.emit_outcome.specs.Contract.{EmittedIs}
+use Rattle.emit_outcome.specs.Contract.{EmittedBy}
 use Rattle.emit_outcome.specs.Checks.{listStop}
 use Rattle.emit_outcome.specs.Emit.{startOf, callLine, callRefused, listOutcome, meaningOutcome, emitOutcome}
 use Rattle.emit_checks.specs.Made.{lineMade, MadeGood}
@@ -66,11 +67,11 @@ module _ (descriptors name : List ℕ) where
           none Nothing h = let z : _≡_ {A = ℕ} 0 1 = cc (by-pseudo f h) in absurd (omega arith)
 
 -- the line of a descriptor that was read
-pub table-as : (descriptors : List ℕ) (p : ℕ) {x : Instruction} {s : List ℕ} (ts : List Token) (i : ℕ) {answer : LineAnswer} {emit : EmitInstruction} {cursor : Cursor}
-    → x ≡ instructionAt descriptors p → LineAs s (encodingLine (x .encoding) (x .opcode) ts i) answer emit cursor → LineAs s (tableLine descriptors p ts i) answer emit cursor
+pub table-as : (job : Job) (descriptors : List ℕ) (p : ℕ) {x : Instruction} {s : List ℕ} (ts : List Token) (i : ℕ) {answer : LineAnswer} {emit : EmitInstruction} {cursor : Cursor}
+    → x ≡ instructionAt descriptors p → LineAs s (encodingLine job (x .encoding) (x .opcode) ts i) answer emit cursor → LineAs s (tableLine job descriptors p ts i) answer emit cursor
 unfolding tableLine
-table-as descriptors p {x} {s} ts i {answer} {emit} {cursor} e a =
-    let f : encodingLine (x .encoding) (x .opcode) ts i ≡ tableLine descriptors p ts i = ap (λ (y : Instruction). encodingLine (y .encoding) (y .opcode) ts i) e in
+table-as job descriptors p {x} {s} ts i {answer} {emit} {cursor} e a =
+    let f : encodingLine job (x .encoding) (x .opcode) ts i ≡ tableLine job descriptors p ts i = ap (λ (y : Instruction). encodingLine job (y .encoding) (y .opcode) ts i) e in
     subst (λ (l : Line). LineAs s l answer emit cursor) f a
 
 -- ---- a made line
@@ -87,17 +88,17 @@ made-good {s} {line} {made} a five = record {
 
 -- ---- outcomes
 
-module _ (c : Call) where
+module _ (job : Job) (c : Call) where
   abbrev stop : Verdict
   stop = listStop (c .token-list) (c .mnemonic) (c .descriptors) (c .lent) (c .numbers .place .region) (c .numbers .counts)
 
-  pub by-lists : {r : Refusal} → stop ≡ Stop r → emitOutcome c ≡ callRefused c r
+  pub by-lists : {r : Refusal} → stop ≡ Stop r → emitOutcome job c ≡ callRefused c r
   unfolding emitOutcome
-  by-lists e = ap (listOutcome c) e
+  by-lists e = ap (listOutcome job c) e
 
-  pub by-meaning : {m : Meaning} → stop ≡ Pass → meaning (c .descriptors) (mnemonicName (c .mnemonic)) ≡ m → emitOutcome c ≡ meaningOutcome c m
+  pub by-meaning : {m : Meaning} → stop ≡ Pass → meaning (c .descriptors) (mnemonicName (c .mnemonic)) ≡ m → emitOutcome job c ≡ meaningOutcome job c m
   unfolding emitOutcome
-  by-meaning e f = ap (listOutcome c) e ∙ ap (meaningOutcome c) f
+  by-meaning e f = ap (listOutcome job c) e ∙ ap (meaningOutcome job c) f
 
   -- the line of a table's descriptor or of a pseudo-instruction, read from where the call starts
   module _ {at : Cursor} (start : at ≡ cursorAt (c .token-list) (startOf c)) {made : LineEmit} (pass : stop ≡ Pass) where
@@ -105,13 +106,13 @@ module _ (c : Call) where
     started line a = ap (λ (x : Cursor). callLine c (line (x .index))) (sym start) ∙ ap (callLine c) (line-made {made = made} a)
 
     pub by-descriptor : (p : ℕ) → meaning (c .descriptors) (mnemonicName (c .mnemonic)) ≡ Table p
-        → LineAs (c .token-list) (tableLine (c .descriptors) p (tokens (c .token-list)) (at .index)) (made .answer) (made .emit) (made .cursor) → emitOutcome c ≡ callLine c (lineMade made)
-    by-descriptor p f a = by-meaning pass f ∙ started (tableLine (c .descriptors) p (tokens (c .token-list))) a
+        → LineAs (c .token-list) (tableLine job (c .descriptors) p (tokens (c .token-list)) (at .index)) (made .answer) (made .emit) (made .cursor) → emitOutcome job c ≡ callLine c (lineMade made)
+    by-descriptor p f a = by-meaning pass f ∙ started (tableLine job (c .descriptors) p (tokens (c .token-list))) a
 
     pub by-builtin : (p : Pseudo) → meaning (c .descriptors) (mnemonicName (c .mnemonic)) ≡ Builtin p
-        → LineAs (c .token-list) (pseudoLine p (tokens (c .token-list)) (at .index)) (made .answer) (made .emit) (made .cursor) → emitOutcome c ≡ callLine c (lineMade made)
-    by-builtin p f a = by-meaning pass f ∙ started (pseudoLine p (tokens (c .token-list))) a
+        → LineAs (c .token-list) (pseudoLine job p (tokens (c .token-list)) (at .index)) (made .answer) (made .emit) (made .cursor) → emitOutcome job c ≡ callLine c (lineMade made)
+    by-builtin p f a = by-meaning pass f ∙ started (pseudoLine job p (tokens (c .token-list))) a
 
 -- an outcome that is the call's is all that a call promises
-pub emitted : {call : Call} {answer : EmitAnswer} {counts : FillCounts} {lent : Lent} → emitOutcome call ≡ outcomeOf answer counts lent → EmittedIs call answer counts lent
+pub emitted : {job : Job} {call : Call} {answer : EmitAnswer} {counts : FillCounts} {lent : Lent} → emitOutcome job call ≡ outcomeOf answer counts lent → EmittedBy job call answer counts lent
 emitted e = record { outcome-is = e; returned-is = ap (λ (o : EmitOutcome). returned (o .answer)) (sym e) }

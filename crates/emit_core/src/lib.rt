@@ -1,4 +1,4 @@
-// do_instruction, with the counts by value: emits one line, or refuses it and leaves every lent byte (emit.rs).
+// do_instruction in each sort of job, with the counts by value: emits one line, or refuses it and leaves every lent byte (emit.rs).
 ghost use mathlib.Core.Path.{_≡_};
 ghost use Prim.Native.Nat.{_+_, _≤_};
 ghost use lib.ListN.{length};
@@ -11,7 +11,7 @@ ghost use Rattle.emit_outcome.specs.Dispatch.{meaning, tableLine};
 ghost use Rattle.emit_outcome.specs.Call.{lentOf, callOf, outcomeOf};
 ghost use Rattle.emit_outcome.specs.Checks.{listStop};
 ghost use Rattle.emit_outcome.specs.Emit.{emitOutcome};
-ghost use Rattle.emit_outcome.specs.Contract.{EmittedIs};
+ghost use Rattle.emit_outcome.specs.Contract.{EmittedBy, EmittedIs};
 use cursor::Cursor;
 use emit_dispatch::LineEmit;
 use emit_outcome::Emitted;
@@ -19,6 +19,7 @@ use emit_outcome::FillCounts;
 use emit_outcome::LineNumbers;
 use emit_outcome::LinePlace;
 use emit_outcome::Meaning;
+use jobs::Job;
 use names::Named;
 use pseudo_names::MaybePseudo;
 use record::Layout;
@@ -40,20 +41,27 @@ fn find_meaning(descriptors: &[u8], name: &[u8]) -> Meaning
 }
 
 // The line of the descriptor at a place.
-fn dispatch_instruction(descriptors: &[u8], tokens: &[u8], place: usize, at: Cursor) -> LineEmit
+fn dispatch_instruction(
+    job: Job,
+    descriptors: &[u8],
+    tokens: &[u8],
+    place: usize,
+    at: Cursor,
+) -> LineEmit
     requires { ⌜ place + 12 ≤ length (now descriptors) ⌝ }
     requires { ⌜ Placed (now tokens) at ⌝ }
-    ensures { λ r. ⌜ LineAs (now (tokens .entry)) (tableLine (now (descriptors .entry)) place (tokensOf (now (tokens .entry))) (at .index))
+    ensures { λ r. ⌜ LineAs (now (tokens .entry)) (tableLine job (now (descriptors .entry)) place (tokensOf (now (tokens .entry))) (at .index))
         (r .answer) (r .emit) (r .cursor) ⌝ }
 {
     let instruction = descriptors::instruction_at(descriptors, place);
     let encoding = instruction.encoding;
     let opcode = instruction.opcode;
-    emit_dispatch::dispatch_encoding(encoding, opcode, tokens, at)
+    emit_dispatch::dispatch_encoding(job, encoding, opcode, tokens, at)
 }
 
 // Refusals 3 to 12 of lists that keep their layouts, or the line appended.
 fn emit_named(
+    job: Job,
     tokens: &[u8],
     mnemonic: &[u8],
     descriptors: &[u8],
@@ -64,7 +72,7 @@ fn emit_named(
 ) -> Emitted
     requires { ⌜ listStop (now tokens) (now mnemonic) (now descriptors) (lentOf (now «data») (now pending) (now breakpoints))
         (numbers .place .region) (numbers .counts) ≡ Pass ⌝ }
-    ensures { λ r. ⌜ emitOutcome (callOf (now (tokens .entry)) (now (mnemonic .entry)) (now (descriptors .entry))
+    ensures { λ r. ⌜ emitOutcome job (callOf (now (tokens .entry)) (now (mnemonic .entry)) (now (descriptors .entry))
         (lentOf (now («data» .entry)) (now (pending .entry)) (now (breakpoints .entry))) (numbers .counts) (numbers .place))
         ≡ outcomeOf (r .answer) (r .counts) (lentOf (now («data» .exit)) (now (pending .exit)) (now (breakpoints .exit))) ⌝ }
 {
@@ -83,18 +91,19 @@ fn emit_named(
             )
         }
         Meaning::Table(place) => {
-            let made = dispatch_instruction(descriptors, tokens, place, start);
+            let made = dispatch_instruction(job, descriptors, tokens, place, start);
             emit_made::append_or_refuse(tokens, data, pending, breakpoints, numbers, line, made)
         }
         Meaning::Builtin(pseudo) => {
-            let made = emit_dispatch::dispatch_pseudo(pseudo, tokens, start);
+            let made = emit_dispatch::dispatch_pseudo(job, pseudo, tokens, start);
             emit_made::append_or_refuse(tokens, data, pending, breakpoints, numbers, line, made)
         }
     }
 }
 
 // Emits the line of one mnemonic, or refuses it and leaves every lent byte and count as it was.
-pub fn do_instruction(
+pub fn do_job(
+    job: Job,
     counts: FillCounts,
     tokens: &[u8],
     mnemonic: &[u8],
@@ -104,7 +113,7 @@ pub fn do_instruction(
     breakpoints: &mut [u8],
     place: LinePlace,
 ) -> Emitted
-    ensures { λ r. ⌜ EmittedIs (callOf (now (tokens .entry)) (now (mnemonic .entry)) (now (descriptors .entry))
+    ensures { λ r. ⌜ EmittedBy job (callOf (now (tokens .entry)) (now (mnemonic .entry)) (now (descriptors .entry))
         (lentOf (now («data» .entry)) (now (pending .entry)) (now (breakpoints .entry))) counts place)
         (r .answer) (r .counts) (lentOf (now («data» .exit)) (now (pending .exit)) (now (breakpoints .exit))) ⌝ }
 {
@@ -120,6 +129,7 @@ pub fn do_instruction(
     ) {
         Verdict::Stop(refusal) => emit_made::refused(refusal, place.position, counts),
         Verdict::Pass => emit_named(
+            job,
             tokens,
             mnemonic,
             descriptors,
@@ -129,4 +139,32 @@ pub fn do_instruction(
             LineNumbers { counts, place },
         ),
     }
+}
+
+// The line of the commit.
+pub fn do_instruction(
+    counts: FillCounts,
+    tokens: &[u8],
+    mnemonic: &[u8],
+    descriptors: &[u8],
+    data: &mut [u8],
+    pending: &mut [u8],
+    breakpoints: &mut [u8],
+    place: LinePlace,
+) -> Emitted
+    ensures { λ r. ⌜ EmittedIs (callOf (now (tokens .entry)) (now (mnemonic .entry)) (now (descriptors .entry))
+        (lentOf (now («data» .entry)) (now (pending .entry)) (now (breakpoints .entry))) counts place)
+        (r .answer) (r .counts) (lentOf (now («data» .exit)) (now (pending .exit)) (now (breakpoints .exit))) ⌝ }
+{
+    do_job(
+        Job::Commit,
+        counts,
+        tokens,
+        mnemonic,
+        descriptors,
+        data,
+        pending,
+        breakpoints,
+        place,
+    )
 }

@@ -2,7 +2,7 @@
 -- types: words for other operands than `Wants` has are no definition. Assumes nothing.
 use Prim.Native.Nat.{ℕ}
 use mathlib.Core.List.{List, []}
-use mathlib.Core.Bool.{true, false}
+use mathlib.Core.Bool.{Bool, true, false}
 use Rattle.registers.specs.Numbers.{registerNumber, fpRegisterNumber}
 use Rattle.instructions.specs.declared.Opcode.{Opcode}
 use Rattle.instructions.specs.declared.Opcode.the-variants.{Op, Func}
@@ -10,11 +10,15 @@ use Rattle.instructions.specs.declared.Encoding.{Encoding}
 use Rattle.instructions.specs.declared.Encoding.the-variants.{Register, RegisterShift, Source, Destination, Inputs, Sham, SpecialBranch, Immediate, LoadImmediate, Jump, Branch, BranchZero, Parameterless, Offset, FPOffset, FP3Register, FP2Register, FPMove, FPCond, FPCrossMove, FPBranch}
 use Rattle.pseudo_names.specs.declared.Pseudo.{Pseudo}
 use Rattle.pseudo_names.specs.declared.Pseudo.the-variants.{Nop, Abs, BranchCustom, SetCustom, Beqz, Bnez, Seq, Sne, Neg, Negu, Not, Li, La, Move, B, Subi, Subiu}
+use Rattle.jobs.specs.declared.Job.{Job}
+use Rattle.jobs.specs.Jobs.{formatOf, shiftWithin, codeWithin}
 use Rattle.lexer.specs.declared.Token.{Token}
 use Rattle.cursor.specs.Cursors.{At}
 use Rattle.operand.specs.Answers.{Answer, Got, Missed}
 use Rattle.operand_list.specs.OperandLists.{AskedAll, readOperands}
 use Rattle.emit_pairs.specs.declared.InstructionPair.{InstructionPair}
+use Rattle.emit_pairs.specs.declared.Fault.{Fault}
+use Rattle.emit_pairs.specs.declared.Fault.the-variants.{ShiftAmount, ConditionCode}
 use Rattle.emit_pairs.specs.declared.Range.{Range}
 use Rattle.emit_pairs.specs.declared.Range.the-variants.{Within, Outside}
 use Rattle.loading.specs.declared.LoadForm.{LoadForm}
@@ -31,73 +35,77 @@ use Rattle.emit_dispatch.specs.declared.LineAnswer.the-variants.{Made, M
 
 -- ---- words: x .0, x .1 and x .2 are the operands, left to right
 
-abbrev pub encodingPairs : (e : Encoding) → Opcode → AskedAll (encodingWants e) → List InstructionPair
-encodingPairs Register op x = registerPairs op (x .0) (x .1) (x .2)
-encodingPairs RegisterShift op x = registerShiftPairs op (x .0) (x .1) (x .2)
-encodingPairs Source op x = sourcePairs op (x .0)
-encodingPairs Destination op x = destinationPairs op (x .0)
-encodingPairs Inputs op x = inputsPairs op (x .0) (x .1) (x .2)
-encodingPairs Sham op x = shamPairs op (x .0) (x .1) (x .2)
-encodingPairs SpecialBranch op x = branchZeroPairs op (x .0) (x .1)
-encodingPairs (Immediate alt) op x = immediateLinePairs op alt (x .0) (x .1) (x .2)
-encodingPairs LoadImmediate op x = loadImmediatePairs op (x .0) (x .1)
-encodingPairs Jump op x = jumpPairs op (x .0)
-encodingPairs Branch op x = branchPairs op (x .0) (x .1) (x .2)
-encodingPairs BranchZero op x = branchZeroPairs op (x .0) (x .1)
-encodingPairs Parameterless op x = parameterlessPairs op
-encodingPairs Offset op x = offsetLinePairs op (registerNumber (x .0)) (x .1)
-encodingPairs FPOffset op x = offsetLinePairs op (fpRegisterNumber (x .0)) (x .1)
-encodingPairs (FP3Register fmt) op x = fp3Pairs op fmt (x .0) (x .1) (x .2)
-encodingPairs (FP2Register fmt) op x = fp2Pairs op fmt (x .0) (x .1)
-encodingPairs (FPMove fmt flag) op x = fpMovePairs op fmt flag (x .0) (x .1) (x .2)
-encodingPairs (FPCond fmt) op x = fpCondPairs op fmt (x .0) (x .1) (x .2)
-encodingPairs (FPCrossMove true) op x = fpCrossMovePairs op (fpRegisterNumber (x .0)) (registerNumber (x .1))
-encodingPairs (FPCrossMove false) op x = fpCrossMovePairs op (registerNumber (x .0)) (fpRegisterNumber (x .1))
-encodingPairs (FPBranch flag) op x = fpBranchPairs op flag (x .0) (x .1)
+abbrev pub encodingPairs : Job → (e : Encoding) → Opcode → AskedAll (encodingWants e) → List InstructionPair
+encodingPairs job Register op x = registerPairs op (x .0) (x .1) (x .2)
+encodingPairs job RegisterShift op x = registerShiftPairs op (x .0) (x .1) (x .2)
+encodingPairs job Source op x = sourcePairs op (x .0)
+encodingPairs job Destination op x = destinationPairs op (x .0)
+encodingPairs job Inputs op x = inputsPairs op (x .0) (x .1) (x .2)
+encodingPairs job Sham op x = shamPairs op (x .0) (x .1) (x .2)
+encodingPairs job SpecialBranch op x = branchZeroPairs op (x .0) (x .1)
+encodingPairs job (Immediate alt) op x = immediateLinePairs op alt (x .0) (x .1) (x .2)
+encodingPairs job LoadImmediate op x = loadImmediatePairs op (x .0) (x .1)
+encodingPairs job Jump op x = jumpPairs op (x .0)
+encodingPairs job Branch op x = branchPairs op (x .0) (x .1) (x .2)
+encodingPairs job BranchZero op x = branchZeroPairs op (x .0) (x .1)
+encodingPairs job Parameterless op x = parameterlessPairs op
+encodingPairs job Offset op x = offsetLinePairs op (registerNumber (x .0)) (x .1)
+encodingPairs job FPOffset op x = offsetLinePairs op (fpRegisterNumber (x .0)) (x .1)
+encodingPairs job (FP3Register fmt) op x = fp3Pairs op (formatOf job fmt) (x .0) (x .1) (x .2)
+encodingPairs job (FP2Register fmt) op x = fp2Pairs op (formatOf job fmt) (x .0) (x .1)
+encodingPairs job (FPMove fmt flag) op x = fpMovePairs op (formatOf job fmt) flag (x .0) (x .1) (x .2)
+encodingPairs job (FPCond fmt) op x = fpCondPairs op (formatOf job fmt) (x .0) (x .1) (x .2)
+encodingPairs job (FPCrossMove true) op x = fpCrossMovePairs op (fpRegisterNumber (x .0)) (registerNumber (x .1))
+encodingPairs job (FPCrossMove false) op x = fpCrossMovePairs op (registerNumber (x .0)) (fpRegisterNumber (x .1))
+encodingPairs job (FPBranch flag) op x = fpBranchPairs op flag (x .0) (x .1)
 
-abbrev pub pseudoPairs : (p : Pseudo) → AskedAll (pseudoWants p) → List InstructionPair
-pseudoPairs Nop x = nopPairs
-pseudoPairs Abs x = absPairs (x .0) (x .1)
-pseudoPairs (BranchCustom greater result unsigned) x = branchCustomPairs greater result unsigned (x .0) (x .1) (x .2)
-pseudoPairs (SetCustom greater result unsigned) x = setCustomPairs greater result unsigned (x .0) (x .1) (x .2)
-pseudoPairs Beqz x = branchZeroPairs (Op 4) (x .0) (x .1)
-pseudoPairs Bnez x = branchZeroPairs (Op 5) (x .0) (x .1)
-pseudoPairs Seq x = seqPairs (x .0) (x .1) (x .2)
-pseudoPairs Sne x = snePairs (x .0) (x .1) (x .2)
-pseudoPairs Neg x = negPairs (Func 34) (x .0) (x .1)
-pseudoPairs Negu x = negPairs (Func 35) (x .0) (x .1)
-pseudoPairs Not x = movePairs (Func 39) (x .0) (x .1)
-pseudoPairs Li x = liPairs (x .0) (x .1)
-pseudoPairs La x = laPairs (x .0) (x .1)
-pseudoPairs Move x = movePairs (Func 33) (x .0) (x .1)
-pseudoPairs B x = bPairs (x .0)
-pseudoPairs Subi x = subiPairs (Op 8) (Func 32) (x .0) (x .1) (x .2)
-pseudoPairs Subiu x = subiPairs (Op 9) (Func 33) (x .0) (x .1) (x .2)
+abbrev pub pseudoPairs : Job → (p : Pseudo) → AskedAll (pseudoWants p) → List InstructionPair
+pseudoPairs job Nop x = nopPairs
+pseudoPairs job Abs x = absPairs job (x .0) (x .1)
+pseudoPairs job (BranchCustom greater result unsigned) x = branchCustomPairs greater result unsigned (x .0) (x .1) (x .2)
+pseudoPairs job (SetCustom greater result unsigned) x = setCustomPairs greater result unsigned (x .0) (x .1) (x .2)
+pseudoPairs job Beqz x = branchZeroPairs (Op 4) (x .0) (x .1)
+pseudoPairs job Bnez x = branchZeroPairs (Op 5) (x .0) (x .1)
+pseudoPairs job Seq x = seqPairs (x .0) (x .1) (x .2)
+pseudoPairs job Sne x = snePairs (x .0) (x .1) (x .2)
+pseudoPairs job Neg x = negPairs (Func 34) (x .0) (x .1)
+pseudoPairs job Negu x = negPairs (Func 35) (x .0) (x .1)
+pseudoPairs job Not x = movePairs (Func 39) (x .0) (x .1)
+pseudoPairs job Li x = liPairs (x .0) (x .1)
+pseudoPairs job La x = laPairs (x .0) (x .1)
+pseudoPairs job Move x = movePairs (Func 33) (x .0) (x .1)
+pseudoPairs job B x = bPairs (x .0)
+pseudoPairs job Subi x = subiPairs (Op 8) (Func 32) (x .0) (x .1) (x .2)
+pseudoPairs job Subiu x = subiPairs (Op 9) (Func 33) (x .0) (x .1) (x .2)
 
--- ---- the range of an immediate operand: "9. An immediate without alternative lies outside -32,768 to 32,767"
+-- ---- the ranges of operands: "9. An immediate without alternative lies outside -32,768 to 32,767"; document 02, P5: "19, a shift amount
+-- outside 0 to 31; 20, a condition code outside 0 to 7 .. tested .. after the line's last operand is read". An encoding has one of them at most.
 
-abbrev pub encodingRange : (e : Encoding) → AskedAll (encodingWants e) → Range
-encodingRange Register x = Within
-encodingRange RegisterShift x = Within
-encodingRange Source x = Within
-encodingRange Destination x = Within
-encodingRange Inputs x = Within
-encodingRange Sham x = Within
-encodingRange SpecialBranch x = Within
-encodingRange (Immediate alt) x = immediateRange alt (x .2)
-encodingRange LoadImmediate x = Within
-encodingRange Jump x = Within
-encodingRange Branch x = Within
-encodingRange BranchZero x = Within
-encodingRange Parameterless x = Within
-encodingRange Offset x = Within
-encodingRange FPOffset x = Within
-encodingRange (FP3Register fmt) x = Within
-encodingRange (FP2Register fmt) x = Within
-encodingRange (FPMove fmt flag) x = Within
-encodingRange (FPCond fmt) x = Within
-encodingRange (FPCrossMove flag) x = Within
-encodingRange (FPBranch flag) x = Within
+abbrev pub withinOr : Fault → Bool → Range
+withinOr fault b = elim b [ true ↦ Within | false ↦ Outside fault ]
+
+abbrev pub encodingRange : Job → (e : Encoding) → AskedAll (encodingWants e) → Range
+encodingRange job Register x = Within
+encodingRange job RegisterShift x = Within
+encodingRange job Source x = Within
+encodingRange job Destination x = Within
+encodingRange job Inputs x = Within
+encodingRange job Sham x = withinOr ShiftAmount (shiftWithin job (x .2))
+encodingRange job SpecialBranch x = Within
+encodingRange job (Immediate alt) x = immediateRange alt (x .2)
+encodingRange job LoadImmediate x = Within
+encodingRange job Jump x = Within
+encodingRange job Branch x = Within
+encodingRange job BranchZero x = Within
+encodingRange job Parameterless x = Within
+encodingRange job Offset x = Within
+encodingRange job FPOffset x = Within
+encodingRange job (FP3Register fmt) x = Within
+encodingRange job (FP2Register fmt) x = Within
+encodingRange job (FPMove fmt flag) x = withinOr ConditionCode (codeWithin job (x .2))
+encodingRange job (FPCond fmt) x = withinOr ConditionCode (codeWithin job (x .0))
+encodingRange job (FPCrossMove flag) x = Within
+encodingRange job (FPBranch flag) x = withinOr ConditionCode (codeWithin job (x .0))
 
 -- ---- how the line's constant is loaded (document 02, P2: "All emitters that take a literal pass the report up, or none where nothing is
 -- loaded"): a line loads one constant at most
@@ -155,7 +163,7 @@ pub record Line : Type 0 where
 
 abbrev pub rangeAnswer : Range → LineAnswer
 rangeAnswer Within = Made
-rangeAnswer Outside = OutOfRange
+rangeAnswer (Outside fault) = OutOfRange fault
 
 -- operands that were read make the words; where one was missed there are none
 abbrev pub lineBy : {A : Type 0} → Answer A → ℕ → (A → Range) → (A → List InstructionPair) → (A → LoadForm) → Line
@@ -163,15 +171,15 @@ lineBy (Got x) i range pairs form = record { answer = rangeAnswer (range x); pai
 lineBy (Missed m) i range pairs form = record { answer = MissedOperand m; pairs = []; form = Unloaded; index = i }
 
 -- the line of an instruction of the table
-unfoldable pub encodingLine : Encoding → Opcode → List Token → ℕ → Line
+unfoldable pub encodingLine : Job → Encoding → Opcode → List Token → ℕ → Line
 unfolding readOperands
-encodingLine e op ts i =
+encodingLine job e op ts i =
     let read = readOperands (encodingWants e) ts i in
-    lineBy (read .answer) (read .index) (encodingRange e) (encodingPairs e op) (encodingForm e)
+    lineBy (read .answer) (read .index) (encodingRange job e) (encodingPairs job e op) (encodingForm e)
 
 -- the line of a pseudo-instruction: each immediate that it takes has an alternative
-unfoldable pub pseudoLine : Pseudo → List Token → ℕ → Line
+unfoldable pub pseudoLine : Job → Pseudo → List Token → ℕ → Line
 unfolding readOperands
-pseudoLine p ts i =
+pseudoLine job p ts i =
     let read = readOperands (pseudoWants p) ts i in
-    lineBy (read .answer) (read .index) (λ x. Within) (pseudoPairs p) (pseudoForm p)
+    lineBy (read .answer) (read .index) (λ x. Within) (pseudoPairs job p) (pseudoForm p)

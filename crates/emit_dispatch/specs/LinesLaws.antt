@@ -4,6 +4,7 @@ use mathlib.Core.Path.{_≡_, refl, sym, subst}
 use mathlib.Core.List.{List, []}
 use Rattle.instructions.specs.declared.Opcode.{Opcode}
 use Rattle.instructions.specs.declared.Encoding.{Encoding}
+use Rattle.jobs.specs.declared.Job.{Job}
 use Rattle.pseudo_names.specs.declared.Pseudo.{Pseudo}
 use Rattle.cursor.specs.declared.Cursor.{Cursor}
 use Rattle.cursor.specs.Cursors.{At}
@@ -23,24 +24,34 @@ use Rattle.loading.specs.declared.LoadForm.the-variants.{Nothing as Unloaded}
 use Rattle.emit_pairs.specs.declared.EmitInstruction.{EmitInstruction}
 use Rattle.emit_pairs.specs.declared.InstructionPair.{InstructionPair}
 use Rattle.emit_pairs.specs.declared.Range.{Range}
+use Rattle.emit_pairs.specs.declared.Range.the-variants.{Within, Outside}
 use Rattle.emit_pairs.specs.Pairs.{EmitIs}
 use Rattle.emit_dispatch.specs.declared.LineAnswer.{LineAnswer}
-use Rattle.emit_dispatch.specs.declared.LineAnswer.the-variants.{Missed as MissedOperand}
+use Rattle.emit_dispatch.specs.declared.LineAnswer.the-variants.{Made, Missed as MissedOperand}
 use Rattle.emit_dispatch.specs.Wants.{encodingWants, pseudoWants}
-use Rattle.emit_dispatch.specs.Lines.{encodingPairs, pseudoPairs, encodingForm, pseudoForm, rangeAnswer, lineBy}
+use Rattle.emit_dispatch.specs.Lines.{encodingRange, encodingPairs, pseudoPairs, encodingForm, pseudoForm, rangeAnswer, lineBy}
 use Rattle.emit_dispatch.specs.Contract.{LineAs}
 
--- ---- words, by the case that the encoding or the pseudo-instruction is
+-- ---- words and ranges, by the case that the encoding or the pseudo-instruction is
 
-pub encoding-as : {r : EmitInstruction} {e is : Encoding} (op : Opcode) (o : Operands) → e ≡ is → EmitIs r (encodingPairs is op (heldAll (encodingWants is) o)) (encodingForm is (heldAll (encodingWants is) o))
-    → EmitIs r (encodingPairs e op (heldAll (encodingWants e) o)) (encodingForm e (heldAll (encodingWants e) o))
-encoding-as {r} op o e i = subst (λ (x : Encoding). EmitIs r (encodingPairs x op (heldAll (encodingWants x) o)) (encodingForm x (heldAll (encodingWants x) o))) (sym e) i
+pub encoding-as : {r : EmitInstruction} (job : Job) {e is : Encoding} (op : Opcode) (o : Operands) → e ≡ is → EmitIs r (encodingPairs job is op (heldAll (encodingWants is) o)) (encodingForm is (heldAll (encodingWants is) o))
+    → EmitIs r (encodingPairs job e op (heldAll (encodingWants e) o)) (encodingForm e (heldAll (encodingWants e) o))
+encoding-as {r} job op o e i = subst (λ (x : Encoding). EmitIs r (encodingPairs job x op (heldAll (encodingWants x) o)) (encodingForm x (heldAll (encodingWants x) o))) (sym e) i
 
-pub pseudo-as : {r : EmitInstruction} {p is : Pseudo} (o : Operands) → p ≡ is → EmitIs r (pseudoPairs is (heldAll (pseudoWants is) o)) (pseudoForm is (heldAll (pseudoWants is) o))
-    → EmitIs r (pseudoPairs p (heldAll (pseudoWants p) o)) (pseudoForm p (heldAll (pseudoWants p) o))
-pseudo-as {r} o e i = subst (λ (x : Pseudo). EmitIs r (pseudoPairs x (heldAll (pseudoWants x) o)) (pseudoForm x (heldAll (pseudoWants x) o))) (sym e) i
+pub pseudo-as : {r : EmitInstruction} (job : Job) {p is : Pseudo} (o : Operands) → p ≡ is → EmitIs r (pseudoPairs job is (heldAll (pseudoWants is) o)) (pseudoForm is (heldAll (pseudoWants is) o))
+    → EmitIs r (pseudoPairs job p (heldAll (pseudoWants p) o)) (pseudoForm p (heldAll (pseudoWants p) o))
+pseudo-as {r} job o e i = subst (λ (x : Pseudo). EmitIs r (pseudoPairs job x (heldAll (pseudoWants x) o)) (pseudoForm x (heldAll (pseudoWants x) o))) (sym e) i
+
+pub range-as : {r : Range} (job : Job) {e is : Encoding} (o : Operands) → e ≡ is → r ≡ encodingRange job is (heldAll (encodingWants is) o)
+    → r ≡ encodingRange job e (heldAll (encodingWants e) o)
+range-as {r} job o e i = subst (λ (x : Encoding). r ≡ encodingRange job x (heldAll (encodingWants x) o)) (sym e) i
 
 -- ---- the line, by what was read
+
+-- a line is made where its operands lie within their ranges
+pub within-made : (r : Range) → rangeAnswer r ≡ Made → r ≡ Within
+within-made Within e = refl
+within-made (Outside fault) e = cc
 
 module _ (w : Wants) {s : List ℕ} (x : At (Answer (AskedAll w))) {given : OperandsAnswer} {cursor : Cursor} (r : ReadAs s (givenAll w x) given cursor)
     (range : AskedAll w → Range) (pairs : AskedAll w → List InstructionPair) (form : AskedAll w → LoadForm) {answer : LineAnswer} {emit : EmitInstruction} where

@@ -2,20 +2,26 @@
 ghost use mathlib.Core.Path.{_≡_};
 ghost use Rattle.lexer.specs.Tokens.{tokens};
 ghost use Rattle.cursor.specs.Reads.{Placed};
+ghost use Rattle.jobs.specs.Jobs.{shiftWithin, codeWithin};
+ghost use Rattle.operand.specs.Held.{constantIn, codeIn};
 ghost use Rattle.operand_list.specs.HeldOperands.{heldAll};
 ghost use Rattle.emit_pairs.specs.Pairs.{EmitIs};
 ghost use Rattle.emit_dispatch.specs.Wants.{encodingWants, pseudoWants};
-ghost use Rattle.emit_dispatch.specs.Lines.{encodingRange, encodingPairs, encodingForm, pseudoPairs, pseudoForm, rangeAnswer, encodingLine, pseudoLine};
+ghost use Rattle.emit_dispatch.specs.Lines.{withinOr, encodingRange, encodingPairs, encodingForm, pseudoPairs, pseudoForm, rangeAnswer, encodingLine, pseudoLine};
 ghost use Rattle.emit_dispatch.specs.Contract.{LineAs};
 use cursor::Cursor;
 use emit_float::MoveForm;
 use emit_pairs::EmitInstruction;
+use emit_pairs::Fault;
 use emit_pairs::Range;
 use emit_pseudo::Comparison;
 use emit_pseudo::ImmediateOpcodes;
 use instructions::Encoding;
 use instructions::Opcode;
+use jobs::Format;
+use jobs::Job;
 use operand::Miss;
+use operand::Operand;
 use operand::Want;
 use operand_list::Operands;
 use operand_list::OperandsAnswer;
@@ -26,7 +32,7 @@ use pseudo_names::Pseudo;
 pub enum LineAnswer {
     Made,
     Missed(Miss),
-    OutOfRange,
+    OutOfRange(Fault),
 }
 
 // A line's words, and the position behind its operands.
@@ -117,8 +123,8 @@ fn pseudo_wants(pseudo: Pseudo) -> Wants
 }
 
 // The words of an encoding. Where the immediate is out of range there are none.
-fn encoding_pairs(encoding: Encoding, op: Opcode, operands: Operands) -> EmitInstruction
-    ensures { λ r. ⌜ EmitIs r (encodingPairs encoding op (heldAll (encodingWants encoding) operands))
+fn encoding_pairs(job: Job, encoding: Encoding, op: Opcode, operands: Operands) -> EmitInstruction
+    ensures { λ r. ⌜ EmitIs r (encodingPairs job encoding op (heldAll (encodingWants encoding) operands))
         (encodingForm encoding (heldAll (encodingWants encoding) operands)) ⌝ }
 {
     match encoding {
@@ -137,18 +143,25 @@ fn encoding_pairs(encoding: Encoding, op: Opcode, operands: Operands) -> EmitIns
         Encoding::Parameterless => emit_integer::do_parameterless_instruction(op),
         Encoding::Offset => emit_integer::do_offset_instruction(op, operands),
         Encoding::FPOffset => emit_float::do_fp_offset_instruction(op, operands),
-        Encoding::FP3Register(fmt) => emit_float::do_fp_three_register_instruction(
+        Encoding::FP3Register(size) => emit_float::do_fp_three_register_instruction(
             op,
-            fmt,
+            Format { job, size },
             operands,
         ),
-        Encoding::FP2Register(fmt) => emit_float::do_fp_2register_instruction(op, fmt, operands),
-        Encoding::FPMove { size, flag } => emit_float::do_fp_move_instruction(
+        Encoding::FP2Register(size) => emit_float::do_fp_2register_instruction(
             op,
-            MoveForm { size, flag },
+            Format { job, size },
             operands,
         ),
-        Encoding::FPCond(fmt) => emit_float::do_fp_cond_instruction(op, fmt, operands),
+        Encoding::FPMove { size, flag } => {
+            let fmt = Format { job, size };
+            emit_float::do_fp_move_instruction(op, MoveForm { fmt, flag }, operands)
+        }
+        Encoding::FPCond(size) => emit_float::do_fp_cond_instruction(
+            op,
+            Format { job, size },
+            operands,
+        ),
         Encoding::FPCrossMove { flag } => {
             if flag {
                 emit_float::do_fp_first_move_instruction(op, operands)
@@ -160,10 +173,35 @@ fn encoding_pairs(encoding: Encoding, op: Opcode, operands: Operands) -> EmitIns
     }
 }
 
-// Whether an immediate operand is within its range.
-fn encoding_range(encoding: Encoding, operands: Operands) -> Range
-    ensures { λ r. ⌜ r ≡ encodingRange encoding (heldAll (encodingWants encoding) operands) ⌝ }
+fn within_or(fault: Fault, within: bool) -> Range
+    ensures { λ r. ⌜ r ≡ withinOr fault within ⌝ }
 {
+    if within {
+        Range::Within
+    } else {
+        Range::Outside(fault)
+    }
+}
+
+fn shift_range(job: Job, operand: Operand) -> Range
+    ensures { λ r. ⌜ r ≡ withinOr Fault.ShiftAmount (shiftWithin job (constantIn operand)) ⌝ }
+{
+    let within = jobs::shift_within(job, operand::constant_in(operand));
+    within_or(Fault::ShiftAmount, within)
+}
+
+fn code_range(job: Job, operand: Operand) -> Range
+    ensures { λ r. ⌜ r ≡ withinOr Fault.ConditionCode (codeWithin job (codeIn operand)) ⌝ }
+{
+    let within = jobs::code_within(job, operand::code_in(operand));
+    within_or(Fault::ConditionCode, within)
+}
+
+// Whether the operands are within their ranges.
+fn encoding_range(job: Job, encoding: Encoding, operands: Operands) -> Range
+    ensures { λ r. ⌜ r ≡ encodingRange job encoding (heldAll (encodingWants encoding) operands) ⌝ }
+{
+    let first = operands.first;
     let third = operands.third;
     match encoding {
         Encoding::Register => Range::Within,
@@ -171,7 +209,7 @@ fn encoding_range(encoding: Encoding, operands: Operands) -> Range
         Encoding::Source => Range::Within,
         Encoding::Destination => Range::Within,
         Encoding::Inputs => Range::Within,
-        Encoding::Sham => Range::Within,
+        Encoding::Sham => shift_range(job, third),
         Encoding::SpecialBranch => Range::Within,
         Encoding::Immediate(alt) => emit_pairs::immediate_range(alt, operand::constant_in(third)),
         Encoding::LoadImmediate => Range::Within,
@@ -183,20 +221,20 @@ fn encoding_range(encoding: Encoding, operands: Operands) -> Range
         Encoding::FPOffset => Range::Within,
         Encoding::FP3Register(_) => Range::Within,
         Encoding::FP2Register(_) => Range::Within,
-        Encoding::FPMove { size: _, flag: _ } => Range::Within,
-        Encoding::FPCond(_) => Range::Within,
+        Encoding::FPMove { size: _, flag: _ } => code_range(job, third),
+        Encoding::FPCond(_) => code_range(job, first),
         Encoding::FPCrossMove { flag: _ } => Range::Within,
-        Encoding::FPBranch { flag: _ } => Range::Within,
+        Encoding::FPBranch { flag: _ } => code_range(job, first),
     }
 }
 
-fn pseudo_pairs(pseudo: Pseudo, operands: Operands) -> EmitInstruction
-    ensures { λ r. ⌜ EmitIs r (pseudoPairs pseudo (heldAll (pseudoWants pseudo) operands))
+fn pseudo_pairs(job: Job, pseudo: Pseudo, operands: Operands) -> EmitInstruction
+    ensures { λ r. ⌜ EmitIs r (pseudoPairs job pseudo (heldAll (pseudoWants pseudo) operands))
         (pseudoForm pseudo (heldAll (pseudoWants pseudo) operands)) ⌝ }
 {
     match pseudo {
         Pseudo::Nop => emit_pseudo::do_nop_instruction(),
-        Pseudo::Abs => emit_pseudo::do_abs_instruction(operands),
+        Pseudo::Abs => emit_pseudo::do_abs_instruction(job, operands),
         Pseudo::BranchCustom {
             greater_than,
             result_true,
@@ -251,14 +289,20 @@ fn range_answer(range: Range) -> LineAnswer
 {
     match range {
         Range::Within => LineAnswer::Made,
-        Range::Outside => LineAnswer::OutOfRange,
+        Range::Outside(fault) => LineAnswer::OutOfRange(fault),
     }
 }
 
 // The line of an instruction of the table, by its encoding.
-pub fn dispatch_encoding(encoding: Encoding, op: Opcode, list: &[u8], from: Cursor) -> LineEmit
+pub fn dispatch_encoding(
+    job: Job,
+    encoding: Encoding,
+    op: Opcode,
+    list: &[u8],
+    from: Cursor,
+) -> LineEmit
     requires { ⌜ Placed (now list) from ⌝ }
-    ensures { λ r. ⌜ LineAs (now (list .entry)) (encodingLine encoding op (tokens (now (list .entry))) (from .index)) (r .answer) (r .emit) (r .cursor) ⌝ }
+    ensures { λ r. ⌜ LineAs (now (list .entry)) (encodingLine job encoding op (tokens (now (list .entry))) (from .index)) (r .answer) (r .emit) (r .cursor) ⌝ }
 {
     let read = operand_list::read_operands(encoding_wants(encoding), list, from);
     let given = read.answer;
@@ -270,8 +314,8 @@ pub fn dispatch_encoding(encoding: Encoding, op: Opcode, list: &[u8], from: Curs
             cursor,
         },
         OperandsAnswer::Got(operands) => {
-            let answer = range_answer(encoding_range(encoding, operands));
-            let emit = encoding_pairs(encoding, op, operands);
+            let answer = range_answer(encoding_range(job, encoding, operands));
+            let emit = encoding_pairs(job, encoding, op, operands);
             LineEmit {
                 answer,
                 emit,
@@ -282,9 +326,9 @@ pub fn dispatch_encoding(encoding: Encoding, op: Opcode, list: &[u8], from: Curs
 }
 
 // The line of a pseudo-instruction.
-pub fn dispatch_pseudo(pseudo: Pseudo, list: &[u8], from: Cursor) -> LineEmit
+pub fn dispatch_pseudo(job: Job, pseudo: Pseudo, list: &[u8], from: Cursor) -> LineEmit
     requires { ⌜ Placed (now list) from ⌝ }
-    ensures { λ r. ⌜ LineAs (now (list .entry)) (pseudoLine pseudo (tokens (now (list .entry))) (from .index)) (r .answer) (r .emit) (r .cursor) ⌝ }
+    ensures { λ r. ⌜ LineAs (now (list .entry)) (pseudoLine job pseudo (tokens (now (list .entry))) (from .index)) (r .answer) (r .emit) (r .cursor) ⌝ }
 {
     let read = operand_list::read_operands(pseudo_wants(pseudo), list, from);
     let given = read.answer;
@@ -296,7 +340,7 @@ pub fn dispatch_pseudo(pseudo: Pseudo, list: &[u8], from: Cursor) -> LineEmit
             cursor,
         },
         OperandsAnswer::Got(operands) => {
-            let emit = pseudo_pairs(pseudo, operands);
+            let emit = pseudo_pairs(job, pseudo, operands);
             LineEmit {
                 answer: LineAnswer::Made,
                 emit,

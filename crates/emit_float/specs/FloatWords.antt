@@ -5,7 +5,7 @@ use mathlib.Core.Bool.{Bool}
 use Rattle.registers.specs.Numbers.{fpRegisterNumber}
 use Rattle.registers.specs.declared.FPRegisterSlot.{FPRegisterSlot}
 use Rattle.instructions.specs.declared.Opcode.{Opcode}
-use Rattle.instructions.specs.declared.Size.{Size}
+use Rattle.jobs.specs.declared.Format.{Format}
 use Rattle.address_label.specs.declared.AddressLabel.{AddressLabel}
 use Rattle.pending.specs.declared.InstructionLabelKind.the-variants.{Branch}
 use Rattle.emit_words.specs.Words.{fp3Word, fp2Word, fpMoveWord, fpCondWord, fpCrossMoveWord, fpBranchWord}
@@ -13,16 +13,16 @@ use Rattle.emit_pairs.specs.declared.InstructionPair.{InstructionPair}
 use Rattle.emit_pairs.specs.Pairs.{plain, waiting}
 
 module _ (op : Opcode) where
-  abbrev pub fp3Pairs : Size → (dest source temp : FPRegisterSlot) → List InstructionPair
+  abbrev pub fp3Pairs : Format → (dest source temp : FPRegisterSlot) → List InstructionPair
   fp3Pairs fmt dest source temp = plain (fp3Word op fmt (fpRegisterNumber dest) (fpRegisterNumber source) (fpRegisterNumber temp)) ∷ []
 
-  abbrev pub fp2Pairs : Size → (dest source : FPRegisterSlot) → List InstructionPair
+  abbrev pub fp2Pairs : Format → (dest source : FPRegisterSlot) → List InstructionPair
   fp2Pairs fmt dest source = plain (fp2Word op fmt (fpRegisterNumber dest) (fpRegisterNumber source)) ∷ []
 
-  abbrev pub fpMovePairs : Size → Bool → (dest source : FPRegisterSlot) → (code : ℕ) → List InstructionPair
+  abbrev pub fpMovePairs : Format → Bool → (dest source : FPRegisterSlot) → (code : ℕ) → List InstructionPair
   fpMovePairs fmt flag dest source code = plain (fpMoveWord op fmt (fpRegisterNumber dest) (fpRegisterNumber source) code flag) ∷ []
 
-  abbrev pub fpCondPairs : Size → (code : ℕ) → (source target : FPRegisterSlot) → List InstructionPair
+  abbrev pub fpCondPairs : Format → (code : ℕ) → (source target : FPRegisterSlot) → List InstructionPair
   fpCondPairs fmt code source target = plain (fpCondWord op fmt code (fpRegisterNumber source) (fpRegisterNumber target)) ∷ []
 
   -- the numbers of the first and the second register, of which one is a general and one a float register

@@ -15,7 +15,7 @@ use emit_words::FPCondFields;
 use emit_words::FPImmediateFields;
 use emit_words::FPMoveFields;
 use instructions::Opcode;
-use instructions::Size;
+use jobs::Format;
 use loading::LoadForm;
 use operand_list::Operands;
 use pending::InstructionLabelKind;
@@ -24,7 +24,7 @@ use registers::RegisterSlot;
 
 // The format and tf of a conditional move.
 pub struct MoveForm {
-    pub size: Size,
+    pub fmt: Format,
     pub flag: bool,
 }
 
@@ -51,7 +51,7 @@ pub fn do_fp_offset_instruction(op: Opcode, operands: Operands) -> EmitInstructi
 
 pub fn do_fp_three_register_instruction(
     op: Opcode,
-    fmt: Size,
+    fmt: Format,
     operands: Operands,
 ) -> EmitInstruction
     ensures { λ r. ⌜ EmitIs r (fp3Pairs op fmt (fpSlotIn (operands .first)) (fpSlotIn (operands .second)) (fpSlotIn (operands .third))) LoadForm.Nothing ⌝ }
@@ -67,7 +67,7 @@ pub fn do_fp_three_register_instruction(
     emit_pairs::with(word)
 }
 
-pub fn do_fp_2register_instruction(op: Opcode, fmt: Size, operands: Operands) -> EmitInstruction
+pub fn do_fp_2register_instruction(op: Opcode, fmt: Format, operands: Operands) -> EmitInstruction
     ensures { λ r. ⌜ EmitIs r (fp2Pairs op fmt (fpSlotIn (operands .first)) (fpSlotIn (operands .second))) LoadForm.Nothing ⌝ }
 {
     let first = operands.first;
@@ -80,7 +80,7 @@ pub fn do_fp_2register_instruction(op: Opcode, fmt: Size, operands: Operands) ->
 }
 
 pub fn do_fp_move_instruction(op: Opcode, form: MoveForm, operands: Operands) -> EmitInstruction
-    ensures { λ r. ⌜ EmitIs r (fpMovePairs op (form .size) (form .flag)
+    ensures { λ r. ⌜ EmitIs r (fpMovePairs op (form .fmt) (form .flag)
         (fpSlotIn (operands .first)) (fpSlotIn (operands .second)) (codeIn (operands .third))) LoadForm.Nothing ⌝ }
 {
     let first = operands.first;
@@ -89,7 +89,7 @@ pub fn do_fp_move_instruction(op: Opcode, form: MoveForm, operands: Operands) ->
     let dest = operand::fp_slot_in(first);
     let source = operand::fp_slot_in(second);
     let code = operand::code_in(third);
-    let size = form.size;
+    let fmt = form.fmt;
     let flag = form.flag;
     let fields = FPMoveFields {
         dest,
@@ -97,11 +97,11 @@ pub fn do_fp_move_instruction(op: Opcode, form: MoveForm, operands: Operands) ->
         code,
         flag,
     };
-    let word = emit_words::fp_move_word(op, size, fields);
+    let word = emit_words::fp_move_word(op, fmt, fields);
     emit_pairs::with(word)
 }
 
-pub fn do_fp_cond_instruction(op: Opcode, fmt: Size, operands: Operands) -> EmitInstruction
+pub fn do_fp_cond_instruction(op: Opcode, fmt: Format, operands: Operands) -> EmitInstruction
     ensures { λ r. ⌜ EmitIs r (fpCondPairs op fmt (codeIn (operands .first)) (fpSlotIn (operands .second)) (fpSlotIn (operands .third))) LoadForm.Nothing ⌝ }
 {
     let first = operands.first;

@@ -1,6 +1,7 @@
 -- The line of a mnemonic: "A descriptor goes before a pseudo-instruction of that name." Assumes nothing.
 use Prim.Native.Nat.{ℕ}
 use mathlib.Core.List.{List}
+use Rattle.jobs.specs.declared.Job.{Job}
 use Rattle.lexer.specs.declared.Token.{Token}
 use Rattle.names.specs.declared.Named.{Named}
 use Rattle.names.specs.declared.Named.the-variants.{At, Missing}
@@ -28,6 +29,6 @@ unfolding firstNamed pseudoIn
 meaning descriptors name = orPseudo (findDescriptor descriptors name) name
 
 -- the line of the descriptor at p
-unfoldable pub tableLine : List ℕ → ℕ → List Token → ℕ → Line
+unfoldable pub tableLine : Job → List ℕ → ℕ → List Token → ℕ → Line
 unfolding encodingLine
-tableLine descriptors p ts i = encodingLine (instructionAt descriptors p .encoding) (instructionAt descriptors p .opcode) ts i
+tableLine job descriptors p ts i = encodingLine job (instructionAt descriptors p .encoding) (instructionAt descriptors p .opcode) ts i

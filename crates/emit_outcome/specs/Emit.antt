@@ -2,10 +2,11 @@
 use Prim.Native.Nat.{ℕ, _+_, _*_}
 use mathlib.Core.List.{List}
 use lib.ListN.{length}
+use Rattle.jobs.specs.declared.Job.{Job}
 use Rattle.record.specs.declared.Location.{Location}
 use Rattle.record.specs.Stores.{append}
 use Rattle.refusal.specs.declared.Refusal.{Refusal}
-use Rattle.refusal.specs.declared.Refusal.the-variants.{UnknownInstruction, ConstantOutOfRange}
+use Rattle.refusal.specs.declared.Refusal.the-variants.{UnknownInstruction, ConstantOutOfRange, ShiftOutOfRange, CodeOutOfRange}
 use Rattle.refusal.specs.declared.Verdict.{Verdict}
 use Rattle.refusal.specs.declared.Verdict.the-variants.{Pass, Stop}
 use Rattle.lexer.specs.Tokens.{tokens}
@@ -15,6 +16,8 @@ use Rattle.emit_dispatch.specs.declared.LineAnswer.{LineAnswer}
 use Rattle.emit_dispatch.specs.declared.LineAnswer.the-variants.{Made, Missed, OutOfRange}
 use Rattle.emit_dispatch.specs.Lines.{Line}
 use Rattle.emit_dispatch.specs.Lines.{pseudoLine}
+use Rattle.emit_pairs.specs.declared.Fault.{Fault}
+use Rattle.emit_pairs.specs.declared.Fault.the-variants.{Immediate, ShiftAmount, ConditionCode}
 use Rattle.emit_pairs.specs.declared.InstructionPair.{InstructionPair}
 use Rattle.emit_bytes.specs.Appended.{wordBytes}
 use Rattle.emit_outcome.specs.Dispatch.{meaning, tableLine}
@@ -51,12 +54,18 @@ accept token-list line numbers lent made =
       };
     }
 
--- ---- 4 to 12: a line that was made, whose mnemonic stands at `line`
+-- ---- 4 to 12, 19 and 20: a line that was made, whose mnemonic stands at `line`
+
+-- 9; "19, a shift amount outside 0 to 31; 20, a condition code outside 0 to 7" (document 02, P5)
+abbrev pub faultRefusal : Location → Fault → Refusal
+faultRefusal line Immediate = ConstantOutOfRange line
+faultRefusal line ShiftAmount = ShiftOutOfRange line
+faultRefusal line ConditionCode = CodeOutOfRange line
 
 abbrev pub answerStop : (token-list : List ℕ) → Location → LineNumbers → Lent → List InstructionPair → LineAnswer → Verdict
 answerStop token-list line numbers lent pairs Made = roomStop token-list line numbers lent pairs
 answerStop token-list line numbers lent pairs (Missed m) = Stop (missRefusal line m)
-answerStop token-list line numbers lent pairs OutOfRange = Stop (ConstantOutOfRange line)
+answerStop token-list line numbers lent pairs (OutOfRange fault) = Stop (faultRefusal line fault)
 
 abbrev pub lineStop : (token-list : List ℕ) → Location → LineNumbers → Lent → Line → Verdict
 lineStop token-list line numbers lent made = answerStop token-list line numbers lent (made .pairs) (made .answer)
@@ -83,15 +92,15 @@ abbrev pub callRefused : Call → Refusal → EmitOutcome
 callRefused c r = refuse (c .numbers .counts) (c .lent) (c .numbers .place .position) r
 
 -- "3. Neither descriptor nor pseudo-instruction has the mnemonic."
-abbrev pub meaningOutcome : Call → Meaning → EmitOutcome
-meaningOutcome c (Table p) = callLine c (tableLine (c .descriptors) p (tokens (c .token-list)) (startOf c))
-meaningOutcome c (Builtin p) = callLine c (pseudoLine p (tokens (c .token-list)) (startOf c))
-meaningOutcome c Neither = callRefused c (UnknownInstruction (mnemonicLocation (c .mnemonic)))
+abbrev pub meaningOutcome : Job → Call → Meaning → EmitOutcome
+meaningOutcome job c (Table p) = callLine c (tableLine job (c .descriptors) p (tokens (c .token-list)) (startOf c))
+meaningOutcome job c (Builtin p) = callLine c (pseudoLine job p (tokens (c .token-list)) (startOf c))
+meaningOutcome job c Neither = callRefused c (UnknownInstruction (mnemonicLocation (c .mnemonic)))
 
-abbrev pub listOutcome : Call → Verdict → EmitOutcome
-listOutcome c (Stop r) = callRefused c r
-listOutcome c Pass = meaningOutcome c (meaning (c .descriptors) (mnemonicName (c .mnemonic)))
+abbrev pub listOutcome : Job → Call → Verdict → EmitOutcome
+listOutcome job c (Stop r) = callRefused c r
+listOutcome job c Pass = meaningOutcome job c (meaning (c .descriptors) (mnemonicName (c .mnemonic)))
 
-unfoldable pub emitOutcome : Call → EmitOutcome
+unfoldable pub emitOutcome : Job → Call → EmitOutcome
 unfolding listStop meaning mnemonicName tableLine pseudoLine tokens lineOutcome
-emitOutcome c = listOutcome c (listStop (c .token-list) (c .mnemonic) (c .descriptors) (c .lent) (c .numbers .place .region) (c .numbers .counts))
+emitOutcome job c = listOutcome job c (listStop (c .token-list) (c .mnemonic) (c .descriptors) (c .lent) (c .numbers .place .region) (c .numbers .counts))

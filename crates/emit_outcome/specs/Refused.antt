@@ -3,6 +3,7 @@ use Prim.Native.Nat.{ℕ}
 use native.Mathlib.Omega.{arith}
 use mathlib.Core.Path.{_≡_}
 use mathlib.Core.List.{List}
+use Rattle.jobs.specs.declared.Job.{Job}
 use Rattle.record.specs.declared.Location.{Location}
 use Rattle.refusal.specs.declared.Refusal.{Refusal}
 use Rattle.refusal.specs.declared.Refusal.the-variants.{UnknownInstruction}
@@ -38,20 +39,20 @@ module _ (token-list : List ℕ) (line : Location) (numbers : LineNumbers) (lent
   unfolding lineOutcome
   line-stays = verdict-stays (lineStop token-list line numbers lent made)
 
-module _ (c : Call) where
+module _ (job : Job) (c : Call) where
   call-stays : (made : Line) → Stays (c .numbers .counts) (c .lent) (lineOutcome (c .token-list) (mnemonicLocation (c .mnemonic)) (c .numbers) (c .lent) made)
   call-stays = line-stays (c .token-list) (mnemonicLocation (c .mnemonic)) (c .numbers) (c .lent)
 
-  meaning-stays : (m : Meaning) → Stays (c .numbers .counts) (c .lent) (meaningOutcome c m)
-  meaning-stays (Table p) = call-stays (tableLine (c .descriptors) p (tokens (c .token-list)) (startOf c))
-  meaning-stays (Builtin p) = call-stays (pseudoLine p (tokens (c .token-list)) (startOf c))
+  meaning-stays : (m : Meaning) → Stays (c .numbers .counts) (c .lent) (meaningOutcome job c m)
+  meaning-stays (Table p) = call-stays (tableLine job (c .descriptors) p (tokens (c .token-list)) (startOf c))
+  meaning-stays (Builtin p) = call-stays (pseudoLine job p (tokens (c .token-list)) (startOf c))
   meaning-stays Neither = refuse-stays (c .numbers .counts) (c .lent) (c .numbers .place .position) (UnknownInstruction (mnemonicLocation (c .mnemonic)))
 
-  list-stays : (v : Verdict) → Stays (c .numbers .counts) (c .lent) (listOutcome c v)
+  list-stays : (v : Verdict) → Stays (c .numbers .counts) (c .lent) (listOutcome job c v)
   list-stays (Stop s) = refuse-stays (c .numbers .counts) (c .lent) (c .numbers .place .position) s
   list-stays Pass = meaning-stays (meaning (c .descriptors) (mnemonicName (c .mnemonic)))
 
   -- the outcome with a refusal for its answer is that refusal's, with all that was lent as at entry
-  pub refused-stays : Stays (c .numbers .counts) (c .lent) (emitOutcome c)
+  pub refused-stays : Stays (c .numbers .counts) (c .lent) (emitOutcome job c)
   unfolding emitOutcome
   refused-stays = list-stays (listStop (c .token-list) (c .mnemonic) (c .descriptors) (c .lent) (c .numbers .place .region) (c .numbers .counts))

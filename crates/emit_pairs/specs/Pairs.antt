@@ -19,6 +19,7 @@ use Rattle.pending.specs.declared.InstructionLabelKind.the-variants.{Lower, Upp
 use Rattle.emit_pairs.specs.declared.PairLabel.the-variants.{Nothing as Unlabelled, Some as Labelled}
 use Rattle.emit_pairs.specs.declared.InstructionPair.{InstructionPair}
 use Rattle.emit_pairs.specs.declared.EmitInstruction.{EmitInstruction}
+use Rattle.emit_pairs.specs.declared.Fault.the-variants.{Immediate}
 use Rattle.emit_pairs.specs.declared.Range.{Range}
 use Rattle.emit_pairs.specs.declared.Range.the-variants.{Within, Outside}
 use Rattle.emit_words.specs.Words.{registerWord, immediateWord}
@@ -62,7 +63,7 @@ isImmediate c = ltb c 32768 || leb (2 ^ 64 - 32768) c
 
 -- "9. An immediate without alternative lies outside -32,768 to 32,767"
 abbrev pub immediateRange : Alternative → ℕ → Range
-immediateRange Nothing c = elim (isImmediate c) [ true ↦ Within | false ↦ Outside ]
+immediateRange Nothing c = elim (isImmediate c) [ true ↦ Within | false ↦ Outside Immediate ]
 immediateRange (Some alt) c = Within
 
 -- one word, or the constant loaded into $at and the alternative's word; none where it is refused

@@ -24,6 +24,7 @@ use Rattle.address_label.specs.declared.NamedLabel.{NamedLabel}
 use Rattle.pending.specs.declared.InstructionLabelKind.the-variants.{Lower, Upper}
 use Rattle.emit_pairs.specs.declared.InstructionPair.{InstructionPair}
 use Rattle.emit_pairs.specs.declared.EmitInstruction.{EmitInstruction}
+use Rattle.emit_pairs.specs.declared.Fault.the-variants.{Immediate}
 use Rattle.emit_pairs.specs.declared.Range.the-variants.{Within, Outside}
 use Rattle.emit_words.specs.Words.{registerWord, immediateWord}
 use Rattle.emit_pairs.specs.Pairs.{plain, waiting, EmitIs, atNumber, loadPairs, labelPairs, labelForm, isImmediate, immediateRange, immediatePairs, immediateForm}
@@ -143,5 +144,5 @@ module _ {alt : Alternative} (c : ℕ) (e : isImmediate c ≡ false) where
   pub form-alternative : {other : Opcode} → alt ≡ Some other → formOf c ≡ immediateForm alt c
   form-alternative n = rw (e, n, immediateForm)
 
-pub range-refused : {alt : Alternative} (c : ℕ) → isImmediate c ≡ false → alt ≡ Nothing → Outside ≡ immediateRange alt c
+pub range-refused : {alt : Alternative} (c : ℕ) → isImmediate c ≡ false → alt ≡ Nothing → Outside Immediate ≡ immediateRange alt c
 range-refused c e n = rw (n, e, immediateRange)

@@ -36,10 +36,17 @@ pub struct EmitInstruction {
     pub loaded: LoadForm,
 }
 
-// Whether an immediate operand that has no alternative lies within its range.
+// What an operand is that lies outside its range: refusals 9, 19 and 20.
+pub enum Fault {
+    Immediate,
+    ShiftAmount,
+    ConditionCode,
+}
+
+// Whether the operands of a line lie within their ranges.
 pub enum Range {
     Within,
-    Outside,
+    Outside(Fault),
 }
 
 // rt, rs and the immediate operand.
@@ -179,7 +186,7 @@ pub fn immediate_range(alt: Alternative, constant: u64) -> Range
             if is_immediate(constant) {
                 Range::Within
             } else {
-                Range::Outside
+                Range::Outside(Fault::Immediate)
             }
         }
     }

@@ -7,6 +7,8 @@ use Rattle.registers.specs.declared.RegisterSlot.{RegisterSlot}
 use Rattle.instructions.specs.declared.Opcode.{Opcode}
 use Rattle.instructions.specs.declared.Opcode.the-variants.{Op, Func}
 use Rattle.instructions.specs.declared.Alternative.the-variants.{Some}
+use Rattle.jobs.specs.declared.Job.{Job}
+use Rattle.jobs.specs.Jobs.{absFirstWord}
 use Rattle.address_label.specs.declared.AddressLabel.{AddressLabel}
 use Rattle.pending.specs.declared.InstructionLabelKind.the-variants.{Branch}
 use Rattle.operand.specs.declared.InstructionValue.{InstructionValue}
@@ -14,7 +16,7 @@ use Rattle.operands.specs.Operands.{withSign}
 use Rattle.loading.specs.declared.LoadForm.{LoadForm}
 use Rattle.loading.specs.declared.LoadForm.the-variants.{Nothing as Unloaded}
 use Rattle.loading.specs.Load.{formOf}
-use Rattle.emit_words.specs.Words.{baseWord, inputsWord, registerWord, immediateWord, absFirstWord}
+use Rattle.emit_words.specs.Words.{baseWord, inputsWord, registerWord, immediateWord}
 use Rattle.emit_pairs.specs.declared.InstructionPair.{InstructionPair}
 use Rattle.emit_pairs.specs.Pairs.{plain, waiting, atNumber, loadPairs, labelPairs, isImmediate, immediatePairs}
 use Rattle.emit_pairs.specs.Values.{valuePairs, valueNumber}
@@ -61,9 +63,9 @@ seqPairs dest source value = snePairs dest source value ++ turned false dest
 -- ---- one or two registers
 
 -- sra into $at, xor and subu: abs by MARS's pattern
-abbrev pub absPairs : (dest source : RegisterSlot) → List InstructionPair
-absPairs dest source =
-    plain (absFirstWord (registerNumber source)) ∷ plain (registerWord (Func 38) (registerNumber dest) (registerNumber source) atNumber)
+abbrev pub absPairs : Job → (dest source : RegisterSlot) → List InstructionPair
+absPairs job dest source =
+    plain (absFirstWord job (registerNumber source)) ∷ plain (registerWord (Func 38) (registerNumber dest) (registerNumber source) atNumber)
     ∷ plain (registerWord (Func 35) (registerNumber dest) (registerNumber dest) atNumber) ∷ []
 
 -- neg and negu: the second operand taken from $zero

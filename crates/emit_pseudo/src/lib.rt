@@ -14,6 +14,7 @@ use emit_words::ImmediateFields;
 use emit_words::RegisterFields;
 use instructions::Alternative;
 use instructions::Opcode;
+use jobs::Job;
 use loading::LoadForm;
 use operand_list::Operands;
 use pending::InstructionLabelKind;
@@ -32,8 +33,8 @@ pub struct ImmediateOpcodes {
     pub alternative: Opcode,
 }
 
-pub fn do_abs_instruction(operands: Operands) -> EmitInstruction
-    ensures { λ r. ⌜ EmitIs r (absPairs (slotIn (operands .first)) (slotIn (operands .second))) LoadForm.Nothing ⌝ }
+pub fn do_abs_instruction(job: Job, operands: Operands) -> EmitInstruction
+    ensures { λ r. ⌜ EmitIs r (absPairs job (slotIn (operands .first)) (slotIn (operands .second))) LoadForm.Nothing ⌝ }
 {
     let first = operands.first;
     let second = operands.second;
@@ -46,7 +47,7 @@ pub fn do_abs_instruction(operands: Operands) -> EmitInstruction
         source: dest,
         temp,
     };
-    let shift = emit_words::abs_first_word(source);
+    let shift = emit_words::abs_first_word(job, source);
     let xor = emit_words::register_word(Opcode::Func(38), xor_fields);
     let sub = emit_words::register_word(Opcode::Func(35), sub_fields);
     emit_pairs::with(shift)

@@ -3,8 +3,8 @@ use Prim.Native.Nat.{ℕ, _+_, _*_, _/_, _%_}
 use mathlib.Core.Bool.{Bool, true, false}
 use lib.Bits.{bitOr}
 use Rattle.instructions.specs.declared.Opcode.{Opcode}
-use Rattle.instructions.specs.declared.Size.{Size}
-use Rattle.instructions.specs.Bases.{sizeCode}
+use Rattle.jobs.specs.declared.Format.{Format}
+use Rattle.jobs.specs.Jobs.{sizeCode}
 use Rattle.word.specs.Layout.{layout, immediateLayout, baseFields, withRs, withRt, withRd, withSa}
 
 -- opcode or function alone: Jump and Parameterless
@@ -41,10 +41,10 @@ loadImmediateWord op rt immediate = immediateLayout (baseFields op .opcode) (bas
 
 -- ---- the float formats: fmt, ft, fs and fd stand where rs, rt, rd and sa do
 
-abbrev pub fp3Word : Opcode → Size → (fd fs ft : ℕ) → ℕ
+abbrev pub fp3Word : Opcode → Format → (fd fs ft : ℕ) → ℕ
 fp3Word op fmt fd fs ft = layout (withRs (withRt (withRd (withSa (baseFields op) fd) fs) ft) (sizeCode fmt))
 
-abbrev pub fp2Word : Opcode → Size → (fd fs : ℕ) → ℕ
+abbrev pub fp2Word : Opcode → Format → (fd fs : ℕ) → ℕ
 fp2Word op fmt fd fs = layout (withRs (withRd (withSa (baseFields op) fd) fs) (sizeCode fmt))
 
 -- a condition code's three bits above two others; a code over 7 loses or spills what three bits do not hold
@@ -52,11 +52,11 @@ abbrev pub codeBits : (cc : ℕ) → Bool → ℕ
 codeBits cc flag = cc % 64 * 4 + (elim flag [ true ↦ 1 | false ↦ 0 ])
 
 -- FPMove: cc and the flag where ft stands; fmt, written last, covers what spills
-abbrev pub fpMoveWord : Opcode → Size → (fd fs cc : ℕ) → Bool → ℕ
+abbrev pub fpMoveWord : Opcode → Format → (fd fs cc : ℕ) → Bool → ℕ
 fpMoveWord op fmt fd fs cc flag = layout (withRs (withRt (withRd (withSa (baseFields op) fd) fs) (codeBits cc flag % 32)) (sizeCode fmt))
 
 -- FPCond: cc where fd stands; fs, written later, covers what spills
-abbrev pub fpCondWord : Opcode → Size → (cc fs ft : ℕ) → ℕ
+abbrev pub fpCondWord : Opcode → Format → (cc fs ft : ℕ) → ℕ
 fpCondWord op fmt cc fs ft = layout (withRs (withRt (withRd (withSa (baseFields op) (codeBits cc false % 32)) fs) ft) (sizeCode fmt))
 
 abbrev pub fpCrossMoveWord : Opcode → (rt rd : ℕ) → ℕ
@@ -65,7 +65,3 @@ fpCrossMoveWord op rt rd = layout (withRd (withRt (baseFields op) rt) rd)
 -- FPBranch. "FPBranch codes over 7 spill upward": into the field above.
 abbrev pub fpBranchWord : Opcode → (cc : ℕ) → Bool → ℕ
 fpBranchWord op cc flag = layout (withRt (withRs (baseFields op) (bitOr (baseFields op .rs) (codeBits cc flag / 32))) (codeBits cc flag % 32))
-
--- abs's first word: sra's opcode with rt, then 31 written over rd, the shift amount and the function
-abbrev pub absFirstWord : (rt : ℕ) → ℕ
-absFirstWord rt = immediateLayout 0 0 rt 31

@@ -12,12 +12,15 @@ use Rattle.registers.specs.declared.FPRegisterSlot.{FPRegisterSlot}
 use Rattle.registers.specs.Numbers.{registerNumber, fpRegisterNumber}
 use Rattle.registers.specs.NumberLaws.{register-lt, fp-register-lt}
 use Rattle.instructions.specs.declared.Opcode.{Opcode}
-use Rattle.instructions.specs.declared.Size.{Size}
-use Rattle.instructions.specs.Bases.{instructionBase, sizeCode}
-use Rattle.instructions.specs.BaseLaws.{size-lt}
+use Rattle.instructions.specs.declared.Opcode.the-variants.{Func}
+use Rattle.instructions.specs.Bases.{instructionBase}
+use Rattle.jobs.specs.declared.Job.the-variants.{Commit, Manual}
+use Rattle.jobs.specs.declared.Format.{Format}
+use Rattle.jobs.specs.Jobs.{sizeCode, absFirstWord}
+use Rattle.jobs.specs.JobsLaws.{size-lt}
 use Rattle.word.specs.Layout.{Fields, layout, immediateLayout, baseFields, withRs, withRt, withRd, withSa}
 use Rattle.word.specs.LayoutLaws.{Fits, set-rs, set-rt, set-rd, set-sa, set-immediate, base-layout, base-fits, or-sa, or-rt, fits-rs, fits-rt, fits-rd, fits-sa}
-use Rattle.emit_words.specs.Words.{codeBits}
+use Rattle.emit_words.specs.Words.{codeBits, shamWord}
 
 -- the word w is the fields f laid out, each of which holds a number of its width
 pub record Laid (w : ℕ) (f : Fields) : Type 0 where
@@ -95,10 +98,17 @@ module _ {w : ℕ} {f : Fields} (l : Laid w f) where
   pub with-fp-dest : (r : FPRegisterSlot) → Laid (setField w 6 5 (fpRegisterNumber r)) (withSa f (fpRegisterNumber r))
   with-fp-dest r = then-sa l (fpRegisterNumber r) (fp-register-lt r)
 
-  pub with-fp-fmt : (fmt : Size) → Laid (setField w 21 5 (sizeCode fmt)) (withRs f (sizeCode fmt))
+  pub with-fp-fmt : (fmt : Format) → Laid (setField w 21 5 (sizeCode fmt)) (withRs f (sizeCode fmt))
   with-fp-fmt fmt = then-rs l (sizeCode fmt) (size-lt fmt)
 
 -- a condition code's bits are a byte
 pub code-lt : (cc : ℕ) (flag : Bool) → codeBits cc flag < 256
 code-lt cc true = omega arith
 code-lt cc false = omega arith
+
+-- abs's first word in either sort of job
+pub abs-commit : (rt : ℕ) → immediateLayout 0 0 rt 31 ≡ absFirstWord Commit rt
+abs-commit rt = omega arith
+
+pub abs-manual : (rt : ℕ) → shamWord (Func 3) 1 rt 31 ≡ absFirstWord Manual rt
+abs-manual rt = omega arith

@@ -2,9 +2,11 @@
 ghost use mathlib.Core.Path.{_≡_};
 ghost use Prim.Native.Nat.{_<_};
 ghost use Rattle.registers.specs.Numbers.{registerNumber, fpRegisterNumber};
-ghost use Rattle.emit_words.specs.Words.{baseWord, sourceWord, destinationWord, inputsWord, registerWord, shamWord, immediateWord, loadImmediateWord, fp3Word, fp2Word, fpMoveWord, fpCondWord, fpCrossMoveWord, fpBranchWord, codeBits, absFirstWord};
+ghost use Rattle.emit_words.specs.Words.{baseWord, sourceWord, destinationWord, inputsWord, registerWord, shamWord, immediateWord, loadImmediateWord, fp3Word, fp2Word, fpMoveWord, fpCondWord, fpCrossMoveWord, fpBranchWord, codeBits};
+ghost use Rattle.jobs.specs.Jobs.{absFirstWord};
 use instructions::Opcode;
-use instructions::Size;
+use jobs::Format;
+use jobs::Job;
 use registers::FPRegisterSlot;
 use registers::RegisterSlot;
 use word::InstructionBuilder;
@@ -54,13 +56,13 @@ pub struct FP2Fields {
 pub struct FPMoveFields {
     pub dest: FPRegisterSlot,
     pub source: FPRegisterSlot,
-    pub code: u8,
+    pub code: u64,
     pub flag: bool,
 }
 
 // cc, fs and ft of a comparison.
 pub struct FPCondFields {
-    pub code: u8,
+    pub code: u64,
     pub source: FPRegisterSlot,
     pub target: FPRegisterSlot,
 }
@@ -148,7 +150,7 @@ pub fn load_immediate_word(op: Opcode, temp: RegisterSlot, imm: u16) -> u32
         .finish()
 }
 
-pub fn fp_3_register_word(op: Opcode, fmt: Size, fields: FP3Fields) -> u32
+pub fn fp_3_register_word(op: Opcode, fmt: Format, fields: FP3Fields) -> u32
     ensures { λ r. ⌜ r ≡ fp3Word op fmt (fpRegisterNumber (fields .dest)) (fpRegisterNumber (fields .source)) (fpRegisterNumber (fields .temp)) ⌝ }
 {
     let dest = fields.dest;
@@ -162,7 +164,7 @@ pub fn fp_3_register_word(op: Opcode, fmt: Size, fields: FP3Fields) -> u32
         .finish()
 }
 
-pub fn fp_2_register_word(op: Opcode, fmt: Size, fields: FP2Fields) -> u32
+pub fn fp_2_register_word(op: Opcode, fmt: Format, fields: FP2Fields) -> u32
     ensures { λ r. ⌜ r ≡ fp2Word op fmt (fpRegisterNumber (fields .dest)) (fpRegisterNumber (fields .source)) ⌝ }
 {
     let dest = fields.dest;
@@ -175,17 +177,14 @@ pub fn fp_2_register_word(op: Opcode, fmt: Size, fields: FP2Fields) -> u32
 }
 
 // A condition code above two bits, the lower of which is the flag; bits past the byte are lost.
-fn code_bits(code: u8, flag: bool) -> u8
+fn code_bits(code: u64, flag: bool) -> u8
     ensures { λ r. ⌜ r ≡ codeBits code flag ⌝ }
 {
-    if flag {
-        code % 64 * 4 + 1
-    } else {
-        code % 64 * 4
-    }
+    let bits = (code % 64 * 4) as u8;
+    if flag { bits + 1 } else { bits }
 }
 
-pub fn fp_move_word(op: Opcode, fmt: Size, fields: FPMoveFields) -> u32
+pub fn fp_move_word(op: Opcode, fmt: Format, fields: FPMoveFields) -> u32
     ensures { λ r. ⌜ r ≡ fpMoveWord op fmt (fpRegisterNumber (fields .dest)) (fpRegisterNumber (fields .source)) (fields .code) (fields .flag) ⌝ }
 {
     let dest = fields.dest;
@@ -199,7 +198,7 @@ pub fn fp_move_word(op: Opcode, fmt: Size, fields: FPMoveFields) -> u32
         .finish()
 }
 
-pub fn fp_cond_word(op: Opcode, fmt: Size, fields: FPCondFields) -> u32
+pub fn fp_cond_word(op: Opcode, fmt: Format, fields: FPCondFields) -> u32
     ensures { λ r. ⌜ r ≡ fpCondWord op fmt (fields .code) (fpRegisterNumber (fields .source)) (fpRegisterNumber (fields .target)) ⌝ }
 {
     let source = fields.source;
@@ -224,7 +223,7 @@ pub fn fp_cross_move_word(op: Opcode, first: u8, second: u8) -> u32
         .finish()
 }
 
-pub fn fp_branch_word(op: Opcode, code: u8, flag: bool) -> u32
+pub fn fp_branch_word(op: Opcode, code: u64, flag: bool) -> u32
     ensures { λ r. ⌜ r ≡ fpBranchWord op code flag ⌝ }
 {
     InstructionBuilder::from_op(op)
@@ -232,13 +231,24 @@ pub fn fp_branch_word(op: Opcode, code: u8, flag: bool) -> u32
         .finish()
 }
 
-// abs's first word: the immediate is written over the fields below rt.
-pub fn abs_first_word(source: RegisterSlot) -> u32
-    ensures { λ r. ⌜ r ≡ absFirstWord (registerNumber source) ⌝ }
+// abs's first word. The commit writes the immediate over the fields below rt, where the manual has sra's.
+pub fn abs_first_word(job: Job, source: RegisterSlot) -> u32
+    ensures { λ r. ⌜ r ≡ absFirstWord job (registerNumber source) ⌝ }
 {
-    InstructionBuilder::from_op(Opcode::Func(3))
-        .with_dest(RegisterSlot::AssemblerTemporary)
-        .with_temp(source)
-        .with_immediate(31)
-        .finish()
+    let dest = RegisterSlot::AssemblerTemporary;
+    match job {
+        Job::Commit => InstructionBuilder::from_op(Opcode::Func(3))
+            .with_dest(dest)
+            .with_temp(source)
+            .with_immediate(31)
+            .finish(),
+        Job::Manual => sham_word(
+            Opcode::Func(3),
+            ShamFields {
+                dest,
+                temp: source,
+                sham: 31,
+            },
+        ),
+    }
 }

@@ -15,6 +15,12 @@ here = le64Bytes 0
 abbrev pub register : ℕ → List ℕ
 register r = recordBytes 3 (here ++ r ∷ [])
 
+abbrev pub fpRegister : ℕ → List ℕ
+fpRegister r = recordBytes 4 (here ++ r ∷ [])
+
+abbrev pub symbol : List ℕ → List ℕ
+symbol name = recordBytes 8 (here ++ name)
+
 abbrev pub integer : ℕ → List ℕ
 integer n = recordBytes 5 (here ++ le64Bytes n)
 
@@ -46,29 +52,43 @@ abbrev pub «abs» : List ℕ
 abbrev pub «sll» : List ℕ
 «sll» = 115 ∷ 108 ∷ 108 ∷ []
 
+abbrev pub cvtSW : List ℕ
+cvtSW = 99 ∷ 118 ∷ 116 ∷ 46 ∷ 115 ∷ 46 ∷ 119 ∷ []
+
+abbrev pub «bc1t» : List ℕ
+«bc1t» = 98 ∷ 99 ∷ 49 ∷ 116 ∷ []
+
 abbrev pub mnemonic : List ℕ → List ℕ
 mnemonic name = recordBytes 32 (here ++ name)
 
+-- class, key, encoding, size and flag, without an alternative
+abbrev pub floatDescriptor : (class key encoding size flag : ℕ) → List ℕ → List ℕ
+floatDescriptor class key encoding size flag name = recordBytes 33 (class ∷ key ∷ encoding ∷ size ∷ flag ∷ 0 ∷ 0 ∷ 0 ∷ name)
+
 -- class, key and encoding; the other fields are 0
 abbrev pub descriptor : (class key encoding : ℕ) → List ℕ → List ℕ
-descriptor class key encoding name = recordBytes 33 (class ∷ key ∷ encoding ∷ 0 ∷ 0 ∷ 0 ∷ 0 ∷ 0 ∷ name)
+descriptor class key encoding name = floatDescriptor class key encoding 0 0 name
 
 abbrev pub zeros : ℕ → List ℕ
 zeros zero = []
 zeros (suc n) = 0 ∷ zeros n
 
--- a line in region 0 at 0x00400000, with empty buffers that have room for it
-abbrev pub line : (name descriptors tokens : List ℕ) → Call
-line name descriptors tokens = record {
+-- a line in a region at 0x00400000, with empty buffers that have room for it
+abbrev pub lineIn : (region : ℕ) → (name descriptors tokens : List ℕ) → Call
+lineIn region name descriptors tokens = record {
   token-list = tokens;
   mnemonic = mnemonic name;
   descriptors = descriptors;
   lent = record { region-data = zeros 20; pending = []; breakpoints = zeros 32 };
   numbers = record {
     counts = record { «data_len» = 0; pending = 0; breakpoints = 0 };
-    place = record { position = 0; region = 0; address = 0x00400000 };
+    place = record { position = 0; region = region; address = 0x00400000 };
   };
 }
+
+-- in region 0
+abbrev pub line : (name descriptors tokens : List ℕ) → Call
+line name descriptors tokens = lineIn 0 name descriptors tokens
 
 -- ---- what an accepted line leaves in these buffers
 

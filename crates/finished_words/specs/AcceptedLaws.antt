@@ -9,6 +9,7 @@ use mathlib.Core.Path.{_≡_, refl, sym, ap, _∙_}
 use lib.ListN.{length}
 use lib.Dec.{eqb}
 use borrow.Author.Tests.{eqb-true, eqb-false}
+use Rattle.jobs.specs.declared.Job.{Job}
 use Rattle.record.specs.Records.{places, firstBad}
 use Rattle.record.specs.RecordsLaws.{first-good}
 use Rattle.record.specs.declared.Layout.the-variants.{Good}
@@ -46,9 +47,9 @@ Keeps labels regions pending P = (q : ℕ) (d : List ℕ) → In pending q → K
 abbrev Among : (pending ps : List ℕ) → Type 0
 Among pending ps = (q : ℕ) → List·Memᴰ q ps → In pending q
 
-module _ (labels entry regions pending : List ℕ) (pass : buildVerdict labels entry regions pending ≡ Pass) where
-  accepted : Accepted labels entry regions pending
-  accepted = accepted-is labels entry regions pending pass
+module _ (job : Job) (labels entry regions pending : List ℕ) (pass : buildVerdict job labels entry regions pending ≡ Pass) where
+  accepted : Accepted job labels entry regions pending
+  accepted = accepted-is job labels entry regions pending pass
 
   -- each pending has a region and passed its checks
   pub has-region : (p : ℕ) → In pending p → pendingAt pending p .region < regionCount regions
@@ -59,10 +60,10 @@ module _ (labels entry regions pending : List ℕ) (pass : buildVerdict labels e
   in-turn : (p : ℕ) → In pending p → List·Memᴰ p (patchOrder regions pending)
   in-turn p m = in-order regions pending p (has-region p m) m
 
-  pub reaches : (p : ℕ) → In pending p → Reached labels pending (regionFor regions (pendingAt pending p)) (pendingAt pending p)
+  pub reaches : (p : ℕ) → In pending p → Reached job labels pending (regionFor regions (pendingAt pending p)) (pendingAt pending p)
   reaches p m =
-      reached labels pending (regionFor regions (pendingAt pending p)) (pendingAt pending p)
-      (each-pass (patchVerdict labels regions pending) (patchOrder regions pending) (accepted .patches-pass) p (in-turn p m))
+      reached job labels pending (regionFor regions (pendingAt pending p)) (pendingAt pending p)
+      (each-pass (patchVerdict job labels regions pending) (patchOrder regions pending) (accepted .patches-pass) p (in-turn p m))
 
   pub known : (p : ℕ) → In pending p → destination labels pending (pendingAt pending p .label) ≡ Known (destinationAt labels pending p)
   known p m = let r = reaches p m in r .known ∙ ap Known (sym (ap (addressOr 0) (r .known)))
@@ -70,7 +71,7 @@ module _ (labels entry regions pending : List ℕ) (pass : buildVerdict labels e
   pub dest-lt : (p : ℕ) → In pending p → destinationAt labels pending p < 2 ^ 32
   dest-lt p m = destination-lt labels pending (pendingAt pending p .label) (destinationAt labels pending p) (known p m)
 
-  pub in-range : (p : ℕ) → In pending p → inRange (kindOf pending p) (pcAt regions pending p) (destinationAt labels pending p) ≡ true
+  pub in-range : (p : ℕ) → In pending p → inRange job (kindOf pending p) (pcAt regions pending p) (destinationAt labels pending p) ≡ true
   in-range p m =
       let r = reaches p m in
       let e : destinationAt labels pending p ≡ r .dest = ap (addressOr 0) (r .known) in

@@ -10,6 +10,7 @@ use lib.ListN.{length}
 use lib.Dec.{ltb}
 use lib.Pow.{pow-pos, shr-shr, field, mod-mod-pow}
 use borrow.Author.Tests.{ltb-true, ltb-false}
+use Rattle.jobs.specs.declared.Job.{Job}
 use Rattle.field.specs.Field.{getField, setField}
 use Rattle.field.specs.FieldLaws.{get-set-above}
 use Rattle.record.specs.Bytes.{byteAt, le32}
@@ -90,15 +91,15 @@ module _ (d : List ℕ) (slot width v : ℕ) (room : slot + 4 ≤ length d) (fit
       go (inr k) (inl x) = absurd (omega (arith, k .0))
       go (inr k) (inr x) = rw (k .0) at (inside (i - slot) (k .1) (omega (arith, k .0)))
 
-module _ (labels entry regions pending : List ℕ) (pass : buildVerdict labels entry regions pending ≡ Pass) where
+module _ (job : Job) (labels entry regions pending : List ℕ) (pass : buildVerdict job labels entry regions pending ≡ Pass) where
   -- each bit outside every field is as at entry
   pub bits-same : Bytes regions → (i j : ℕ) → j < 8 → OutsideFields regions pending i j → bitAt (patchedRegions labels regions pending) i j ≡ bitAt regions i j
   unfolding writePending
   bits-same bytes i j h out =
-      at-exit labels entry regions pending pass (λ (d : List ℕ). Bytes d × (bitAt d i j ≡ bitAt regions i j))
+      at-exit job labels entry regions pending pass (λ (d : List ℕ). Bytes d × (bitAt d i j ≡ bitAt regions i j))
       (λ q d m k x.
-      let room = has-room labels entry regions pending pass q d m k in
-      let fits = value-fits (kindOf pending q) (pcAt regions pending q) (destinationAt labels pending q) (dest-lt labels entry regions pending pass q m) in (
+      let room = has-room job labels entry regions pending pass q d m k in
+      let fits = value-fits (kindOf pending q) (pcAt regions pending q) (destinationAt labels pending q) (dest-lt job labels entry regions pending pass q m) in (
         bytes-stay d (slotAt regions pending q) _ room (x .0),
         bit-stays d (slotAt regions pending q) (fieldWidth (kindOf pending q)) _ room fits (x .0) i j h (out q m) ∙ x .1,
       ))

@@ -4,6 +4,7 @@ use Prim.Native.Nat.{ℕ, _<_}
 use mathlib.Core.Path.{_≡_}
 use mathlib.Core.List.{List}
 use lib.ListN.{length}
+use Rattle.jobs.specs.declared.Job.{Job}
 use Rattle.record.specs.Bytes.{byteAt}
 use Rattle.refusal.specs.declared.Verdict.the-variants.{Pass}
 use Rattle.build_outcome.specs.Build.{buildVerdict, buildOutcome}
@@ -25,13 +26,13 @@ pub record Finished (labels regions pending exit : List ℕ) : Type 0 where
   pub words-are : Apart pending → wordsIn exit regions pending ≡ finishedWords labels regions pending
 
 -- "An accepted build is one to which no refusal is due"
-pub finished : (labels entry regions pending : List ℕ) → buildVerdict labels entry regions pending ≡ Pass
-    → Finished labels regions pending (buildOutcome labels entry regions pending .regions)
-finished labels entry regions pending pass =
-    rw (outcome-accepted labels entry regions pending pass .1)
+pub finished : (job : Job) (labels entry regions pending : List ℕ) → buildVerdict job labels entry regions pending ≡ Pass
+    → Finished labels regions pending (buildOutcome job labels entry regions pending .regions)
+finished job labels entry regions pending pass =
+    rw (outcome-accepted job labels entry regions pending pass .1)
     (record {
-      length-same = finished-kept labels entry regions pending pass .length-same;
-      bytes-same = bytes-same labels entry regions pending pass;
-      bits-same = bits-same labels entry regions pending pass;
-      words-are = words-finished labels entry regions pending pass;
+      length-same = finished-kept job labels entry regions pending pass .length-same;
+      bytes-same = bytes-same job labels entry regions pending pass;
+      bits-same = bits-same job labels entry regions pending pass;
+      words-are = words-finished job labels entry regions pending pass;
     })

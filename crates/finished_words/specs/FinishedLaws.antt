@@ -6,6 +6,7 @@ use mathlib.Core.Bool.{Bool, true, false}
 use mathlib.Core.Path.{_≡_, refl, ap, ap₂, _∙_}
 use lib.Dec.{eqb}
 use borrow.Author.Tests.{eqb-true, eqb-false}
+use Rattle.jobs.specs.declared.Job.{Job}
 use Rattle.record.specs.Bytes.{byteAt, le32}
 use Rattle.record.specs.Records.{places}
 use Rattle.refusal.specs.declared.Verdict.the-variants.{Pass}
@@ -23,12 +24,12 @@ pub map-same : {A : Type 0} {f g : ℕ → A} (ps : List ℕ) → ((p : ℕ) →
 map-same [] h = refl
 map-same {A} (p ∷ ps) h = ap₂ (λ (x : A) (xs : List A). x ∷ xs) (h p (List·Memᴰ·head refl)) (map-same ps (λ q m. h q (List·Memᴰ·tail m)))
 
-module _ (labels entry regions pending : List ℕ) (pass : buildVerdict labels entry regions pending ≡ Pass) where
+module _ (job : Job) (labels entry regions pending : List ℕ) (pass : buildVerdict job labels entry regions pending ≡ Pass) where
   pub bytes-same : (i : ℕ) → OutsidePatches regions pending i → byteAt (patchedRegions labels regions pending) i ≡ byteAt regions i
   unfolding writePending
   bytes-same i out =
-      at-exit labels entry regions pending pass (λ (d : List ℕ). byteAt d i ≡ byteAt regions i)
-      (λ q d m k h. byte-out d (slotAt regions pending q) _ (has-room labels entry regions pending pass q d m k) i (out q m) ∙ h) refl
+      at-exit job labels entry regions pending pass (λ (d : List ℕ). byteAt d i ≡ byteAt regions i)
+      (λ q d m k h. byte-out d (slotAt regions pending q) _ (has-room job labels entry regions pending pass q d m k) i (out q m) ∙ h) refl
 
   module _ (apart : Apart pending) (p : ℕ) (m : In pending p) where
     -- the word of the patch in a list, and what the patch makes of a word
@@ -39,20 +40,20 @@ module _ (labels entry regions pending : List ℕ) (pass : buildVerdict labels e
     made word = finishedWord (kindOf pending p) (pcAt regions pending p) (destinationAt labels pending p) word
 
     again : (word : ℕ) → made (made word) ≡ made word
-    again word = finished-again (kindOf pending p) (pcAt regions pending p) (destinationAt labels pending p) word (dest-lt labels entry regions pending pass p m)
+    again word = finished-again (kindOf pending p) (pcAt regions pending p) (destinationAt labels pending p) word (dest-lt job labels entry regions pending pass p m)
 
     -- the patch makes its word, and any other leaves it
     own : (d : List ℕ) → Kept regions d → wordOf (written labels regions pending p d) ≡ made (wordOf d)
     unfolding writePending
     own d k =
-        read-same d (slotAt regions pending p) _ (has-room labels entry regions pending pass p d m k)
-        ∙ finished-is (kindOf pending p) (pcAt regions pending p) (destinationAt labels pending p) (wordOf d) (dest-lt labels entry regions pending pass p m)
+        read-same d (slotAt regions pending p) _ (has-room job labels entry regions pending pass p d m k)
+        ∙ finished-is (kindOf pending p) (pcAt regions pending p) (destinationAt labels pending p) (wordOf d) (dest-lt job labels entry regions pending pass p m)
 
     other : (q : ℕ) (d : List ℕ) → In pending q → Kept regions d → (q ≡ p → ⊥) → wordOf (written labels regions pending q d) ≡ wordOf d
     unfolding writePending
     other q d mq k n =
-        read-other d (slotAt regions pending q) _ (has-room labels entry regions pending pass q d mq k) (slotAt regions pending p)
-        (slots-apart labels entry regions pending pass apart q p mq m n)
+        read-other d (slotAt regions pending q) _ (has-room job labels entry regions pending pass q d mq k) (slotAt regions pending p)
+        (slots-apart job labels entry regions pending pass apart q p mq m n)
 
     each : (q : ℕ) (d : List ℕ) → In pending q → Kept regions d
         → (wordOf (written labels regions pending q d) ≡ wordOf d) ⊎ (wordOf (written labels regions pending q d) ≡ made (wordOf d))
@@ -65,7 +66,7 @@ module _ (labels entry regions pending : List ℕ) (pass : buildVerdict labels e
     -- so before its turn it would make the same of it, and from its turn on has made it
     pub word-finished : wordOf (patchedRegions labels regions pending) ≡ finishedAt labels regions pending p
     word-finished =
-        from-turn labels entry regions pending pass (λ (d : List ℕ). made (wordOf d) ≡ made (wordOf regions)) (λ (d : List ℕ). wordOf d ≡ made (wordOf regions)) p m
+        from-turn job labels entry regions pending pass (λ (d : List ℕ). made (wordOf d) ≡ made (wordOf regions)) (λ (d : List ℕ). wordOf d ≡ made (wordOf regions)) p m
         (λ q d mq k h. ⊎-elim (λ e. ap made e ∙ h) (λ e. ap made e ∙ again (wordOf d) ∙ h) (each q d mq k))
         (λ d k h. own d k ∙ h)
         (λ q d mq k h. ⊎-elim (λ e. e ∙ h) (λ e. e ∙ ap made h ∙ again (wordOf regions)) (each q d mq k))

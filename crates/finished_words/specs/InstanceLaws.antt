@@ -4,6 +4,7 @@ use mathlib.Core.List.{[], _∷_}
 use mathlib.Core.Bool.{Bool, true, false, _||_}
 use mathlib.Core.Path.{_≡_, refl}
 use lib.Dec.{leb, ltb, eqb}
+use Rattle.jobs.specs.declared.Job.the-variants.{Commit}
 use Rattle.field.specs.Field.{getField}
 use Rattle.record.specs.Bytes.{all, sameBytes}
 use Rattle.record.specs.Records.{placesF, placesFrom, places, firstBad, firstBadOf, withinLimit}
@@ -45,7 +46,7 @@ bitClear i j p = leb (suc (8 * i + j)) (8 * slotAt regions pending p) || leb (8 
 
 -- ---- by computation: byte 12 begins the word between the first branch and the jump, and bit 4 of byte 11 is in the branch's opcode
 pub record Evaluated : Type 0 where
-  pub accepted : buildVerdict labels₁ entry regions pending ≡ Pass
+  pub accepted : buildVerdict Commit labels₁ entry regions pending ≡ Pass
   pub bytes-fit : all (λ (b : ℕ). ltb b 256) regions ≡ true
   pub cleared : all (λ (p : ℕ). all (clear p) (places pending)) (places pending) ≡ true
   pub byte-clear : all (byteClear 12) (places pending) ≡ true

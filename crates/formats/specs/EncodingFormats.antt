@@ -9,8 +9,9 @@ use lib.Bits.{bitOr}
 use Rattle.registers.specs.Numbers.{registerNumber as number, fpRegisterNumber as fpNumber}
 use Rattle.registers.specs.declared.RegisterSlot.the-variants.{AssemblerTemporary}
 use Rattle.instructions.specs.declared.Opcode.{Opcode}
-use Rattle.instructions.specs.declared.Size.{Size}
-use Rattle.instructions.specs.Bases.{sizeCode}
+use Rattle.jobs.specs.declared.Job.{Job}
+use Rattle.jobs.specs.declared.Format.{Format as Fmt}
+use Rattle.jobs.specs.Jobs.{sizeCode, formatOf}
 use Rattle.instructions.specs.declared.Alternative.{Alternative}
 use Rattle.instructions.specs.declared.Alternative.the-variants.{Nothing, Some}
 use Rattle.instructions.specs.declared.Encoding.{Encoding}
@@ -43,7 +44,7 @@ module _ (op : Opcode) where
   abbrev pub inJump : Format
   inJump = jump (baseFields op .opcode) (baseFields op .rs * 2 ^ 21 + baseFields op .rt * 2 ^ 16 + baseFields op .function)
 
-  abbrev pub inFloat : Size → (ft fs fd : ℕ) → Format
+  abbrev pub inFloat : Fmt → (ft fs fd : ℕ) → Format
   inFloat fmt ft fs fd = float (baseFields op .opcode) (sizeCode fmt) ft fs fd (baseFields op .function)
 
   -- below fs the manual has 0; a key that is a function stands there
@@ -94,51 +95,51 @@ offsetFormats op rt (Address (Label name)) = nameFormats $at ++ inImmediate op $
 
 -- ---- all encodings: x .0, x .1 and x .2 are the operands, left to right
 
-abbrev pub encodingFormats : (e : Encoding) → Opcode → AskedAll (encodingWants e) → List Format
+abbrev pub encodingFormats : Job → (e : Encoding) → Opcode → AskedAll (encodingWants e) → List Format
 -- ADDU rd, rs, rt
-encodingFormats Register op x = inRegister op (number (x .1)) (valueIn (x .2)) (number (x .0)) 0 ∷ []
+encodingFormats job Register op x = inRegister op (number (x .1)) (valueIn (x .2)) (number (x .0)) 0 ∷ []
 -- SLLV rd, rt, rs
-encodingFormats RegisterShift op x = inRegister op (number (x .2)) (number (x .1)) (number (x .0)) 0 ∷ []
+encodingFormats job RegisterShift op x = inRegister op (number (x .2)) (number (x .1)) (number (x .0)) 0 ∷ []
 -- JR rs
-encodingFormats Source op x = inRegister op (number (x .0)) (baseFields op .rt) 0 0 ∷ []
+encodingFormats job Source op x = inRegister op (number (x .0)) (baseFields op .rt) 0 0 ∷ []
 -- MFHI rd
-encodingFormats Destination op x = inRegister op (baseFields op .rs) (baseFields op .rt) (number (x .0)) 0 ∷ []
+encodingFormats job Destination op x = inRegister op (baseFields op .rs) (baseFields op .rt) (number (x .0)) 0 ∷ []
 -- MULT rs, rt
-encodingFormats Inputs op x = inputsFormats op (number (x .0)) (number (x .1)) (x .2)
+encodingFormats job Inputs op x = inputsFormats op (number (x .0)) (number (x .1)) (x .2)
 -- SLL rd, rt, sa: "shift amounts over 31 spill into rd", and have eight bits
-encodingFormats Sham op x = inRegister op (baseFields op .rs) (number (x .1)) (bitOr (number (x .0)) (x .2 % 256 / 32)) (x .2 % 32) ∷ []
+encodingFormats job Sham op x = inRegister op (baseFields op .rs) (number (x .1)) (bitOr (number (x .0)) (x .2 % 256 / 32)) (x .2 % 32) ∷ []
 -- BLTZ rs, offset
-encodingFormats SpecialBranch op x = inBranch op (number (x .0)) (baseFields op .rt) ∷ []
+encodingFormats job SpecialBranch op x = inBranch op (number (x .0)) (baseFields op .rt) ∷ []
 -- ADDI rt, rs, immediate
-encodingFormats (Immediate alt) op x = immediateFormats op alt (number (x .0)) (number (x .1)) (x .2)
+encodingFormats job (Immediate alt) op x = immediateFormats op alt (number (x .0)) (number (x .1)) (x .2)
 -- LUI rt, immediate: its low half
-encodingFormats LoadImmediate op x = inImmediate op (baseFields op .rs) (number (x .0)) (x .1 % 65536) ∷ []
+encodingFormats job LoadImmediate op x = inImmediate op (baseFields op .rs) (number (x .0)) (x .1 % 65536) ∷ []
 -- J target
-encodingFormats Jump op x = inJump op ∷ []
+encodingFormats job Jump op x = inJump op ∷ []
 -- BEQ rs, rt, offset
-encodingFormats Branch op x = inBranch op (number (x .0)) (valueIn (x .1)) ∷ []
+encodingFormats job Branch op x = inBranch op (number (x .0)) (valueIn (x .1)) ∷ []
 -- BLEZ rs, offset
-encodingFormats BranchZero op x = inBranch op (number (x .0)) (baseFields op .rt) ∷ []
+encodingFormats job BranchZero op x = inBranch op (number (x .0)) (baseFields op .rt) ∷ []
 -- SYSCALL
-encodingFormats Parameterless op x = inRegister op (baseFields op .rs) (baseFields op .rt) 0 0 ∷ []
+encodingFormats job Parameterless op x = inRegister op (baseFields op .rs) (baseFields op .rt) 0 0 ∷ []
 -- LW rt, offset(base)
-encodingFormats Offset op x = offsetFormats op (number (x .0)) (x .1)
+encodingFormats job Offset op x = offsetFormats op (number (x .0)) (x .1)
 -- LWC1 ft, offset(base)
-encodingFormats FPOffset op x = offsetFormats op (fpNumber (x .0)) (x .1)
+encodingFormats job FPOffset op x = offsetFormats op (fpNumber (x .0)) (x .1)
 -- ADD.fmt fd, fs, ft
-encodingFormats (FP3Register fmt) op x = inFloat op fmt (fpNumber (x .2)) (fpNumber (x .1)) (fpNumber (x .0)) ∷ []
+encodingFormats job (FP3Register fmt) op x = inFloat op (formatOf job fmt) (fpNumber (x .2)) (fpNumber (x .1)) (fpNumber (x .0)) ∷ []
 -- ABS.fmt fd, fs
-encodingFormats (FP2Register fmt) op x = inFloat op fmt (baseFields op .rt) (fpNumber (x .1)) (fpNumber (x .0)) ∷ []
+encodingFormats job (FP2Register fmt) op x = inFloat op (formatOf job fmt) (baseFields op .rt) (fpNumber (x .1)) (fpNumber (x .0)) ∷ []
 -- MOVF.fmt fd, fs, cc: codes modulo 8
-encodingFormats (FPMove fmt flag) op x =
-    floatMove (baseFields op .opcode) (sizeCode fmt) (x .2 % 8) (bit flag) (fpNumber (x .1)) (fpNumber (x .0)) (baseFields op .function) ∷ []
+encodingFormats job (FPMove fmt flag) op x =
+    floatMove (baseFields op .opcode) (sizeCode (formatOf job fmt)) (x .2 % 8) (bit flag) (fpNumber (x .1)) (fpNumber (x .0)) (baseFields op .function) ∷ []
 -- C.cond.fmt cc, fs, ft: codes modulo 8
-encodingFormats (FPCond fmt) op x =
-    floatCond (baseFields op .opcode) (sizeCode fmt) (fpNumber (x .2)) (fpNumber (x .1)) (x .0 % 8) (baseFields op .function) ∷ []
+encodingFormats job (FPCond fmt) op x =
+    floatCond (baseFields op .opcode) (sizeCode (formatOf job fmt)) (fpNumber (x .2)) (fpNumber (x .1)) (x .0 % 8) (baseFields op .function) ∷ []
 -- MTC1: its float register comes first and stands in rt, its general register in fs (a difference from the manual)
-encodingFormats (FPCrossMove true) op x = inCross op (fpNumber (x .0)) (number (x .1)) ∷ []
+encodingFormats job (FPCrossMove true) op x = inCross op (fpNumber (x .0)) (number (x .1)) ∷ []
 -- MFC1 rt, fs
-encodingFormats (FPCrossMove false) op x = inCross op (number (x .0)) (fpNumber (x .1)) ∷ []
+encodingFormats job (FPCrossMove false) op x = inCross op (number (x .0)) (fpNumber (x .1)) ∷ []
 -- BC1F cc, offset: "FPBranch codes over 7 spill upward", and have six bits
-encodingFormats (FPBranch flag) op x =
+encodingFormats job (FPBranch flag) op x =
     floatBranch (baseFields op .opcode) (bitOr (baseFields op .rs) (x .0 % 64 / 8)) (x .0 % 8) (bit flag) (baseFields op .function) ∷ []

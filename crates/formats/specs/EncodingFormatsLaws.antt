@@ -6,6 +6,8 @@ use mathlib.Core.List.{[], _∷_, _++_, append-assoc}
 use mathlib.Core.Option.{Option, none, some}
 use native.Mathlib.Omega.{arith}
 use lib.Dec.{lit<}
+use Rattle.jobs.specs.declared.Job.{Job}
+use Rattle.jobs.specs.Jobs.{formatOf}
 use Rattle.registers.specs.Numbers.{registerNumber as number, fpRegisterNumber as fpNumber}
 use Rattle.registers.specs.NumberLaws.{register-lt, fp-register-lt}
 use Rattle.registers.specs.declared.RegisterSlot.{RegisterSlot}
@@ -23,6 +25,7 @@ use Rattle.operand.specs.declared.OffsetOrLabel.{OffsetOrLabel}
 use Rattle.operand.specs.declared.OffsetOrLabel.the-variants.{Label as Address, Offset as Based}
 use Rattle.operand_list.specs.OperandLists.{AskedAll}
 use Rattle.emit_words.specs.Words.{destinationWord, inputsWord, registerWord, immediateWord}
+use Rattle.emit_pairs.specs.declared.Fault.the-variants.{Immediate as ImmediateFault}
 use Rattle.emit_pairs.specs.declared.Range.the-variants.{Within, Outside}
 use Rattle.emit_pairs.specs.Pairs.{plain, waiting, loadPairs, labelPairs, isImmediate, immediateRange, immediatePairs}
 use Rattle.emit_pairs.specs.Values.{constantPairs}
@@ -58,7 +61,7 @@ module _ (op : Opcode) where
     taken-or-loaded alt true = alone (one taken)
     taken-or-loaded alt false = loaded-then c AssemblerTemporary (plain (registerWord alt rt rs $at) ∷ []) (one (register-register alt rs $at hs (lit< tt) rt ht))
 
-    taken-alone : (b : Bool) → elim b [ true ↦ Within | false ↦ Outside ] ≡ Within
+    taken-alone : (b : Bool) → elim b [ true ↦ Within | false ↦ Outside ImmediateFault ] ≡ Within
         → LoadThen (elim b [ true ↦ none | false ↦ intoAt c ]) (inImmediate op rs rt (c % 65536) ∷ [])
         (wordsOf (elim b [ true ↦ plain (immediateWord op rs rt (c % 65536)) ∷ [] | false ↦ [] ]))
     taken-alone true e = alone (one taken)
@@ -97,32 +100,32 @@ module _ (op : Opcode) where
 
 -- ---- all encodings
 
-pub encoding-words : (e : Encoding) (op : Opcode) (x : AskedAll (encodingWants e)) → encodingRange e x ≡ Within
-    → LoadThen (encodingLoads e x) (encodingFormats e op x) (wordsOf (encodingPairs e op x))
-encoding-words Register op x h =
+pub encoding-words : (job : Job) (e : Encoding) (op : Opcode) (x : AskedAll (encodingWants e)) → encodingRange job e x ≡ Within
+    → LoadThen (encodingLoads e x) (encodingFormats job e op x) (wordsOf (encodingPairs job e op x))
+encoding-words job Register op x h =
     value-then (x .2) (λ n. inRegister op (number (x .1)) n (number (x .0)) 0 ∷ []) (λ n. plain (registerWord op (number (x .0)) (number (x .1)) n) ∷ [])
     (λ n k. one (register-register op (number (x .1)) n (register-lt (x .1)) k (number (x .0)) (register-lt (x .0))))
-encoding-words RegisterShift op x h = alone (one (register-register op (number (x .2)) (number (x .1)) (register-lt (x .2)) (register-lt (x .1)) (number (x .0)) (register-lt (x .0))))
-encoding-words Source op x h = alone (one (source-register op (number (x .0)) (register-lt (x .0))))
-encoding-words Destination op x h = alone (one (destination-register op (number (x .0)) (register-lt (x .0))))
-encoding-words Inputs op x h = inputs-words op (x .0) (x .1) (x .2)
-encoding-words Sham op x h = alone (one (sham-register op (number (x .0)) (number (x .1)) (x .2) (register-lt (x .0)) (register-lt (x .1))))
-encoding-words SpecialBranch op x h = alone (one (source-branch op (number (x .0)) (register-lt (x .0))))
-encoding-words (Immediate alt) op x h = immediate-words op (number (x .0)) (number (x .1)) (x .2) (register-lt (x .0)) (register-lt (x .1)) alt h
-encoding-words LoadImmediate op x h = alone (one (load-immediate op (number (x .0)) (x .1 % 65536) (register-lt (x .0)) (omega arith)))
-encoding-words Jump op x h = alone (one (base-jump op))
-encoding-words Branch op x h =
+encoding-words job RegisterShift op x h = alone (one (register-register op (number (x .2)) (number (x .1)) (register-lt (x .2)) (register-lt (x .1)) (number (x .0)) (register-lt (x .0))))
+encoding-words job Source op x h = alone (one (source-register op (number (x .0)) (register-lt (x .0))))
+encoding-words job Destination op x h = alone (one (destination-register op (number (x .0)) (register-lt (x .0))))
+encoding-words job Inputs op x h = inputs-words op (x .0) (x .1) (x .2)
+encoding-words job Sham op x h = alone (one (sham-register op (number (x .0)) (number (x .1)) (x .2) (register-lt (x .0)) (register-lt (x .1))))
+encoding-words job SpecialBranch op x h = alone (one (source-branch op (number (x .0)) (register-lt (x .0))))
+encoding-words job (Immediate alt) op x h = immediate-words op (number (x .0)) (number (x .1)) (x .2) (register-lt (x .0)) (register-lt (x .1)) alt h
+encoding-words job LoadImmediate op x h = alone (one (load-immediate op (number (x .0)) (x .1 % 65536) (register-lt (x .0)) (omega arith)))
+encoding-words job Jump op x h = alone (one (base-jump op))
+encoding-words job Branch op x h =
     value-then (x .1) (λ n. inBranch op (number (x .0)) n ∷ []) (λ n. waiting (inputsWord op (number (x .0)) n) BranchKind (x .2) ∷ [])
     (λ n k. one (inputs-branch op (number (x .0)) n (register-lt (x .0)) k))
-encoding-words BranchZero op x h = alone (one (source-branch op (number (x .0)) (register-lt (x .0))))
-encoding-words Parameterless op x h = alone (one (base-register op))
-encoding-words Offset op x h = offset-words op (number (x .0)) (register-lt (x .0)) (x .1)
-encoding-words FPOffset op x h = offset-words op (fpNumber (x .0)) (fp-register-lt (x .0)) (x .1)
-encoding-words (FP3Register fmt) op x h =
-    alone (one (three-float op fmt (fpNumber (x .0)) (fpNumber (x .1)) (fpNumber (x .2)) (fp-register-lt (x .0)) (fp-register-lt (x .1)) (fp-register-lt (x .2))))
-encoding-words (FP2Register fmt) op x h = alone (one (two-float op fmt (fpNumber (x .0)) (fpNumber (x .1)) (fp-register-lt (x .0)) (fp-register-lt (x .1))))
-encoding-words (FPMove fmt flag) op x h = alone (one (move-float op fmt (fpNumber (x .0)) (fpNumber (x .1)) (x .2) flag (fp-register-lt (x .0)) (fp-register-lt (x .1))))
-encoding-words (FPCond fmt) op x h = alone (one (cond-float op fmt (x .0) (fpNumber (x .1)) (fpNumber (x .2)) (fp-register-lt (x .1)) (fp-register-lt (x .2))))
-encoding-words (FPCrossMove true) op x h = alone (one (cross-float op (fpNumber (x .0)) (number (x .1)) (fp-register-lt (x .0)) (register-lt (x .1))))
-encoding-words (FPCrossMove false) op x h = alone (one (cross-float op (number (x .0)) (fpNumber (x .1)) (register-lt (x .0)) (fp-register-lt (x .1))))
-encoding-words (FPBranch flag) op x h = alone (one (branch-float op (x .0) flag))
+encoding-words job BranchZero op x h = alone (one (source-branch op (number (x .0)) (register-lt (x .0))))
+encoding-words job Parameterless op x h = alone (one (base-register op))
+encoding-words job Offset op x h = offset-words op (number (x .0)) (register-lt (x .0)) (x .1)
+encoding-words job FPOffset op x h = offset-words op (fpNumber (x .0)) (fp-register-lt (x .0)) (x .1)
+encoding-words job (FP3Register fmt) op x h =
+    alone (one (three-float op (formatOf job fmt) (fpNumber (x .0)) (fpNumber (x .1)) (fpNumber (x .2)) (fp-register-lt (x .0)) (fp-register-lt (x .1)) (fp-register-lt (x .2))))
+encoding-words job (FP2Register fmt) op x h = alone (one (two-float op (formatOf job fmt) (fpNumber (x .0)) (fpNumber (x .1)) (fp-register-lt (x .0)) (fp-register-lt (x .1))))
+encoding-words job (FPMove fmt flag) op x h = alone (one (move-float op (formatOf job fmt) (fpNumber (x .0)) (fpNumber (x .1)) (x .2) flag (fp-register-lt (x .0)) (fp-register-lt (x .1))))
+encoding-words job (FPCond fmt) op x h = alone (one (cond-float op (formatOf job fmt) (x .0) (fpNumber (x .1)) (fpNumber (x .2)) (fp-register-lt (x .1)) (fp-register-lt (x .2))))
+encoding-words job (FPCrossMove true) op x h = alone (one (cross-float op (fpNumber (x .0)) (number (x .1)) (fp-register-lt (x .0)) (register-lt (x .1))))
+encoding-words job (FPCrossMove false) op x h = alone (one (cross-float op (number (x .0)) (fpNumber (x .1)) (register-lt (x .0)) (fp-register-lt (x .1))))
+encoding-words job (FPBranch flag) op x h = alone (one (branch-float op (x .0) flag))

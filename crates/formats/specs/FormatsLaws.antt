@@ -7,9 +7,9 @@ use lib.Bits.{bitOr, or-lt}
 use Rattle.field.specs.Field.{getField}
 use Rattle.instructions.specs.declared.Opcode.{Opcode}
 use Rattle.instructions.specs.declared.Opcode.the-variants.{Op, Func, Special, Algebra, Cop1, Cop1I}
-use Rattle.instructions.specs.declared.Size.{Size}
-use Rattle.instructions.specs.Bases.{sizeCode}
-use Rattle.instructions.specs.BaseLaws.{size-lt}
+use Rattle.jobs.specs.declared.Format.{Format as Fmt}
+use Rattle.jobs.specs.Jobs.{sizeCode}
+use Rattle.jobs.specs.JobsLaws.{size-lt}
 use Rattle.word.specs.Layout.{Fields, layout, immediateLayout, baseFields}
 use Rattle.word.specs.LayoutLaws.{base-fits, get-opcode, get-rs, get-rt, get-immediate}
 use Rattle.emit_words.specs.Words.{baseWord, sourceWord, destinationWord, inputsWord, registerWord, shamWord, immediateWord, loadImmediateWord, fp3Word, fp2Word, codeBits, fpMoveWord, fpCondWord, fpCrossMoveWord, fpBranchWord}
@@ -141,10 +141,10 @@ sham-register op rd rt amount hd ht =
 
 -- ---- the float formats
 
-pub three-float : (op : Opcode) (fmt : Size) (fd fs ft : ℕ) → fd < 32 → fs < 32 → ft < 32 → Has (fp3Word op fmt fd fs ft) (inFloat op fmt ft fs fd)
+pub three-float : (op : Opcode) (fmt : Fmt) (fd fs ft : ℕ) → fd < 32 → fs < 32 → ft < 32 → Has (fp3Word op fmt fd fs ft) (inFloat op fmt ft fs fd)
 three-float op fmt fd fs ft hd hs ht = has-float (then-rs (then-rt (then-rd (then-sa (base op) fd hd) fs hs) ft ht) (sizeCode fmt) (size-lt fmt))
 
-pub two-float : (op : Opcode) (fmt : Size) (fd fs : ℕ) → fd < 32 → fs < 32 → Has (fp2Word op fmt fd fs) (inFloat op fmt (baseFields op .rt) fs fd)
+pub two-float : (op : Opcode) (fmt : Fmt) (fd fs : ℕ) → fd < 32 → fs < 32 → Has (fp2Word op fmt fd fs) (inFloat op fmt (baseFields op .rt) fs fd)
 two-float op fmt fd fs hd hs = has-float (then-rs (then-rd (then-sa (base op) fd hd) fs hs) (sizeCode fmt) (size-lt fmt))
 
 pub cross-float : (op : Opcode) (rt fs : ℕ) → rt < 32 → fs < 32 → Has (fpCrossMoveWord op rt fs) (inCross op rt fs)
@@ -167,7 +167,7 @@ low-code w cc e =
     let k = code-is cc false in
     (omega arith, omega arith)
 
-pub move-float : (op : Opcode) (fmt : Size) (fd fs cc : ℕ) (tf : Bool) → fd < 32 → fs < 32
+pub move-float : (op : Opcode) (fmt : Fmt) (fd fs cc : ℕ) (tf : Bool) → fd < 32 → fs < 32
     → Has (fpMoveWord op fmt fd fs cc tf) (floatMove (baseFields op .opcode) (sizeCode fmt) (cc % 8) (bit tf) fs fd (baseFields op .function))
 move-float op fmt fd fs cc tf hd hs =
     let l = then-rs (then-rt (then-rd (then-sa (base op) fd hd) fs hs) (codeBits cc tf % 32) (omega arith)) (sizeCode fmt) (size-lt fmt) in
@@ -178,7 +178,7 @@ move-float op fmt fd fs cc tf hd hs =
       reads = record { opcode-is = r .opcode-is; fmt-is = r .rs-is; cc-is = c .0; zero-is = c .1; tf-is = c .2; fs-is = r .rd-is; fd-is = r .sa-is; function-is = r .function-is };
     }
 
-pub cond-float : (op : Opcode) (fmt : Size) (cc fs ft : ℕ) → fs < 32 → ft < 32
+pub cond-float : (op : Opcode) (fmt : Fmt) (cc fs ft : ℕ) → fs < 32 → ft < 32
     → Has (fpCondWord op fmt cc fs ft) (floatCond (baseFields op .opcode) (sizeCode fmt) ft fs (cc % 8) (baseFields op .function))
 cond-float op fmt cc fs ft hs ht =
     let l = then-rs (then-rt (then-rd (then-sa (base op) (codeBits cc false % 32) (omega arith)) fs hs) ft ht) (sizeCode fmt) (size-lt fmt) in

@@ -5,6 +5,7 @@ use mathlib.Core.Bool.{true, false}
 use mathlib.Core.List.{List, [], _∷_, _++_}
 use mathlib.Core.Option.{Option, none, some}
 use lib.Dec.{eqb}
+use Rattle.jobs.specs.declared.Job.{Job}
 use Rattle.registers.specs.Numbers.{registerNumber}
 use Rattle.loading.specs.Load.{upperHalf, lowerHalf, isSmall}
 use Rattle.operand.specs.Answers.{Answer, Got}
@@ -34,12 +35,12 @@ loadingFormats none = []
 loadingFormats (some l) = loadFormats (l .constant) (registerNumber (l .register))
 
 -- the line's own instructions
-abbrev pub ownFormats : (o : Operation) → AskedAll (wantsOf o) → List Format
-ownFormats (encoded e op) x = encodingFormats e op x
-ownFormats (pseudo p) x = pseudoFormats p x
+abbrev pub ownFormats : Job → (o : Operation) → AskedAll (wantsOf o) → List Format
+ownFormats job (encoded e op) x = encodingFormats job e op x
+ownFormats job (pseudo p) x = pseudoFormats job p x
 
-abbrev pub lineFormats : (o : Operation) → AskedAll (wantsOf o) → List Format
-lineFormats o x = loadingFormats (loadsOf o x) ++ ownFormats o x
+abbrev pub lineFormats : Job → (o : Operation) → AskedAll (wantsOf o) → List Format
+lineFormats job o x = loadingFormats (loadsOf o x) ++ ownFormats job o x
 
 -- words that load a constant, where one is loaded, and behind them words in these formats and no others
 pub record LoadThen (loaded : Option LoadedConstant) (own : List Format) (ws : List ℕ) : Type 0 where
@@ -48,8 +49,8 @@ pub record LoadThen (loaded : Option LoadedConstant) (own : List Format) (ws : L
   pub rest-has : InFormats rest own
 
 -- of a line whose operands were read: what its words are, and the format of every one
-pub record LineWords (o : Operation) (read : Answer (AskedAll (wantsOf o))) (ws : List ℕ) : Type 0 where
+pub record LineWords (job : Job) (o : Operation) (read : Answer (AskedAll (wantsOf o))) (ws : List ℕ) : Type 0 where
   pub operands : AskedAll (wantsOf o)
   pub operands-are : read ≡ Got operands
-  pub loads : LoadThen (loadsOf o operands) (ownFormats o operands) ws
-  pub formats : InFormats ws (lineFormats o operands)
+  pub loads : LoadThen (loadsOf o operands) (ownFormats job o operands) ws
+  pub formats : InFormats ws (lineFormats job o operands)

@@ -2,6 +2,7 @@
 use Prim.Native.Nat.{ℕ}
 use mathlib.Core.List.{List, map}
 use mathlib.Core.Option.{Option}
+use Rattle.jobs.specs.declared.Job.{Job}
 use Rattle.instructions.specs.declared.Opcode.{Opcode}
 use Rattle.instructions.specs.declared.Encoding.{Encoding}
 use Rattle.pseudo_names.specs.declared.Pseudo.{Pseudo}
@@ -28,9 +29,9 @@ loadsOf (encoded e op) x = encodingLoads e x
 loadsOf (pseudo p) x = pseudoLoads p x
 
 -- its line in a token list, from an index on
-abbrev pub lineOf : Operation → List Token → ℕ → Line
-lineOf (encoded e op) ts i = encodingLine e op ts i
-lineOf (pseudo p) ts i = pseudoLine p ts i
+abbrev pub lineOf : Job → Operation → List Token → ℕ → Line
+lineOf job (encoded e op) ts i = encodingLine job e op ts i
+lineOf job (pseudo p) ts i = pseudoLine job p ts i
 
 -- a line's words
 abbrev pub wordsOf : List InstructionPair → List ℕ

@@ -3,6 +3,8 @@
 use Prim.Native.Nat.{ℕ}
 use mathlib.Core.Bool.{Bool, true, false}
 use mathlib.Core.List.{List, [], _∷_, _++_}
+use Rattle.jobs.specs.declared.Job.{Job}
+use Rattle.jobs.specs.declared.Job.the-variants.{Commit, Manual}
 use Rattle.registers.specs.Numbers.{registerNumber as number}
 use Rattle.instructions.specs.declared.Opcode.the-variants.{Op, Func}
 use Rattle.instructions.specs.declared.Alternative.the-variants.{Some}
@@ -39,38 +41,43 @@ abbrev pub addressFormats : (rt : ℕ) → AddressLabel → List Format
 addressFormats rt (Constant c) = []
 addressFormats rt (Label name) = nameFormats rt
 
+-- SRA $at, rt, 31; the commit's lost rd, sa and function to 31 (a difference)
+abbrev pub absFormat : Job → (rt : ℕ) → Format
+absFormat Commit rt = immediate 0 0 rt 31
+absFormat Manual rt = register 0 0 rt $at 31 3
+
 -- ---- all pseudo-instructions: x .0, x .1 and x .2 are the operands, left to right
 
-abbrev pub pseudoFormats : (p : Pseudo) → AskedAll (pseudoWants p) → List Format
+abbrev pub pseudoFormats : Job → (p : Pseudo) → AskedAll (pseudoWants p) → List Format
 -- SLL $zero, $zero, 0
-pseudoFormats Nop x = register 0 0 0 0 0 0 ∷ []
--- SRA that lost rd, sa and function to 31 (a difference), XOR rd, rs, $at, SUBU rd, rd, $at
-pseudoFormats Abs x =
-    immediate 0 0 (number (x .1)) 31 ∷ register 0 (number (x .1)) $at (number (x .0)) 0 38 ∷ register 0 (number (x .0)) $at (number (x .0)) 0 35 ∷ []
+pseudoFormats job Nop x = register 0 0 0 0 0 0 ∷ []
+-- SRA $at, rt, 31, XOR rd, rs, $at, SUBU rd, rd, $at
+pseudoFormats job Abs x =
+    absFormat job (number (x .1)) ∷ register 0 (number (x .1)) $at (number (x .0)) 0 38 ∷ register 0 (number (x .0)) $at (number (x .0)) 0 35 ∷ []
 -- a comparison into $at, BNE $at, $zero, offset where the result is to be true and BEQ where false
-pseudoFormats (BranchCustom greater result unsigned) x =
+pseudoFormats job (BranchCustom greater result unsigned) x =
     compared greater unsigned $at (number (x .0)) (valueIn (x .1)) ∷ immediate (elim result [ true ↦ 5 | false ↦ 4 ]) $at 0 0 ∷ []
-pseudoFormats (SetCustom greater result unsigned) x =
+pseudoFormats job (SetCustom greater result unsigned) x =
     compared greater unsigned (number (x .0)) (number (x .1)) (valueIn (x .2)) ∷ turnedFormats result (number (x .0))
 -- BEQ rs, $zero, offset
-pseudoFormats Beqz x = immediate 4 (number (x .0)) 0 0 ∷ []
+pseudoFormats job Beqz x = immediate 4 (number (x .0)) 0 0 ∷ []
 -- BNE rs, $zero, offset
-pseudoFormats Bnez x = immediate 5 (number (x .0)) 0 0 ∷ []
-pseudoFormats Seq x = differentFormats (number (x .0)) (number (x .1)) (valueIn (x .2)) ++ turnedFormats false (number (x .0))
-pseudoFormats Sne x = differentFormats (number (x .0)) (number (x .1)) (valueIn (x .2))
+pseudoFormats job Bnez x = immediate 5 (number (x .0)) 0 0 ∷ []
+pseudoFormats job Seq x = differentFormats (number (x .0)) (number (x .1)) (valueIn (x .2)) ++ turnedFormats false (number (x .0))
+pseudoFormats job Sne x = differentFormats (number (x .0)) (number (x .1)) (valueIn (x .2))
 -- SUB rd, $zero, rt
-pseudoFormats Neg x = register 0 0 (number (x .1)) (number (x .0)) 0 34 ∷ []
+pseudoFormats job Neg x = register 0 0 (number (x .1)) (number (x .0)) 0 34 ∷ []
 -- SUBU rd, $zero, rt
-pseudoFormats Negu x = register 0 0 (number (x .1)) (number (x .0)) 0 35 ∷ []
+pseudoFormats job Negu x = register 0 0 (number (x .1)) (number (x .0)) 0 35 ∷ []
 -- NOR rd, rs, $zero
-pseudoFormats Not x = register 0 (number (x .1)) 0 (number (x .0)) 0 39 ∷ []
+pseudoFormats job Not x = register 0 (number (x .1)) 0 (number (x .0)) 0 39 ∷ []
 -- all its words load
-pseudoFormats Li x = []
-pseudoFormats La x = addressFormats (number (x .0)) (x .1)
+pseudoFormats job Li x = []
+pseudoFormats job La x = addressFormats (number (x .0)) (x .1)
 -- ADDU rd, rs, $zero
-pseudoFormats Move x = register 0 (number (x .1)) 0 (number (x .0)) 0 33 ∷ []
+pseudoFormats job Move x = register 0 (number (x .1)) 0 (number (x .0)) 0 33 ∷ []
 -- BEQ $zero, $zero, offset
-pseudoFormats B x = immediate 4 0 0 0 ∷ []
+pseudoFormats job B x = immediate 4 0 0 0 ∷ []
 -- ADDI rt, rs, immediate or ADD rd, rs, $at; ADDIU or ADDU: "subi and subiu negate theirs first, wrapping"
-pseudoFormats Subi x = immediateFormats (Op 8) (Some (Func 32)) (number (x .0)) (number (x .1)) (withSign true (x .2))
-pseudoFormats Subiu x = immediateFormats (Op 9) (Some (Func 33)) (number (x .0)) (number (x .1)) (withSign true (x .2))
+pseudoFormats job Subi x = immediateFormats (Op 8) (Some (Func 32)) (number (x .0)) (number (x .1)) (withSign true (x .2))
+pseudoFormats job Subiu x = immediateFormats (Op 9) (Some (Func 33)) (number (x .0)) (number (x .1)) (withSign true (x .2))

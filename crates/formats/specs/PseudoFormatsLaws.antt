@@ -1,9 +1,12 @@
 -- The words of each pseudo-instruction load its constant, and then have its formats. Assumes nothing.
 use Prim.Native.Nat.{ℕ, _<_}
-use mathlib.Core.Path.{refl}
+use mathlib.Core.Path.{refl, subst}
 use mathlib.Core.Bool.{Bool, true, false}
 use mathlib.Core.List.{List, [], _∷_, _++_, append-assoc}
 use lib.Dec.{lit<}
+use Rattle.jobs.specs.declared.Job.{Job}
+use Rattle.jobs.specs.declared.Job.the-variants.{Commit, Manual}
+use Rattle.jobs.specs.Jobs.{absFirstWord}
 use Rattle.registers.specs.Numbers.{registerNumber as number}
 use Rattle.registers.specs.NumberLaws.{register-lt}
 use Rattle.registers.specs.declared.RegisterSlot.{RegisterSlot}
@@ -18,18 +21,19 @@ use Rattle.pending.specs.declared.InstructionLabelKind.the-variants.{Branch as 
 use Rattle.operands.specs.Operands.{withSign}
 use Rattle.operand_list.specs.OperandLists.{AskedAll}
 use Rattle.emit_words.specs.Words.{inputsWord, registerWord}
+use Rattle.emit_words.specs.WordsLaws.{abs-commit, abs-manual}
 use Rattle.emit_pairs.specs.declared.InstructionPair.{InstructionPair}
 use Rattle.emit_pairs.specs.Pairs.{plain, waiting, labelPairs}
 use Rattle.emit_pairs.specs.Values.{valuePairs, valueNumber}
 use Rattle.emit_pseudo.specs.PseudoWords.{compareWord, branchOpcode, turned, laPairs}
 use Rattle.emit_dispatch.specs.Wants.{pseudoWants}
 use Rattle.emit_dispatch.specs.Lines.{pseudoPairs}
-use Rattle.formats.specs.Formats.{Format, Has, InFormats, no-words, first, immediate}
-use Rattle.formats.specs.FormatsLaws.{base-register, source-branch, inputs-branch, register-register, has-immediate}
+use Rattle.formats.specs.Formats.{Format, Has, InFormats, no-words, first, register, immediate}
+use Rattle.formats.specs.FormatsLaws.{base-register, source-branch, inputs-branch, register-register, sham-register, has-immediate}
 use Rattle.formats.specs.Operations.{wordsOf}
 use Rattle.formats.specs.LineLoads.{labelLoads, pseudoLoads}
 use Rattle.formats.specs.EncodingFormats.{inRegister, $at}
-use Rattle.formats.specs.PseudoFormats.{compared, turnedFormats, differentFormats, addressFormats, pseudoFormats}
+use Rattle.formats.specs.PseudoFormats.{absFormat, compared, turnedFormats, differentFormats, addressFormats, pseudoFormats}
 use Rattle.formats.specs.LineFormats.{LoadThen}
 use Rattle.formats.specs.LineFormatsLaws.{one, alone, same-pairs, loaded-alone, value-then, named}
 use Rattle.formats.specs.EncodingFormatsLaws.{immediate-words}
@@ -66,37 +70,42 @@ unfolding labelPairs
 label-words r (Constant c) = loaded-alone c r
 label-words r (Label name) = alone (named r no-words)
 
-pub pseudo-words : (p : Pseudo) (x : AskedAll (pseudoWants p)) → LoadThen (pseudoLoads p x) (pseudoFormats p x) (wordsOf (pseudoPairs p x))
-pseudo-words Nop x = alone (one (base-register (Func 0)))
-pseudo-words Abs x =
-    alone (first (has-immediate 0 0 (number (x .1)) 31 (lit< tt) (lit< tt) (register-lt (x .1)) (lit< tt))
+-- abs's first word in either sort of job
+abs-has : (job : Job) (rt : ℕ) → rt < 32 → Has (absFirstWord job rt) (absFormat job rt)
+abs-has Commit rt h = subst (λ (w : ℕ). Has w (immediate 0 0 rt 31)) (abs-commit rt) (has-immediate 0 0 rt 31 (lit< tt) (lit< tt) h (lit< tt))
+abs-has Manual rt h = subst (λ (w : ℕ). Has w (register 0 0 rt $at 31 3)) (abs-manual rt) (sham-register (Func 3) $at rt 31 (lit< tt) h)
+
+pub pseudo-words : (job : Job) (p : Pseudo) (x : AskedAll (pseudoWants p)) → LoadThen (pseudoLoads p x) (pseudoFormats job p x) (wordsOf (pseudoPairs job p x))
+pseudo-words job Nop x = alone (one (base-register (Func 0)))
+pseudo-words job Abs x =
+    alone (first (abs-has job (number (x .1)) (register-lt (x .1)))
     (first (three-has 38 (x .0) (x .1) AssemblerTemporary) (one (three-has 35 (x .0) (x .0) AssemblerTemporary))))
-pseudo-words (BranchCustom greater result unsigned) x =
+pseudo-words job (BranchCustom greater result unsigned) x =
     value-then (x .1) (λ n. compared greater unsigned $at (number (x .0)) n ∷ immediate (elim result [ true ↦ 5 | false ↦ 4 ]) $at 0 0 ∷ [])
     (λ n. plain (compareWord greater unsigned $at (number (x .0)) n) ∷ waiting (inputsWord (branchOpcode result) $at 0) BranchKind (x .2) ∷ [])
     (λ n k. first (compare-has greater unsigned $at (number (x .0)) n (lit< tt) (register-lt (x .0)) k) (one (branch-has result)))
-pseudo-words (SetCustom greater result unsigned) x =
+pseudo-words job (SetCustom greater result unsigned) x =
     value-then (x .2) (λ n. compared greater unsigned (number (x .0)) (number (x .1)) n ∷ turnedFormats result (number (x .0)))
     (λ n. plain (compareWord greater unsigned (number (x .0)) (number (x .1)) n) ∷ turned result (x .0))
     (λ n k. first (compare-has greater unsigned (number (x .0)) (number (x .1)) n (register-lt (x .0)) (register-lt (x .1)) k) (turned-has result (x .0)))
-pseudo-words Beqz x = alone (one (source-branch (Op 4) (number (x .0)) (register-lt (x .0))))
-pseudo-words Bnez x = alone (one (source-branch (Op 5) (number (x .0)) (register-lt (x .0))))
-pseudo-words Seq x =
+pseudo-words job Beqz x = alone (one (source-branch (Op 4) (number (x .0)) (register-lt (x .0))))
+pseudo-words job Bnez x = alone (one (source-branch (Op 5) (number (x .0)) (register-lt (x .0))))
+pseudo-words job Seq x =
     let subu : ℕ → InstructionPair = λ n. plain (registerWord (Func 35) (number (x .0)) (number (x .1)) n) in
     let sltu = plain (registerWord (Func 41) (number (x .0)) 0 (number (x .0))) in
     same-pairs (append-assoc (valuePairs (x .2)) (subu (valueNumber (x .2)) ∷ sltu ∷ []) (turned false (x .0)))
     (value-then (x .2) (λ n. differentFormats (number (x .0)) (number (x .1)) n ++ turnedFormats false (number (x .0))) (λ n. subu n ∷ sltu ∷ turned false (x .0))
     (λ n k. differs (x .0) (x .1) n k (turned-has false (x .0))))
-pseudo-words Sne x =
+pseudo-words job Sne x =
     value-then (x .2) (λ n. differentFormats (number (x .0)) (number (x .1)) n)
     (λ n. plain (registerWord (Func 35) (number (x .0)) (number (x .1)) n) ∷ plain (registerWord (Func 41) (number (x .0)) 0 (number (x .0))) ∷ [])
     (λ n k. differs (x .0) (x .1) n k no-words)
-pseudo-words Neg x = alone (one (three-has 34 (x .0) Zero (x .1)))
-pseudo-words Negu x = alone (one (three-has 35 (x .0) Zero (x .1)))
-pseudo-words Not x = alone (one (three-has 39 (x .0) (x .1) Zero))
-pseudo-words Li x = loaded-alone (x .1) (x .0)
-pseudo-words La x = label-words (x .0) (x .1)
-pseudo-words Move x = alone (one (three-has 33 (x .0) (x .1) Zero))
-pseudo-words B x = alone (one (inputs-branch (Op 4) 0 0 (lit< tt) (lit< tt)))
-pseudo-words Subi x = immediate-words (Op 8) (number (x .0)) (number (x .1)) (withSign true (x .2)) (register-lt (x .0)) (register-lt (x .1)) (Some (Func 32)) refl
-pseudo-words Subiu x = immediate-words (Op 9) (number (x .0)) (number (x .1)) (withSign true (x .2)) (register-lt (x .0)) (register-lt (x .1)) (Some (Func 33)) refl
+pseudo-words job Neg x = alone (one (three-has 34 (x .0) Zero (x .1)))
+pseudo-words job Negu x = alone (one (three-has 35 (x .0) Zero (x .1)))
+pseudo-words job Not x = alone (one (three-has 39 (x .0) (x .1) Zero))
+pseudo-words job Li x = loaded-alone (x .1) (x .0)
+pseudo-words job La x = label-words (x .0) (x .1)
+pseudo-words job Move x = alone (one (three-has 33 (x .0) (x .1) Zero))
+pseudo-words job B x = alone (one (inputs-branch (Op 4) 0 0 (lit< tt) (lit< tt)))
+pseudo-words job Subi x = immediate-words (Op 8) (number (x .0)) (number (x .1)) (withSign true (x .2)) (register-lt (x .0)) (register-lt (x .1)) (Some (Func 32)) refl
+pseudo-words job Subiu x = immediate-words (Op 9) (number (x .0)) (number (x .1)) (withSign true (x .2)) (register-lt (x .0)) (register-lt (x .1)) (Some (Func 33)) refl

@@ -8,6 +8,7 @@ use lib.Dec.{leb}
 use lib.ListN.{length, take, length-take}
 use lib.Seq.{take-all}
 use borrow.Author.Tests.{leb-true, leb-false}
+use Rattle.jobs.specs.declared.Job.{Job}
 use Rattle.record.specs.Records.{places, limit}
 use Rattle.record.specs.declared.Layout.the-variants.{Good}
 use Rattle.refusal.specs.Verdicts.{andThen, firstStop, layoutVerdict}
@@ -28,33 +29,33 @@ use Rattle.binary_builder.specs.OrderLaws.{orderOn, order-all, regionNumbered, 
 use Rattle.binary_builder.specs.WritesLaws.{kept-region, writes-step, writes-end}
 use Rattle.image_text.specs.Image.{outcomeText, buildText}
 
-module _ (labels regions pending : List ℕ) where
+module _ (job : Job) (labels regions pending : List ℕ) where
   -- the patches of the regions from r on leave the records as they are but for their data
   kept-from : (n r : ℕ) (d : List ℕ) → r + n ≡ regionCount regions → Kept regions d
-      → firstStop (patchVerdict labels regions pending) (orderOn regions pending r) ≡ Pass
+      → firstStop (patchVerdict job labels regions pending) (orderOn regions pending r) ≡ Pass
       → Kept regions (writePatches labels regions pending (orderOn regions pending r) d)
   kept-from zero r d e k v = rw (writes-end labels regions pending r d (omega arith)) k
   kept-from (suc n) r d e k v =
       let g = regionNumbered regions r in
       let h : r < regionCount regions = omega arith in
       let w = writeRegion labels pending g (keep pending r (places pending)) d in
-      let b = both-pass _ _ (sym (checks-step labels regions pending r g _ _ h refl refl refl) ∙ v) in
+      let b = both-pass _ _ (sym (checks-step job labels regions pending r g _ _ h refl refl refl) ∙ v) in
       rw (writes-step labels regions pending r g d w h refl refl)
-      (kept-from n (r + 1) w (omega arith) (kept-region labels regions pending r h g (keep pending r (places pending)) d w refl k (b .0) refl) (b .1))
+      (kept-from n (r + 1) w (omega arith) (kept-region labels regions pending r h g (keep pending r (places pending)) d w refl k (record { job = job; pass = b .0 }) refl) (b .1))
 
-module _ (labels entry regions pending : List ℕ) where
-  finished : buildVerdict labels entry regions pending ≡ Pass → Kept regions (patchedRegions labels regions pending)
+module _ (job : Job) (labels entry regions pending : List ℕ) where
+  finished : buildVerdict job labels entry regions pending ≡ Pass → Kept regions (patchedRegions labels regions pending)
   finished e =
-      let a = accepted-is labels entry regions pending e in
+      let a = accepted-is job labels entry regions pending e in
       rw (order-all regions pending)
-      (kept-from labels regions pending (regionCount regions) 0 regions (omega arith) (kept-first regions (a .regions-good)) (rw (order-all regions pending) at (a .patches-pass)))
+      (kept-from job labels regions pending (regionCount regions) 0 regions (omega arith) (kept-first regions (a .regions-good)) (rw (order-all regions pending) at (a .patches-pass)))
 
-  pub accepted-layout : (address : ℕ) → buildOutcome labels entry regions pending .answer ≡ Entry address → regionLayout (buildOutcome labels entry regions pending .regions) ≡ Good
-  accepted-layout address h = go (buildVerdict labels entry regions pending) refl
+  pub accepted-layout : (address : ℕ) → buildOutcome job labels entry regions pending .answer ≡ Entry address → regionLayout (buildOutcome job labels entry regions pending .regions) ≡ Good
+  accepted-layout address h = go (buildVerdict job labels entry regions pending) refl
     where
-      go : (v : Verdict) → buildVerdict labels entry regions pending ≡ v → regionLayout (buildOutcome labels entry regions pending .regions) ≡ Good
-      go Pass e = rw (outcome-accepted labels entry regions pending e .1) (finished e .layout-good)
-      go (Stop r) e = cc (outcome-refused labels entry regions pending r e .0)
+      go : (v : Verdict) → buildVerdict job labels entry regions pending ≡ v → regionLayout (buildOutcome job labels entry regions pending .regions) ≡ Good
+      go Pass e = rw (outcome-accepted job labels entry regions pending e .1) (finished e .layout-good)
+      go (Stop r) e = cc (outcome-refused job labels entry regions pending r e .0)
 
 -- what was refused does not show what follows
 stopped : (a b v w : Verdict) (r : Refusal) (address : ℕ) (d₁ r₁ d₂ r₂ : List ℕ) → let o₁ = outcomeBy (andThen (andThen a (andThen b (Stop r))) v) address d₁ r₁ in
@@ -63,17 +64,17 @@ stopped Pass Pass v w r address d₁ r₁ d₂ r₂ = refl
 stopped Pass (Stop b) v w r address d₁ r₁ d₂ r₂ = refl
 stopped (Stop a) b v w r address d₁ r₁ d₂ r₂ = refl
 
-module _ (labels entry pending : List ℕ) where
-  long-text : (r s : List ℕ) → limit < length r → limit < length s → buildText labels entry r pending ≡ buildText labels entry s pending
+module _ (job : Job) (labels entry pending : List ℕ) where
+  long-text : (r s : List ℕ) → limit < length r → limit < length s → buildText job labels entry r pending ≡ buildText job labels entry s pending
   unfolding buildOutcome buildVerdict layoutVerdicts
   long-text r s h k = rw (layout-long r h, layout-long s k) (stopped (layoutVerdict 0 (labelLayout labels)) (layoutVerdict 1 (entryLayout entry)) _ _ _ _ _ _ _ _)
 
   -- one byte more than the limit is as good as the whole list
-  pub held-text : (r : List ℕ) → buildText labels entry (take 65537 r) pending ≡ buildText labels entry r pending
+  pub held-text : (r : List ℕ) → buildText job labels entry (take 65537 r) pending ≡ buildText job labels entry r pending
   held-text r = go (leb (length r) 65537) refl
     where
-      go : (b : Bool) → leb (length r) 65537 ≡ b → buildText labels entry (take 65537 r) pending ≡ buildText labels entry r pending
-      go true e = ap (λ (s : List ℕ). buildText labels entry s pending) (take-all 65537 r (leb-true (length r) 65537 e))
+      go : (b : Bool) → leb (length r) 65537 ≡ b → buildText job labels entry (take 65537 r) pending ≡ buildText job labels entry r pending
+      go true e = ap (λ (s : List ℕ). buildText job labels entry s pending) (take-all 65537 r (leb-true (length r) 65537 e))
       go false e =
           let h = leb-false (length r) 65537 e in
           long-text (take 65537 r) r (simp length-take (omega arith)) (omega arith)

@@ -1,7 +1,9 @@
--- What `finish` prints (document 01, `finish`). Assumes nothing.
+-- What `finish` prints (document 01, `finish`), in either sort of job (document 02, P5). Assumes nothing.
 use Prim.Native.Nat.{ℕ, _+_}
 use mathlib.Core.List.{List, [], _∷_, _++_}
 use Rattle.io.specs.Digits.{digits}
+use Rattle.jobs.specs.declared.Job.{Job}
+use Rattle.jobs.specs.declared.Job.the-variants.{Commit}
 use Rattle.record.specs.Bytes.{le32}
 use Rattle.pseudo_names.specs.PseudoNames.{bytesOf}
 use Rattle.refusal.specs.Numbers.{numbered}
@@ -54,9 +56,13 @@ abbrev pub outcomeText : Built → (regions : List ℕ) → List ℕ
 outcomeText (Entry entry) regions = imageText entry (imageOf regions)
 outcomeText (Refused r) regions = refusedLine (numbered r)
 
-abbrev pub buildText : (labels entry regions pending : List ℕ) → List ℕ
-buildText labels entry regions pending = let o = buildOutcome labels entry regions pending in outcomeText (o .answer) (o .regions)
+abbrev pub buildText : Job → (labels entry regions pending : List ℕ) → List ℕ
+buildText job labels entry regions pending = let o = buildOutcome job labels entry regions pending in outcomeText (o .answer) (o .regions)
 
 -- "reads the build's buffers from standard input in argument order: labels, entry, regions, pending"
-unfoldable pub finishText : List ℕ → List ℕ
-finishText s = buildText (listOf 0 s) (listOf 1 s) (listOf 2 s) (listOf 3 s)
+unfoldable pub finishTextBy : Job → List ℕ → List ℕ
+finishTextBy job s = buildText job (listOf 0 s) (listOf 1 s) (listOf 2 s) (listOf 3 s)
+
+-- what `finish` prints: its build is the commit's
+abbrev pub finishText : List ℕ → List ℕ
+finishText = finishTextBy Commit

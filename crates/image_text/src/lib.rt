@@ -1,12 +1,13 @@
-// What `finish` does (document 01), from the bytes that it reads to those that it prints.
+// What `finish` does (document 01), and `finish_manual` (document 02, P5), from the bytes that each reads to those that it prints.
 ghost use mathlib.Core.Path.{_≡_};
 ghost use Prim.Native.Nat.{_+_, _≤_, _<_};
 ghost use lib.ListN.{length};
 ghost use Rattle.regions.specs.Regions.{regionLayout, regionCount, regionPlace};
 ghost use Rattle.reading.specs.Reading.{imageRegion, imageOf};
 ghost use Rattle.text.specs.Text.{Put};
-ghost use Rattle.image_text.specs.Image.{dataLines, regionText, regionsText, buildText, finishText};
+ghost use Rattle.image_text.specs.Image.{dataLines, regionText, regionsText, buildText, finishTextBy, finishText};
 use build_outcome::Built;
+use jobs::Job;
 use record::Layout;
 
 mod lines;
@@ -64,6 +65,7 @@ fn put_regions(out: &mut [u8], at: usize, regions: &[u8]) -> usize
 
 // The image of the patched regions, or the refusal alone.
 fn put_build(
+    job: Job,
     out: &mut [u8],
     labels: &[u8],
     entry: &[u8],
@@ -72,9 +74,9 @@ fn put_build(
 ) -> usize
     requires { ⌜ 400000 ≤ length (now out) ⌝ }
     ensures { λ r. ⌜ Put (now (out .entry)) 0
-        (buildText (now (labels .entry)) (now (entry .entry)) (now (regions .entry)) (now (pending .entry))) (now (out .exit)) r ⌝ }
+        (buildText job (now (labels .entry)) (now (entry .entry)) (now (regions .entry)) (now (pending .entry))) (now (out .exit)) r ⌝ }
 {
-    match binary_builder::build(labels, entry, &mut *regions, pending) {
+    match binary_builder::build_for(job, labels, entry, &mut *regions, pending) {
         Built::Refused(refusal) => text::put_refusal(out, 0, refusal::numbers(refusal)),
         Built::Entry(address) => {
             let at = lines::put_entry(&mut *out, 0, address);
@@ -83,17 +85,32 @@ fn put_build(
     }
 }
 
-// The text that `finish` prints for an input.
-pub fn finish(input: &[u8], out: &mut [u8; text::MOST]) -> usize
-    ensures { λ r. ⌜ Put (now (out .entry)) 0 (finishText (now (input .entry))) (now (out .exit)) r ⌝ }
+// The text of an input's build in a job.
+fn put_input(job: Job, input: &[u8], out: &mut [u8; text::MOST]) -> usize
+    ensures { λ r. ⌜ Put (now (out .entry)) 0 (finishTextBy job (now (input .entry))) (now (out .exit)) r ⌝ }
 {
     let mut regions = [0u8; record::LIMIT + 1];
     let count = input::hold(&mut regions, input::list_of(input, 2));
     put_build(
+        job,
         out,
         input::list_of(input, 0),
         input::list_of(input, 1),
         &mut regions[..count],
         input::list_of(input, 3),
     )
+}
+
+// The text that `finish` prints for an input.
+pub fn finish(input: &[u8], out: &mut [u8; text::MOST]) -> usize
+    ensures { λ r. ⌜ Put (now (out .entry)) 0 (finishText (now (input .entry))) (now (out .exit)) r ⌝ }
+{
+    put_input(Job::Commit, input, out)
+}
+
+// The text that `finish_manual` prints for an input.
+pub fn finish_manual(input: &[u8], out: &mut [u8; text::MOST]) -> usize
+    ensures { λ r. ⌜ Put (now (out .entry)) 0 (finishTextBy Job.Manual (now (input .entry))) (now (out .exit)) r ⌝ }
+{
+    put_input(Job::Manual, input, out)
 }

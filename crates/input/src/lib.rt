@@ -2,13 +2,14 @@
 ghost use mathlib.Core.Path.{_≡_};
 ghost use Prim.Native.Nat.{_+_, _≤_, min};
 ghost use lib.ListN.{length, take};
+ghost use Rattle.record.specs.Bytes.{byteAt};
 ghost use Rattle.record.specs.Stores.{append};
 ghost use Rattle.input.specs.Input.{listEnd, listIn, behindList, behindLists, listOf, wordOrZero, halfOrZero};
 
 // Room for the input of a program, which reads no more.
 pub const MOST: usize = 0x10_0000;
 
-fn least(a: usize, b: usize) -> usize
+pub fn least(a: usize, b: usize) -> usize
     ensures { λ r. ⌜ r ≡ min a b ⌝ }
 {
     if a < b { a } else { b }
@@ -72,6 +73,13 @@ pub fn half_or_zero(input: &[u8], at: usize) -> u16
         return 0;
     }
     record::half_at(input, at) as u16
+}
+
+// The byte at `at`, or 0 where it is missing.
+pub fn byte_or_zero(input: &[u8], at: usize) -> u8
+    ensures { λ r. ⌜ r ≡ byteAt (now (input .entry)) at ⌝ }
+{
+    if at < input.len() { input[at] } else { 0 }
 }
 
 // Copies the list, or as much of it as there is room for, and answers how many bytes.

@@ -1,6 +1,6 @@
 // Opcodes, float formats and encodings of the instruction table (instructions.rs), and the word each opcode starts from.
 ghost use mathlib.Core.Path.{_≡_};
-ghost use Rattle.instructions.specs.Bases.{instructionBase, sizeCode};
+ghost use Rattle.instructions.specs.Bases.{instructionBase};
 
 // The six opcode classes, each with its key.
 pub enum Opcode {
@@ -60,16 +60,5 @@ pub fn instruction_base(op: Opcode) -> u32
         Opcode::Algebra(key) => (key % 64) as u32 + 28 * 0x0400_0000,
         Opcode::Cop1(key) => (key % 64) as u32 + 17 * 0x0400_0000,
         Opcode::Cop1I(key) => (key % 32) as u32 * 0x20_0000 + 17 * 0x0400_0000,
-    }
-}
-
-// The code of a float format, as the field fmt holds it.
-pub fn size_code(fmt: Size) -> u32
-    ensures { λ r. ⌜ r ≡ sizeCode fmt ⌝ }
-{
-    match fmt {
-        Size::Single => 16,
-        Size::Double => 17,
-        Size::Word => 18,
     }
 }

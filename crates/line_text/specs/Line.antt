@@ -1,7 +1,11 @@
 -- What `emit_line` prints of an emit call: the refusal where there is one, the position, the fill counts, an accepted line's form, and the
--- three buffers after the call. Assumes nothing.
+-- three buffers after the call; or that there is no such job. Assumes nothing.
 use Prim.Native.Nat.{ℕ}
-use mathlib.Core.List.{List, [], _++_}
+use mathlib.Core.List.{List, [], _∷_, _++_}
+use lib.ListN.{getD}
+use Rattle.jobs.specs.declared.Job.{Job}
+use Rattle.jobs.specs.declared.Job.the-variants.{Commit, Manual}
+use Rattle.record.specs.Bytes.{byteAt}
 use Rattle.pseudo_names.specs.PseudoNames.{bytesOf}
 use Rattle.refusal.specs.Numbers.{numbered}
 use Rattle.loading.specs.declared.LoadForm.{LoadForm}
@@ -15,6 +19,8 @@ use Rattle.emit_outcome.specs.Call.{Lent, EmitOutcome, lentOf, callOf}
 use Rattle.emit_outcome.specs.Emit.{emitOutcome}
 use Rattle.input.specs.Input.{wordOrZero, halfOrZero, behindLists, listOf, held}
 use Rattle.text.specs.Text.{field, lastField, hexBytes, refusedLine}
+use Rattle.line_text.specs.declared.JobAsked.{JobAsked}
+use Rattle.line_text.specs.declared.JobAsked.the-variants.{Of, NoSuch}
 
 -- ---- the text of an outcome
 abbrev pub positionLine : ℕ → List ℕ
@@ -64,10 +70,28 @@ placeIn s = record { position = wordOrZero s 12; region = halfOrZero s 16; addre
 abbrev pub numbersIn : List ℕ → LineNumbers
 numbersIn s = record { counts = countsIn s; place = placeIn s }
 
-abbrev pub callText : List ℕ → Lent → List ℕ
-callText s lent =
+abbrev pub callText : Job → List ℕ → Lent → List ℕ
+callText job s lent =
     let rest = behindLists 6 s in
-    outcomeText (emitOutcome (callOf (listOf 0 s) (listOf 1 s) (listOf 2 s) lent (countsIn rest) (placeIn rest)))
+    outcomeText (emitOutcome job (callOf (listOf 0 s) (listOf 1 s) (listOf 2 s) lent (countsIn rest) (placeIn rest)))
+
+-- with the three buffers that the call may change as they are held
+unfoldable pub jobText : Job → List ℕ → List ℕ
+jobText job s = callText job s (lentOf (held (listOf 3 s)) (held (listOf 4 s)) (held (listOf 5 s)))
+
+-- ---- the job of an input (document 02, P5)
+-- the jobs in the order of their bytes
+abbrev pub jobNumbered : ℕ → JobAsked
+jobNumbered n = getD (Of Commit ∷ Of Manual ∷ []) n NoSuch
+
+-- the byte behind the address, 0 where it is missing
+abbrev pub jobIn : List ℕ → JobAsked
+jobIn s = jobNumbered (byteAt (behindLists 6 s) 22)
+
+-- a byte that is no job's goes before everything else
+abbrev pub askedText : List ℕ → JobAsked → List ℕ
+askedText s (Of job) = jobText job s
+askedText s NoSuch = bytesOf "no such job\n"
 
 unfoldable pub lineText : List ℕ → List ℕ
-lineText s = callText s (lentOf (held (listOf 3 s)) (held (listOf 4 s)) (held (listOf 5 s)))
+lineText s = askedText s (jobIn s)

@@ -1,20 +1,27 @@
-// What `emit_line` does, from the bytes that it reads to those that it prints: an emit call's six buffers and its numbers, and what the call
-// leaves.
+// What `emit_line` does, from the bytes that it reads to those that it prints: an emit call's six buffers, its numbers and its job, and what
+// the call leaves.
 ghost use mathlib.Core.Path.{_≡_};
 ghost use Prim.Native.Nat.{_≤_};
 ghost use lib.ListN.{length};
 ghost use Rattle.emit_outcome.specs.Call.{lentOf, outcomeOf};
 ghost use Rattle.text.specs.Text.{Put};
-ghost use Rattle.line_text.specs.Line.{numbersIn, outcomeText, callText, lineText};
+ghost use Rattle.line_text.specs.Line.{numbersIn, outcomeText, callText, jobText, jobIn, lineText};
 use emit_outcome::Emitted;
 use emit_outcome::FillCounts;
 use emit_outcome::LineNumbers;
 use emit_outcome::LinePlace;
+use jobs::Job;
 
 mod lines;
 
+// What the byte of the job asks for.
+pub enum JobAsked {
+    Of(Job),
+    NoSuch,
+}
+
 // The numbers that stand behind the buffers.
-pub fn numbers_in(input: &[u8]) -> LineNumbers
+fn numbers_in(input: &[u8]) -> LineNumbers
     ensures { λ r. ⌜ r ≡ numbersIn (now (input .entry)) ⌝ }
 {
     let counts = FillCounts {
@@ -53,6 +60,7 @@ fn put_emitted(
 
 // Makes the call of an input whose last three buffers are these.
 fn put_call(
+    job: Job,
     out: &mut [u8],
     input: &[u8],
     data: &mut [u8],
@@ -61,12 +69,13 @@ fn put_call(
 ) -> usize
     requires { ⌜ (400000 ≤ length (now out)) × (length (now «data») ≤ 65537) × (length (now pending) ≤ 65537) × (length (now breakpoints) ≤ 65537) ⌝ }
     ensures { λ r. ⌜ Put (now (out .entry)) 0
-        (callText (now (input .entry)) (lentOf (now («data» .entry)) (now (pending .entry)) (now (breakpoints .entry)))) (now (out .exit)) r ⌝ }
+        (callText job (now (input .entry)) (lentOf (now («data» .entry)) (now (pending .entry)) (now (breakpoints .entry)))) (now (out .exit)) r ⌝ }
 {
     let numbers = numbers_in(input::behind_lists(input, 6));
     let counts = numbers.counts;
     let place = numbers.place;
-    let emitted = emit::do_line(
+    let emitted = emit::do_job_line(
+        job,
         counts,
         input::list_of(input, 0),
         input::list_of(input, 1),
@@ -79,9 +88,9 @@ fn put_call(
     put_emitted(out, emitted, &*data, &*pending, &*breakpoints)
 }
 
-// The text that `emit_line` prints for an input.
-pub fn emit_line(input: &[u8], out: &mut [u8; text::MOST]) -> usize
-    ensures { λ r. ⌜ Put (now (out .entry)) 0 (lineText (now (input .entry))) (now (out .exit)) r ⌝ }
+// The text of an input's call in a job.
+fn put_job(job: Job, input: &[u8], out: &mut [u8; text::MOST]) -> usize
+    ensures { λ r. ⌜ Put (now (out .entry)) 0 (jobText job (now (input .entry))) (now (out .exit)) r ⌝ }
 {
     let mut data = [0u8; record::LIMIT + 1];
     let mut pending = [0u8; record::LIMIT + 1];
@@ -90,10 +99,31 @@ pub fn emit_line(input: &[u8], out: &mut [u8; text::MOST]) -> usize
     let p = input::hold(&mut pending, input::list_of(input, 4));
     let b = input::hold(&mut breakpoints, input::list_of(input, 5));
     put_call(
+        job,
         out,
         input,
         &mut data[..d],
         &mut pending[..p],
         &mut breakpoints[..b],
     )
+}
+
+fn job_in(input: &[u8]) -> JobAsked
+    ensures { λ r. ⌜ r ≡ jobIn (now (input .entry)) ⌝ }
+{
+    match input::byte_or_zero(input::behind_lists(input, 6), 22) {
+        0 => JobAsked::Of(Job::Commit),
+        1 => JobAsked::Of(Job::Manual),
+        _ => JobAsked::NoSuch,
+    }
+}
+
+// The text that `emit_line` prints for an input.
+pub fn emit_line(input: &[u8], out: &mut [u8; text::MOST]) -> usize
+    ensures { λ r. ⌜ Put (now (out .entry)) 0 (lineText (now (input .entry))) (now (out .exit)) r ⌝ }
+{
+    match job_in(input) {
+        JobAsked::Of(job) => put_job(job, input, out),
+        JobAsked::NoSuch => text::put_text(out, 0, b"no such job\n"),
+    }
 }

@@ -12,8 +12,8 @@ use Rattle.text_reader.specs.declared.TextRead.{TextRead}
 use Rattle.text_reader.specs.declared.TextRead.the-variants.{Read, Refused}
 use Rattle.text_reader.specs.Outcome.{TextOutcome, readText}
 
--- "The answer is the token buffer's new fill" (requests, P7): number 0 and the fill as the last word; of a refusal, as of a refused
--- build, "its number, a location and numbers a and b", and the last word 0
+-- an accepted text has number 0 and the token buffer's new fill as the last word (docs/DECISIONS.md); a refusal has, as a refused
+-- build has, "its number, a location and numbers a and b", and the last word 0
 abbrev pub readWords : TextRead → List ℕ
 readWords (Read fill) = answerWords 0 zeroLocation (pos 0) 0 fill
 readWords (Refused r) = let n = numbered r in answerWords (n .number) (n .location) (n .a) (n .b) 0

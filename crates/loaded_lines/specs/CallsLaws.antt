@@ -5,6 +5,7 @@ use mathlib.Core.Path.{_≡_, refl, sym, ap, _∙_, subst}
 use mathlib.Core.List.{List, [], _∷_, _++_}
 use mathlib.Core.Option.{some}
 use lib.ListN.{length, take, length-map}
+use Rattle.jobs.specs.declared.Job.{Job}
 use Rattle.record.specs.declared.Location.{Location}
 use Rattle.record.specs.Stores.{le32Bytes, append}
 use Rattle.record.specs.StoresLaws.{filled-append}
@@ -50,7 +51,7 @@ module _ (token-list : List ℕ) (line : Location) (numbers : LineNumbers) (lent
   answer-made : (a : LineAnswer) → answerStop token-list line numbers lent (made .pairs) a ≡ Pass → a ≡ Made
   answer-made Made e = refl
   answer-made (Missed m) e = cc
-  answer-made OutOfRange e = cc
+  answer-made (OutOfRange fault) e = cc
 
   record AcceptedLine (o : EmitOutcome) : Type 0 where
     answer-is : made .answer ≡ Made
@@ -82,39 +83,39 @@ module _ (c : Call) (fits : c .numbers .counts .«data_len» ≤ length (c .lent
       }
 
 -- the operation of a call, and its line
-pub record AcceptedCall (c : Call) (loaded : LoadForm) (m : Meaning) (o : EmitOutcome) : Type 0 where
+pub record AcceptedCall (job : Job) (c : Call) (loaded : LoadForm) (m : Meaning) (o : EmitOutcome) : Type 0 where
   pub operation : Operation
   pub means : meant (c .descriptors) m ≡ some operation
-  pub made : lineOf operation (tokens (c .token-list)) (startOf c) .answer ≡ Made
-  pub form-is : lineOf operation (tokens (c .token-list)) (startOf c) .form ≡ loaded
-  pub appended : Appended c o (wordsOf (lineOf operation (tokens (c .token-list)) (startOf c) .pairs))
+  pub made : lineOf job operation (tokens (c .token-list)) (startOf c) .answer ≡ Made
+  pub form-is : lineOf job operation (tokens (c .token-list)) (startOf c) .form ≡ loaded
+  pub appended : Appended c o (wordsOf (lineOf job operation (tokens (c .token-list)) (startOf c) .pairs))
 
-module _ (c : Call) (position : ℕ) (loaded : LoadForm) (fits : c .numbers .counts .«data_len» ≤ length (c .lent .region-data)) where
+module _ (job : Job) (c : Call) (position : ℕ) (loaded : LoadForm) (fits : c .numbers .counts .«data_len» ≤ length (c .lent .region-data)) where
   line-appends : (made : Line) → callLine c made .answer ≡ Done position loaded → (made .answer ≡ Made) × (made .form ≡ loaded) × Appended c (callLine c made) (wordsOf (made .pairs))
   line-appends made h =
       let a = accepted-line (c .token-list) (mnemonicLocation (c .mnemonic)) (c .numbers) (c .lent) made position loaded h in
       (a .answer-is, a .form-is, subst (λ (o : EmitOutcome). Appended c o (wordsOf (made .pairs))) (sym (a .outcome-is)) (accept-appends c fits made))
 
-  accepted-meaning : (m : Meaning) → meaningOutcome c m .answer ≡ Done position loaded → AcceptedCall c loaded m (meaningOutcome c m)
+  accepted-meaning : (m : Meaning) → meaningOutcome job c m .answer ≡ Done position loaded → AcceptedCall job c loaded m (meaningOutcome job c m)
   unfolding tableLine
   accepted-meaning (Table p) h =
-      let l = line-appends (tableLine (c .descriptors) p (tokens (c .token-list)) (startOf c)) h in
+      let l = line-appends (tableLine job (c .descriptors) p (tokens (c .token-list)) (startOf c)) h in
       record { operation = encoded (instructionAt (c .descriptors) p .encoding) (instructionAt (c .descriptors) p .opcode); means = refl; made = l .0; form-is = l .1; appended = l .2 }
   accepted-meaning (Builtin p) h =
-      let l = line-appends (pseudoLine p (tokens (c .token-list)) (startOf c)) h in
+      let l = line-appends (pseudoLine job p (tokens (c .token-list)) (startOf c)) h in
       record { operation = pseudo p; means = refl; made = l .0; form-is = l .1; appended = l .2 }
   accepted-meaning Neither h = let z : _≡_ {A = ℕ} 0 1 = cc in absurd (omega arith)
 
-module _ (c : Call) (position : ℕ) (loaded : LoadForm) where
+module _ (job : Job) (c : Call) (position : ℕ) (loaded : LoadForm) where
   abbrev stop : Verdict
   stop = listStop (c .token-list) (c .mnemonic) (c .descriptors) (c .lent) (c .numbers .place .region) (c .numbers .counts)
 
-  by-lists : (v : Verdict) → stop ≡ v → listOutcome c v .answer ≡ Done position loaded → AcceptedCall c loaded (meaning (c .descriptors) (mnemonicName (c .mnemonic))) (listOutcome c v)
+  by-lists : (v : Verdict) → stop ≡ v → listOutcome job c v .answer ≡ Done position loaded → AcceptedCall job c loaded (meaning (c .descriptors) (mnemonicName (c .mnemonic))) (listOutcome job c v)
   by-lists (Stop r) e h = let z : _≡_ {A = ℕ} 0 1 = cc in absurd (omega arith)
   by-lists Pass e h =
-      accepted-meaning c position loaded (lists-pass (c .token-list) (c .mnemonic) (c .descriptors) (c .lent) (c .numbers .place .region) (c .numbers .counts) e .filled .data-filled)
+      accepted-meaning job c position loaded (lists-pass (c .token-list) (c .mnemonic) (c .descriptors) (c .lent) (c .numbers .place .region) (c .numbers .counts) e .filled .data-filled)
       (meaning (c .descriptors) (mnemonicName (c .mnemonic))) h
 
-  pub accepted-call : emitOutcome c .answer ≡ Done position loaded → AcceptedCall c loaded (meaning (c .descriptors) (mnemonicName (c .mnemonic))) (emitOutcome c)
+  pub accepted-call : emitOutcome job c .answer ≡ Done position loaded → AcceptedCall job c loaded (meaning (c .descriptors) (mnemonicName (c .mnemonic))) (emitOutcome job c)
   unfolding emitOutcome
   accepted-call h = by-lists stop refl h

@@ -3,6 +3,7 @@ use Prim.Native.Nat.{ℕ}
 use mathlib.Core.Path.{_≡_}
 use mathlib.Core.List.{List, _++_}
 use mathlib.Core.Option.{Option, none, some}
+use Rattle.jobs.specs.declared.Job.{Job}
 use Rattle.registers.specs.Numbers.{registerNumber}
 use Rattle.loading.specs.declared.LoadForm.{LoadForm}
 use Rattle.loading.specs.declared.LoadForm.the-variants.{Nothing as Unloaded}
@@ -32,8 +33,8 @@ abbrev pub Formed : LoadForm → Option LoadedConstant → List Format → List 
 Formed form none own ws = InFormats ws own
 Formed form (some l) own ws = FormFirst form l own ws
 
-pub record Reported (c : Call) (form : LoadForm) : Type 0 where
+pub record Reported (job : Job) (c : Call) (form : LoadForm) : Type 0 where
   pub form-is : form ≡ formFrom (callLoads c)
-  pub call : LoadedCall c
-  pub words : Formed form (loadsOf (call .operation) (call .line .operands)) (ownFormats (call .operation) (call .line .operands))
-      (wordsOf (lineOf (call .operation) (tokens (c .token-list)) (startOf c) .pairs))
+  pub call : LoadedCall job c
+  pub words : Formed form (loadsOf (call .operation) (call .line .operands)) (ownFormats job (call .operation) (call .line .operands))
+      (wordsOf (lineOf job (call .operation) (tokens (c .token-list)) (startOf c) .pairs))

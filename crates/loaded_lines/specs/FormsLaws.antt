@@ -5,6 +5,7 @@ use mathlib.Core.Path.{_≡_, refl, sym, ap, _∙_}
 use mathlib.Core.Bool.{Bool, true, false}
 use mathlib.Core.List.{List, _++_}
 use mathlib.Core.Option.{Option, none, some}
+use Rattle.jobs.specs.declared.Job.{Job}
 use Rattle.registers.specs.declared.RegisterSlot.{RegisterSlot}
 use Rattle.registers.specs.Numbers.{registerNumber}
 use Rattle.instructions.specs.declared.Alternative.{Alternative}
@@ -29,12 +30,14 @@ use Rattle.loading.specs.Load.{formOf, formWords, loadWords}
 use Rattle.loading.specs.LoadLaws.{words-by}
 use Rattle.emit_pairs.specs.declared.InstructionPair.{InstructionPair}
 use Rattle.emit_pairs.specs.declared.Range.{Range}
+use Rattle.emit_pairs.specs.declared.Fault.the-variants.{Immediate as ImmediateFault}
 use Rattle.emit_pairs.specs.declared.Range.the-variants.{Within, Outside}
 use Rattle.emit_pairs.specs.Pairs.{labelForm, isImmediate, immediateRange, immediateForm}
 use Rattle.emit_pairs.specs.Values.{valueForm, maybeForm, offsetForm}
 use Rattle.emit_dispatch.specs.declared.LineAnswer.the-variants.{Made}
 use Rattle.emit_dispatch.specs.Wants.{encodingWants, pseudoWants}
-use Rattle.emit_dispatch.specs.Lines.{encodingRange, encodingPairs, encodingForm, pseudoPairs, pseudoForm, rangeAnswer, lineBy, encodingLine, pseudoLine}
+use Rattle.emit_dispatch.specs.LinesLaws.{within-made}
+use Rattle.emit_dispatch.specs.Lines.{encodingRange, encodingPairs, encodingForm, pseudoPairs, pseudoForm, lineBy, encodingLine, pseudoLine}
 use Rattle.formats.specs.Formats.{Format}
 use Rattle.formats.specs.LineLoads.{LoadedConstant, intoAt, valueLoads, maybeLoads, immediateLoads, labelLoads, offsetLoads, encodingLoads, pseudoLoads}
 use Rattle.formats.specs.Operations.{Operation, encoded, pseudo, wantsOf, lineOf}
@@ -70,34 +73,34 @@ immediate-form : (alt : Alternative) (c : ℕ) → immediateRange alt c ≡ With
 immediate-form (Some alt) c h = tested (isImmediate c) c
 immediate-form Nothing c h = go (isImmediate c) h
   where
-    go : (b : Bool) → elim b [ true ↦ Within | false ↦ Outside ] ≡ Within → elim b [ true ↦ Unloaded | false ↦ Unloaded ] ≡ formFrom (elim b [ true ↦ none | false ↦ intoAt c ])
+    go : (b : Bool) → elim b [ true ↦ Within | false ↦ Outside ImmediateFault ] ≡ Within → elim b [ true ↦ Unloaded | false ↦ Unloaded ] ≡ formFrom (elim b [ true ↦ none | false ↦ intoAt c ])
     go true h = refl
     go false h = let z : _≡_ {A = ℕ} 0 1 = cc in absurd (omega arith)
 
 -- ---- by line
 
-encoding-form : (e : Encoding) (x : AskedAll (encodingWants e)) → encodingRange e x ≡ Within → encodingForm e x ≡ formFrom (encodingLoads e x)
-encoding-form Register x h = value-form (x .2)
-encoding-form RegisterShift x h = refl
-encoding-form Source x h = refl
-encoding-form Destination x h = refl
-encoding-form Inputs x h = maybe-form (x .2)
-encoding-form Sham x h = refl
-encoding-form SpecialBranch x h = refl
-encoding-form (Immediate alt) x h = immediate-form alt (x .2) h
-encoding-form LoadImmediate x h = refl
-encoding-form Jump x h = refl
-encoding-form Branch x h = value-form (x .1)
-encoding-form BranchZero x h = refl
-encoding-form Parameterless x h = refl
-encoding-form Offset x h = offset-form (x .1)
-encoding-form FPOffset x h = offset-form (x .1)
-encoding-form (FP3Register fmt) x h = refl
-encoding-form (FP2Register fmt) x h = refl
-encoding-form (FPMove fmt flag) x h = refl
-encoding-form (FPCond fmt) x h = refl
-encoding-form (FPCrossMove flag) x h = refl
-encoding-form (FPBranch flag) x h = refl
+encoding-form : (job : Job) (e : Encoding) (x : AskedAll (encodingWants e)) → encodingRange job e x ≡ Within → encodingForm e x ≡ formFrom (encodingLoads e x)
+encoding-form job Register x h = value-form (x .2)
+encoding-form job RegisterShift x h = refl
+encoding-form job Source x h = refl
+encoding-form job Destination x h = refl
+encoding-form job Inputs x h = maybe-form (x .2)
+encoding-form job Sham x h = refl
+encoding-form job SpecialBranch x h = refl
+encoding-form job (Immediate alt) x h = immediate-form alt (x .2) h
+encoding-form job LoadImmediate x h = refl
+encoding-form job Jump x h = refl
+encoding-form job Branch x h = value-form (x .1)
+encoding-form job BranchZero x h = refl
+encoding-form job Parameterless x h = refl
+encoding-form job Offset x h = offset-form (x .1)
+encoding-form job FPOffset x h = offset-form (x .1)
+encoding-form job (FP3Register fmt) x h = refl
+encoding-form job (FP2Register fmt) x h = refl
+encoding-form job (FPMove fmt flag) x h = refl
+encoding-form job (FPCond fmt) x h = refl
+encoding-form job (FPCrossMove flag) x h = refl
+encoding-form job (FPBranch flag) x h = refl
 
 pseudo-form : (p : Pseudo) (x : AskedAll (pseudoWants p)) → pseudoForm p x ≡ formFrom (pseudoLoads p x)
 pseudo-form Nop x = refl
@@ -118,24 +121,20 @@ pseudo-form B x = refl
 pseudo-form Subi x = tested (isImmediate (withSign true (x .2))) (withSign true (x .2))
 pseudo-form Subiu x = tested (isImmediate (withSign true (x .2))) (withSign true (x .2))
 
-within : (r : Range) → rangeAnswer r ≡ Made → r ≡ Within
-within Within e = refl
-within Outside e = cc
-
 module _ (o : Operation) (i : ℕ) (range : AskedAll (wantsOf o) → Range) (pairs : AskedAll (wantsOf o) → List InstructionPair) (form : AskedAll (wantsOf o) → LoadForm)
     (forms : (x : AskedAll (wantsOf o)) → range x ≡ Within → form x ≡ formFrom (readLoads o (Got x))) where
   made-form : (read : Answer (AskedAll (wantsOf o))) → lineBy read i range pairs form .answer ≡ Made → lineBy read i range pairs form .form ≡ formFrom (readLoads o read)
-  made-form (Got x) h = forms x (within (range x) h)
+  made-form (Got x) h = forms x (within-made (range x) h)
   made-form (Missed m) h = let z : _≡_ {A = ℕ} 0 1 = cc in absurd (omega arith)
 
-pub line-form : (o : Operation) (ts : List Token) (i : ℕ) → lineOf o ts i .answer ≡ Made → lineOf o ts i .form ≡ formFrom (readLoads o (readOperands (wantsOf o) ts i .answer))
+pub line-form : (job : Job) (o : Operation) (ts : List Token) (i : ℕ) → lineOf job o ts i .answer ≡ Made → lineOf job o ts i .form ≡ formFrom (readLoads o (readOperands (wantsOf o) ts i .answer))
 unfolding encodingLine pseudoLine
-line-form (encoded e op) ts i h =
+line-form job (encoded e op) ts i h =
     let read = readOperands (encodingWants e) ts i in
-    made-form (encoded e op) (read .index) (encodingRange e) (encodingPairs e op) (encodingForm e) (encoding-form e) (read .answer) h
-line-form (pseudo p) ts i h =
+    made-form (encoded e op) (read .index) (encodingRange job e) (encodingPairs job e op) (encodingForm e) (encoding-form job e) (read .answer) h
+line-form job (pseudo p) ts i h =
     let read = readOperands (pseudoWants p) ts i in
-    made-form (pseudo p) (read .index) (λ x. Within) (pseudoPairs p) (pseudoForm p) (λ x w. pseudo-form p x) (read .answer) h
+    made-form (pseudo p) (read .index) (λ x. Within) (pseudoPairs job p) (pseudoForm p) (λ x w. pseudo-form p x) (read .answer) h
 
 -- ---- the words of a form
 

@@ -3,6 +3,7 @@
 use Prim.Native.Nat.{ℕ}
 use mathlib.Core.Path.{_≡_, sym, ap, _∙_}
 use mathlib.Core.Option.{Option}
+use Rattle.jobs.specs.declared.Job.{Job}
 use Rattle.loading.specs.declared.LoadForm.{LoadForm}
 use Rattle.formats.specs.LineLoads.{LoadedConstant}
 use Rattle.formats.specs.Operations.{loadsOf}
@@ -16,12 +17,12 @@ use Rattle.loaded_lines.specs.LinesLoad.{line-loads}
 use Rattle.loaded_lines.specs.Forms.{formFrom, Reported}
 use Rattle.loaded_lines.specs.FormsLaws.{line-form, formed}
 
-pub reported : (c : Call) (position : ℕ) (form : LoadForm) → emitOutcome c .answer ≡ Done position form → Reported c form
-reported c position form h =
-    let a = accepted-call c position form h in
-    let line = line-loads (a .operation) (tokens (c .token-list)) (startOf c) (a .made) in
+pub reported : (job : Job) (c : Call) (position : ℕ) (form : LoadForm) → emitOutcome job c .answer ≡ Done position form → Reported job c form
+reported job c position form h =
+    let a = accepted-call job c position form h in
+    let line = line-loads job (a .operation) (tokens (c .token-list)) (startOf c) (a .made) in
     let f : form ≡ formFrom (loadsOf (a .operation) (line .operands)) =
-    sym (a .form-is) ∙ line-form (a .operation) (tokens (c .token-list)) (startOf c) (a .made) ∙ ap (λ r. formFrom (readLoads (a .operation) r)) (line .operands-are) in
+    sym (a .form-is) ∙ line-form job (a .operation) (tokens (c .token-list)) (startOf c) (a .made) ∙ ap (λ r. formFrom (readLoads (a .operation) r)) (line .operands-are) in
     let k : callLoads c ≡ loadsOf (a .operation) (line .operands) = ap (meantLoads c) (a .means) ∙ ap (readLoads (a .operation)) (line .operands-are) in
     record {
       form-is = f ∙ sym (ap formFrom k);

@@ -1,6 +1,7 @@
 -- A call that meets the premises of LinesLoad.antt and FormsReported.antt. Assumes nothing.
 use mathlib.Core.Path.{refl}
 use mathlib.Core.List.{[], _∷_, _++_}
+use Rattle.jobs.specs.declared.Job.the-variants.{Commit}
 use Rattle.registers.specs.declared.RegisterSlot.the-variants.{AssemblerTemporary}
 use Rattle.loading.specs.declared.LoadForm.the-variants.{Ori}
 use Rattle.names.specs.Names.{firstRepeat}
@@ -19,11 +20,11 @@ abbrev lw : Call
 lw = line (108 ∷ 119 ∷ []) (descriptor 0 35 13 (108 ∷ 119 ∷ [])) (register 8 ++ comma ++ integer 32768 ++ leftBrace ++ register 9 ++ rightBrace)
 
 -- it loads 32768 into $at
-pub met : ConstantAppended lw (record { constant = 32768; register = AssemblerTemporary })
+pub met : ConstantAppended Commit lw (record { constant = 32768; register = AssemblerTemporary })
 unfolding emitOutcome pcsBytes labelPairs immediatePairs firstRepeat
-met = constant-appended lw 6 Ori refl (record { constant = 32768; register = AssemblerTemporary }) refl
+met = constant-appended Commit lw 6 Ori refl (record { constant = 32768; register = AssemblerTemporary }) refl
 
 -- and reports ori
-pub met-form : Reported lw Ori
+pub met-form : Reported Commit lw Ori
 unfolding emitOutcome pcsBytes labelPairs immediatePairs firstRepeat
-met-form = reported lw 6 Ori refl
+met-form = reported Commit lw 6 Ori refl

@@ -4,6 +4,7 @@ use Prim.Native.Nat.{ℕ}
 use mathlib.Core.Path.{_≡_, sym, ap, _∙_, subst}
 use mathlib.Core.List.{List, _++_}
 use mathlib.Core.Option.{Option, none, some}
+use Rattle.jobs.specs.declared.Job.{Job}
 use Rattle.registers.specs.Numbers.{registerNumber}
 use Rattle.registers.specs.NumberLaws.{register-lt}
 use Rattle.loading.specs.Load.{loadWords}
@@ -33,24 +34,24 @@ loaded-first (some l) h = record {
 }
 
 -- every accepted line
-pub line-loads : (o : Operation) (ts : List Token) (i : ℕ) → lineOf o ts i .answer ≡ Made → LoadedLine o ts i
-line-loads o ts i h =
-    let w = every-word o ts i h in
+pub line-loads : (job : Job) (o : Operation) (ts : List Token) (i : ℕ) → lineOf job o ts i .answer ≡ Made → LoadedLine job o ts i
+line-loads job o ts i h =
+    let w = every-word job o ts i h in
     record { operands = w .operands; operands-are = w .operands-are; loaded = loaded-first (loadsOf o (w .operands)) (w .loads) }
 
 -- every accepted call
-pub call-loads : (c : Call) (position : ℕ) (loaded : LoadForm) → emitOutcome c .answer ≡ Done position loaded → LoadedCall c
-call-loads c position loaded h =
-    let a = accepted-call c position loaded h in
-    record { operation = a .operation; means = a .means; made = a .made; line = line-loads (a .operation) _ _ (a .made); appended = a .appended }
+pub call-loads : (job : Job) (c : Call) (position : ℕ) (loaded : LoadForm) → emitOutcome job c .answer ≡ Done position loaded → LoadedCall job c
+call-loads job c position loaded h =
+    let a = accepted-call job c position loaded h in
+    record { operation = a .operation; means = a .means; made = a .made; line = line-loads job (a .operation) _ _ (a .made); appended = a .appended }
 
 -- every accepted call whose line loads a constant
-pub constant-appended : (c : Call) (position : ℕ) (loaded : LoadForm) → emitOutcome c .answer ≡ Done position loaded → (l : LoadedConstant)
-    → callLoads c ≡ some l → ConstantAppended c l
-constant-appended c position loaded h l e =
-    let r = call-loads c position loaded h in
-    let own = ownFormats (r .operation) (r .line .operands) in
-    let ws = wordsOf (lineOf (r .operation) (tokens (c .token-list)) (startOf c) .pairs) in
+pub constant-appended : (job : Job) (c : Call) (position : ℕ) (loaded : LoadForm) → emitOutcome job c .answer ≡ Done position loaded → (l : LoadedConstant)
+    → callLoads c ≡ some l → ConstantAppended job c l
+constant-appended job c position loaded h l e =
+    let r = call-loads job c position loaded h in
+    let own = ownFormats job (r .operation) (r .line .operands) in
+    let ws = wordsOf (lineOf job (r .operation) (tokens (c .token-list)) (startOf c) .pairs) in
     let k : loadsOf (r .operation) (r .line .operands) ≡ some l = sym (ap (meantLoads c) (r .means) ∙ ap (readLoads (r .operation)) (r .line .operands-are)) ∙ e in
     let f : LoadsFirst l own ws = subst (λ (x : Option LoadedConstant). LoadedFirst x own ws) k (r .line .loaded) in
     record {

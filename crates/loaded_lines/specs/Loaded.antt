@@ -4,6 +4,7 @@ use mathlib.Core.Path.{_≡_}
 use mathlib.Core.List.{List, [], _∷_, _++_}
 use mathlib.Core.Option.{Option, none, some}
 use lib.ListN.{length, take}
+use Rattle.jobs.specs.declared.Job.{Job}
 use Rattle.record.specs.Stores.{le32Bytes}
 use Rattle.registers.specs.Numbers.{registerNumber}
 use Rattle.loading.specs.Load.{loadWords}
@@ -42,10 +43,10 @@ abbrev pub LoadedFirst : Option LoadedConstant → List Format → List ℕ → 
 LoadedFirst none own ws = InFormats ws own
 LoadedFirst (some l) own ws = LoadsFirst l own ws
 
-pub record LoadedLine (o : Operation) (ts : List Token) (i : ℕ) : Type 0 where
+pub record LoadedLine (job : Job) (o : Operation) (ts : List Token) (i : ℕ) : Type 0 where
   pub operands : AskedAll (wantsOf o)
   pub operands-are : readOperands (wantsOf o) ts i .answer ≡ Got operands
-  pub loaded : LoadedFirst (loadsOf o operands) (ownFormats o operands) (wordsOf (lineOf o ts i .pairs))
+  pub loaded : LoadedFirst (loadsOf o operands) (ownFormats job o operands) (wordsOf (lineOf job o ts i .pairs))
 
 -- ---- a call
 
@@ -72,12 +73,12 @@ pub record Appended (c : Call) (o : EmitOutcome) (ws : List ℕ) : Type 0 where
   pub count-is : o .counts .«data_len» ≡ c .numbers .counts .«data_len» + 4 * length ws
   pub data-is : filledData (o .lent) (o .counts) ≡ filledData (c .lent) (c .numbers .counts) ++ bytesOf ws
 
-pub record LoadedCall (c : Call) : Type 0 where
+pub record LoadedCall (job : Job) (c : Call) : Type 0 where
   pub operation : Operation
   pub means : operationOf c ≡ some operation
-  pub made : lineOf operation (tokens (c .token-list)) (startOf c) .answer ≡ Made
-  pub line : LoadedLine operation (tokens (c .token-list)) (startOf c)
-  pub appended : Appended c (emitOutcome c) (wordsOf (lineOf operation (tokens (c .token-list)) (startOf c) .pairs))
+  pub made : lineOf job operation (tokens (c .token-list)) (startOf c) .answer ≡ Made
+  pub line : LoadedLine job operation (tokens (c .token-list)) (startOf c)
+  pub appended : Appended c (emitOutcome job c) (wordsOf (lineOf job operation (tokens (c .token-list)) (startOf c) .pairs))
 
 -- the constant that its line loads
 abbrev pub readLoads : (o : Operation) → Answer (AskedAll (wantsOf o)) → Option LoadedConstant
@@ -92,8 +93,8 @@ abbrev pub callLoads : Call → Option LoadedConstant
 callLoads c = meantLoads c (operationOf c)
 
 -- the words that load it are the first that are appended
-pub record ConstantAppended (c : Call) (l : LoadedConstant) : Type 0 where
+pub record ConstantAppended (job : Job) (c : Call) (l : LoadedConstant) : Type 0 where
   pub rest : List ℕ
-  pub data-is : filledData (emitOutcome c .lent) (emitOutcome c .counts)
+  pub data-is : filledData (emitOutcome job c .lent) (emitOutcome job c .counts)
       ≡ filledData (c .lent) (c .numbers .counts) ++ (bytesOf (loadWords (l .constant) (registerNumber (l .register))) ++ bytesOf rest)
   pub does : (g : Registers) → length g ≡ 32 → Loads (l .constant) (registerNumber (l .register)) g

@@ -4,6 +4,8 @@ use mathlib.Core.List.{List, [], _∷_, _++_}
 use mathlib.Core.Bool.{true, false, _&&_}
 use lib.ListN.{length}
 use lib.Dec.{leb}
+use Rattle.jobs.specs.declared.Job.{Job}
+use Rattle.jobs.specs.declared.Job.the-variants.{Commit}
 use Rattle.record.specs.Stores.{append, le64Bytes}
 use Rattle.record.specs.Bytes.{le32}
 use Rattle.linked_answer.specs.Words.{answerBytes, tooShort, numberOf, wordsAsBytes}
@@ -36,12 +38,16 @@ answered outcome answer =
     record { result = numberOf words; regions = outcome .regions; answer = append answer 0 (wordsAsBytes words) }
 
 -- with an answer of fewer than 24 bytes nothing is done
-unfoldable pub linkedBuild : (labels entry regions pending answer : List ℕ) → Linked
-linkedBuild labels entry regions pending answer =
+unfoldable pub linkedBuildBy : Job → (labels entry regions pending answer : List ℕ) → Linked
+linkedBuildBy job labels entry regions pending answer =
     elim (leb answerBytes (length answer)) [
-      | true ↦ answered (buildOutcome labels entry regions pending) answer
+      | true ↦ answered (buildOutcome job labels entry regions pending) answer
       | false ↦ record { result = tooShort; regions = regions; answer = answer }
     ]
+
+-- the commit's
+abbrev pub linkedBuild : (labels entry regions pending answer : List ℕ) → Linked
+linkedBuild = linkedBuildBy Commit
 
 -- ---- a line
 -- the three fill counts, four bytes each
@@ -73,12 +79,16 @@ lineAnswered outcome counts answer =
     }
 
 -- with an answer of fewer than 24 bytes, or counts of fewer than 12, nothing is done
-unfoldable pub linkedLine : (token-list mnemonic descriptors : List ℕ) → Lent → (counts : List ℕ) → LinePlace → (answer : List ℕ) → LinkedLine
-linkedLine token-list mnemonic descriptors lent counts place answer =
+unfoldable pub linkedLineBy : Job → (token-list mnemonic descriptors : List ℕ) → Lent → (counts : List ℕ) → LinePlace → (answer : List ℕ) → LinkedLine
+linkedLineBy job token-list mnemonic descriptors lent counts place answer =
     elim (leb answerBytes (length answer) && leb countsBytes (length counts)) [
-      | true ↦ lineAnswered (emitOutcome (callOf token-list mnemonic descriptors lent (countsAt counts) place)) counts answer
+      | true ↦ lineAnswered (emitOutcome job (callOf token-list mnemonic descriptors lent (countsAt counts) place)) counts answer
       | false ↦ record { result = tooShort; lent = lent; counts = counts; answer = answer }
     ]
+
+-- the commit's
+abbrev pub linkedLine : (token-list mnemonic descriptors : List ℕ) → Lent → (counts : List ℕ) → LinePlace → (answer : List ℕ) → LinkedLine
+linkedLine = linkedLineBy Commit
 
 -- ---- the counts of a range
 -- four numbers of eight bytes

@@ -6,6 +6,7 @@ use mathlib.Core.Bool.{false, _&&_}
 use lib.ListN.{length}
 use lib.Dec.{leb}
 use borrow.Author.Tests.{le-leb, lt-leb}
+use Rattle.jobs.specs.declared.Job.{Job}
 use Rattle.record.specs.Stores.{append}
 use Rattle.linked_answer.specs.Words.{answerBytes, tooShort, numberOf, wordsAsBytes}
 use Rattle.nazgwern.specs.Words.{builtWords, emittedWords, countedWords}
@@ -18,33 +19,33 @@ use Rattle.emit_outcome.specs.Call.{Lent, callOf, outcomeOf}
 use Rattle.emit_outcome.specs.Emit.{emitOutcome}
 use Rattle.form_counts.specs.declared.CountAnswer.{CountAnswer}
 use Rattle.form_counts.specs.FormCounts.{countForms}
-use Rattle.nazgwern.specs.Answer.{countsBytes, linkedBuild, countsAt, countsAfter, linkedLine, formCountBytes, formCountsAfter, linkedCount}
+use Rattle.nazgwern.specs.Answer.{countsBytes, linkedBuildBy, countsAt, countsAfter, linkedLineBy, formCountBytes, formCountsAfter, linkedCount}
 
 -- ---- a build
-module _ (labels entry regions pending answer : List ℕ) where
-  pub linked-short : length answer < answerBytes → linkedBuild labels entry regions pending answer ≡ (record { result = tooShort; regions = regions; answer = answer })
-  unfolding linkedBuild
-  linked-short h = rw (lt-leb answerBytes (length answer) h, linkedBuild)
+module _ (job : Job) (labels entry regions pending answer : List ℕ) where
+  pub linked-short : length answer < answerBytes → linkedBuildBy job labels entry regions pending answer ≡ (record { result = tooShort; regions = regions; answer = answer })
+  unfolding linkedBuildBy
+  linked-short h = rw (lt-leb answerBytes (length answer) h, linkedBuildBy)
 
-  pub linked-answered : (built : Built) (words patched written : List ℕ) → answerBytes ≤ length answer → built ≡ buildOutcome labels entry regions pending .answer
-      → patched ≡ buildOutcome labels entry regions pending .regions → words ≡ builtWords built → written ≡ append answer 0 (wordsAsBytes words)
-      → linkedBuild labels entry regions pending answer ≡ (record { result = numberOf words; regions = patched; answer = written })
-  unfolding linkedBuild
-  linked-answered built words patched written h b p w e = rw (le-leb answerBytes (length answer) h, linkedBuild, e, w, p, b)
+  pub linked-answered : (built : Built) (words patched written : List ℕ) → answerBytes ≤ length answer → built ≡ buildOutcome job labels entry regions pending .answer
+      → patched ≡ buildOutcome job labels entry regions pending .regions → words ≡ builtWords built → written ≡ append answer 0 (wordsAsBytes words)
+      → linkedBuildBy job labels entry regions pending answer ≡ (record { result = numberOf words; regions = patched; answer = written })
+  unfolding linkedBuildBy
+  linked-answered built words patched written h b p w e = rw (le-leb answerBytes (length answer) h, linkedBuildBy, e, w, p, b)
 
 -- ---- a line
-module _ (token-list mnemonic descriptors : List ℕ) (lent : Lent) (counts : List ℕ) (place : LinePlace) (answer : List ℕ) where
+module _ (job : Job) (token-list mnemonic descriptors : List ℕ) (lent : Lent) (counts : List ℕ) (place : LinePlace) (answer : List ℕ) where
   pub line-short : (leb answerBytes (length answer) && leb countsBytes (length counts)) ≡ false
-      → linkedLine token-list mnemonic descriptors lent counts place answer ≡ (record { result = tooShort; lent = lent; counts = counts; answer = answer })
-  unfolding linkedLine
-  line-short e = rw (e, linkedLine)
+      → linkedLineBy job token-list mnemonic descriptors lent counts place answer ≡ (record { result = tooShort; lent = lent; counts = counts; answer = answer })
+  unfolding linkedLineBy
+  line-short e = rw (e, linkedLineBy)
 
   pub line-answered : {given : EmitAnswer} {filled : FillCounts} {lent' : Lent} {counts' words answer' : List ℕ} (c : FillCounts) → answerBytes ≤ length answer → countsBytes ≤ length counts
-      → c ≡ countsAt counts → emitOutcome (callOf token-list mnemonic descriptors lent c place) ≡ outcomeOf given filled lent'
+      → c ≡ countsAt counts → emitOutcome job (callOf token-list mnemonic descriptors lent c place) ≡ outcomeOf given filled lent'
       → words ≡ emittedWords given → counts' ≡ countsAfter given filled counts → answer' ≡ append answer 0 (wordsAsBytes words)
-      → linkedLine token-list mnemonic descriptors lent counts place answer ≡ (record { result = numberOf words; lent = lent'; counts = counts'; answer = answer' })
-  unfolding linkedLine
-  line-answered c h k e o w n a = rw (le-leb answerBytes (length answer) h, le-leb countsBytes (length counts) k, linkedLine, a, n, w, ← e, o)
+      → linkedLineBy job token-list mnemonic descriptors lent counts place answer ≡ (record { result = numberOf words; lent = lent'; counts = counts'; answer = answer' })
+  unfolding linkedLineBy
+  line-answered c h k e o w n a = rw (le-leb answerBytes (length answer) h, le-leb countsBytes (length counts) k, linkedLineBy, a, n, w, ← e, o)
 
 -- ---- the counts of a range
 module _ (start end : ℕ) (counts answer : List ℕ) where

@@ -1,10 +1,10 @@
-// The library to link: a build, a line, the counts of a range, a text's tokens and a dry run by the C calling convention, where a slice goes as a pointer and a length.
+// The library to link: a build and a line in each sort of job, the counts of a range, a text's tokens and a dry run by the C calling convention, where a slice goes as a pointer and a length.
 ghost use mathlib.Core.Path.{_≡_};
 ghost use Prim.Native.Nat.{_≤_};
 ghost use lib.ListN.{length};
 ghost use Rattle.record.specs.Stores.{append};
 ghost use Rattle.emit_outcome.specs.Call.{lentOf};
-ghost use Rattle.nazgwern.specs.Answer.{countsBytes, countsAt, countsAfter, formCountBytes, formCounts, formCountsAfter, linkedBuild, linkedLine, linkedCount};
+ghost use Rattle.nazgwern.specs.Answer.{countsBytes, countsAt, countsAfter, formCountBytes, formCounts, formCountsAfter, linkedBuildBy, linkedBuild, linkedLineBy, linkedLine, linkedCount};
 ghost use Rattle.linked_text.specs.LinkedText.{linkedText};
 ghost use Rattle.linked_dry_run.specs.LinkedDryRun.{linkedDryRun};
 
@@ -15,6 +15,7 @@ use emit_outcome::FillCounts;
 use emit_outcome::LinePlace;
 use form_counts::CountAnswer;
 use form_counts::FormCounts;
+use jobs::Job;
 use linked_answer::ANSWER_BYTES;
 use linked_answer::TOO_SHORT;
 
@@ -26,6 +27,26 @@ const FORM_COUNT_BYTES: usize = 32;
 
 // Patches the regions in place or refuses, writes the answer and returns its number: 0 for an accepted build.
 // Where the answer is too short it returns TOO_SHORT and changes nothing.
+fn link_build(
+    job: Job,
+    labels: &[u8],
+    entry: &[u8],
+    regions: &mut [u8],
+    pending: &[u8],
+    answer: &mut [u8],
+) -> u32
+    ensures { λ r. ⌜ linkedBuildBy job (now (labels .entry)) (now (entry .entry)) (now (regions .entry)) (now (pending .entry)) (now (answer .entry))
+        ≡ (record { result = r; regions = now (regions .exit); answer = now (answer .exit) }) ⌝ }
+{
+    if answer.len() < ANSWER_BYTES {
+        return TOO_SHORT;
+    }
+    let built = binary_builder::build_for(job, labels, entry, regions, pending);
+    let words = answer::built_words(built);
+    linked_answer::store_words(answer, &words[..]);
+    words[0]
+}
+
 #[no_mangle]
 pub extern "C" fn nazgwern_build(
     labels: &[u8],
@@ -37,13 +58,22 @@ pub extern "C" fn nazgwern_build(
     ensures { λ r. ⌜ linkedBuild (now (labels .entry)) (now (entry .entry)) (now (regions .entry)) (now (pending .entry)) (now (answer .entry))
         ≡ (record { result = r; regions = now (regions .exit); answer = now (answer .exit) }) ⌝ }
 {
-    if answer.len() < ANSWER_BYTES {
-        return TOO_SHORT;
-    }
-    let built = binary_builder::build(labels, entry, regions, pending);
-    let words = answer::built_words(built);
-    linked_answer::store_words(answer, &words[..]);
-    words[0]
+    link_build(Job::Commit, labels, entry, regions, pending, answer)
+}
+
+// The same by the manual.
+#[no_mangle]
+pub extern "C" fn nazgwern_build_manual(
+    labels: &[u8],
+    entry: &[u8],
+    regions: &mut [u8],
+    pending: &[u8],
+    answer: &mut [u8],
+) -> u32
+    ensures { λ r. ⌜ linkedBuildBy Job.Manual (now (labels .entry)) (now (entry .entry)) (now (regions .entry)) (now (pending .entry)) (now (answer .entry))
+        ≡ (record { result = r; regions = now (regions .exit); answer = now (answer .exit) }) ⌝ }
+{
+    link_build(Job::Manual, labels, entry, regions, pending, answer)
 }
 
 fn counts_at(counts: &[u8]) -> FillCounts
@@ -79,6 +109,54 @@ fn put_counts(counts: &mut [u8], answer: EmitAnswer, filled: FillCounts)
 
 // Emits a line into the buffers or refuses it, writes the answer and returns its number: 0 for an accepted line.
 // Where the answer or the counts are too short it returns TOO_SHORT and changes nothing.
+fn link_line(
+    job: Job,
+    tokens: &[u8],
+    mnemonic: &[u8],
+    descriptors: &[u8],
+    data: &mut [u8],
+    pending: &mut [u8],
+    breakpoints: &mut [u8],
+    counts: &mut [u8],
+    place: LinePlace,
+    answer: &mut [u8],
+) -> u32
+    ensures { λ r. ⌜ linkedLineBy job (now (tokens .entry)) (now (mnemonic .entry)) (now (descriptors .entry))
+        (lentOf (now («data» .entry)) (now (pending .entry)) (now (breakpoints .entry))) (now (counts .entry))
+        place (now (answer .entry))
+        ≡ (record {
+          result = r;
+          lent = lentOf (now («data» .exit)) (now (pending .exit)) (now (breakpoints .exit));
+          counts = now (counts .exit);
+          answer = now (answer .exit);
+        }) ⌝ }
+{
+    if answer.len() < ANSWER_BYTES {
+        return TOO_SHORT;
+    }
+    if counts.len() < COUNTS_BYTES {
+        return TOO_SHORT;
+    }
+    let held = counts_at(&*counts);
+    let emitted = emit::do_job_line(
+        job,
+        held,
+        tokens,
+        mnemonic,
+        descriptors,
+        data,
+        pending,
+        breakpoints,
+        place,
+    );
+    let given = emitted.answer;
+    let filled = emitted.counts;
+    let words = answer::emitted_words(given);
+    put_counts(counts, given, filled);
+    linked_answer::store_words(answer, &words[..]);
+    words[0]
+}
+
 #[no_mangle]
 pub extern "C" fn nazgwern_do_instruction(
     tokens: &[u8],
@@ -103,33 +181,67 @@ pub extern "C" fn nazgwern_do_instruction(
           answer = now (answer .exit);
         }) ⌝ }
 {
-    if answer.len() < ANSWER_BYTES {
-        return TOO_SHORT;
-    }
-    if counts.len() < COUNTS_BYTES {
-        return TOO_SHORT;
-    }
-    let held = counts_at(&*counts);
-    let emitted = emit::do_line(
-        held,
+    let place = LinePlace {
+        position,
+        region,
+        address,
+    };
+    link_line(
+        Job::Commit,
         tokens,
         mnemonic,
         descriptors,
         data,
         pending,
         breakpoints,
-        LinePlace {
-            position,
-            region,
-            address,
-        },
-    );
-    let given = emitted.answer;
-    let filled = emitted.counts;
-    let words = answer::emitted_words(given);
-    put_counts(counts, given, filled);
-    linked_answer::store_words(answer, &words[..]);
-    words[0]
+        counts,
+        place,
+        answer,
+    )
+}
+
+// The same in a job by the manual.
+#[no_mangle]
+pub extern "C" fn nazgwern_do_manual_instruction(
+    tokens: &[u8],
+    mnemonic: &[u8],
+    descriptors: &[u8],
+    data: &mut [u8],
+    pending: &mut [u8],
+    breakpoints: &mut [u8],
+    counts: &mut [u8],
+    position: u32,
+    region: u16,
+    address: u32,
+    answer: &mut [u8],
+) -> u32
+    ensures { λ r. ⌜ linkedLineBy Job.Manual (now (tokens .entry)) (now (mnemonic .entry)) (now (descriptors .entry))
+        (lentOf (now («data» .entry)) (now (pending .entry)) (now (breakpoints .entry))) (now (counts .entry))
+        (record { position = position; region = region; address = address }) (now (answer .entry))
+        ≡ (record {
+          result = r;
+          lent = lentOf (now («data» .exit)) (now (pending .exit)) (now (breakpoints .exit));
+          counts = now (counts .exit);
+          answer = now (answer .exit);
+        }) ⌝ }
+{
+    let place = LinePlace {
+        position,
+        region,
+        address,
+    };
+    link_line(
+        Job::Manual,
+        tokens,
+        mnemonic,
+        descriptors,
+        data,
+        pending,
+        breakpoints,
+        counts,
+        place,
+        answer,
+    )
 }
 
 fn store_form_counts(counts: &mut [u8], counted: FormCounts)

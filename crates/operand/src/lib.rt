@@ -43,7 +43,7 @@ pub enum Want {
 pub enum Operand {
     Register(RegisterSlot),
     FPRegister(FPRegisterSlot),
-    Code(u8),
+    Code(u64),
     Value(InstructionValue),
     Constant(u64),
     Label(AddressLabel),
@@ -93,7 +93,7 @@ pub fn fp_slot_in(operand: Operand) -> FPRegisterSlot
     }
 }
 
-pub fn code_in(operand: Operand) -> u8
+pub fn code_in(operand: Operand) -> u64
     ensures { λ r. ⌜ r ≡ codeIn operand ⌝ }
 {
     match operand {

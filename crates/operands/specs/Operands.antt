@@ -62,9 +62,9 @@ getFPRegister ts i = here (fpRegisterSeen (nextAdjacent ts i .answer)) (nextAdja
 abbrev pub noConstant : Token → Miss
 noConstant t = ExpectedConstant (strip (t .kind)) (t .location)
 
--- a condition code takes no sign, and its low byte
+-- a condition code takes no sign
 abbrev pub codeMet : Token → MaybeInteger → Answer ℕ
-codeMet t (SomeInteger n) = Got (n % 256)
+codeMet t (SomeInteger n) = Got n
 codeMet t NoInteger = Missed (noConstant t)
 
 abbrev pub codeSeen : Seen → Answer ℕ

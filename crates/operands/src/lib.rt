@@ -110,7 +110,7 @@ fn code_seen(seen: Seen) -> OperandAnswer
         Seen::Met(t) => {
             let kind = t.kind;
             match lexer::as_integer(kind) {
-                MaybeInteger::Some(n) => OperandAnswer::Got(Operand::Code((n % 256) as u8)),
+                MaybeInteger::Some(n) => OperandAnswer::Got(Operand::Code(n)),
                 MaybeInteger::Nothing => OperandAnswer::Missed(expected_constant(t)),
             }
         }

@@ -5,6 +5,8 @@ use mathlib.Core.List.{List}
 use mathlib.Core.Bool.{Bool, true, false, _&&_}
 use lib.Dec.{leb, eqb}
 use Rattle.field.specs.Field.{setField}
+use Rattle.jobs.specs.declared.Job.{Job}
+use Rattle.jobs.specs.Jobs.{mostBack, mostAhead}
 use Rattle.record.specs.Bytes.{le32, part}
 use Rattle.record.specs.Stores.{le32Bytes, append}
 use Rattle.record.specs.declared.Location.{Location}
@@ -69,21 +71,21 @@ fieldValue Lower pc dest = dest % 65536
 fieldValue Upper pc dest = dest / 65536
 fieldValue Full pc dest = dest
 
--- "-0x10000 to 0xFFFF is accepted": the distance of a branch that a build takes
-unfoldable pub branchInRange : ℕ → ℕ → Bool
-branchInRange pc dest = leb (after pc / 4) (dest / 4 + 0x10000) && leb (dest / 4) (after pc / 4 + 0xFFFF)
+-- "-0x10000 to 0xFFFF is accepted", or as a job has it: the distance of a branch that a build takes
+unfoldable pub branchInRange : Job → ℕ → ℕ → Bool
+branchInRange job pc dest = leb (after pc / 4) (dest / 4 + mostBack job) && leb (dest / 4) (after pc / 4 + mostAhead job)
 
 -- "Jump: top four bits of destination and pc+4 agree"
 unfoldable pub jumpInRange : ℕ → ℕ → Bool
 jumpInRange pc dest = eqb (dest / 2 ^ 28) (after pc / 2 ^ 28)
 
-unfoldable pub inRange : InstructionLabelKind → ℕ → ℕ → Bool
+unfoldable pub inRange : Job → InstructionLabelKind → ℕ → ℕ → Bool
 unfolding branchInRange jumpInRange
-inRange Branch pc dest = branchInRange pc dest
-inRange Jump pc dest = jumpInRange pc dest
-inRange Lower pc dest = true
-inRange Upper pc dest = true
-inRange Full pc dest = true
+inRange job Branch pc dest = branchInRange job pc dest
+inRange job Jump pc dest = jumpInRange pc dest
+inRange job Lower pc dest = true
+inRange job Upper pc dest = true
+inRange job Full pc dest = true
 
 -- the word that a patch leaves: "altered only in the patched fields"
 abbrev pub patchedWord : InstructionLabelKind → ℕ → ℕ → ℕ → ℕ
@@ -104,17 +106,17 @@ nameLocation (Constant value) = zeroLocation
 nameLocation (Label name) = name .location
 
 -- "15. That patch's name is unknown. 16. Its branch or jump is out of range (a: destination, b: pc)."
-unfoldable pub reachVerdict : Pending → ℕ → Address → Verdict
+unfoldable pub reachVerdict : Job → Pending → ℕ → Address → Verdict
 unfolding inRange
-reachVerdict p pc Unknown = Stop (UnknownLabel (nameLocation (p .label)))
-reachVerdict p pc (Known dest) = elim (inRange (p .kind) pc dest) [ true ↦ Pass | false ↦ Stop (JumpOutOfRange (p .location) dest pc) ]
+reachVerdict job p pc Unknown = Stop (UnknownLabel (nameLocation (p .label)))
+reachVerdict job p pc (Known dest) = elim (inRange job (p .kind) pc dest) [ true ↦ Pass | false ↦ Stop (JumpOutOfRange (p .location) dest pc) ]
 
 -- "14. A patch, taken in patch order, ends past its region's data"
-unfoldable pub pendingVerdict : (labels pending : List ℕ) → Region → Pending → Verdict
+unfoldable pub pendingVerdict : Job → (labels pending : List ℕ) → Region → Pending → Verdict
 unfolding reachVerdict destination
-pendingVerdict labels pending region p =
+pendingVerdict job labels pending region p =
     elim (leb (p .offset + 4) (region .size)) [
-      | true ↦ reachVerdict p (pcOf region p) (destination labels pending (p .label))
+      | true ↦ reachVerdict job p (pcOf region p) (destination labels pending (p .label))
       | false ↦ Stop (PatchPastEnd (p .location))
     ]
 

@@ -3,10 +3,12 @@
 use Prim.Native.Nat.{ℕ, _+_, _-_, _*_, _/_, _%_, _^_, _<_, _≤_}
 use native.Mathlib.Omega.{arith}
 use mathlib.Core.List.{List}
-use mathlib.Core.Bool.{Bool, true, false}
+use mathlib.Core.Bool.{Bool, true, false, and-eq-true-iff}
 use mathlib.Core.Path.{_≡_, refl, sym, ap, _∙_}
 use lib.Dec.{leb}
 use borrow.Author.Tests.{eqb-true, leb-true, leb-false, le-leb, lt-leb}
+use Rattle.jobs.specs.declared.Job.{Job}
+use Rattle.jobs.specs.declared.Job.the-variants.{Manual}
 use Rattle.field.specs.Field.{getField, setField}
 use Rattle.field.specs.FieldLaws.{get-set-same}
 use Rattle.record.specs.Bytes.{part}
@@ -22,7 +24,7 @@ use Rattle.pending.specs.declared.InstructionLabelKind.{InstructionLabelKind}
 use Rattle.pending.specs.declared.InstructionLabelKind.the-variants.{Branch, Jump, Lower, Upper, Full}
 use Rattle.pending.specs.declared.Pending.{Pending}
 use Rattle.regions.specs.declared.Region.{Region}
-use Rattle.patch.specs.Patches.{wrap32, pcOf, after, fieldWidth, fieldValue, jumpInRange, inRange, patchedWord, plusOffset, destination, nameLocation, reachVerdict, pendingVerdict}
+use Rattle.patch.specs.Patches.{wrap32, pcOf, after, fieldWidth, fieldValue, branchInRange, jumpInRange, inRange, patchedWord, plusOffset, destination, nameLocation, reachVerdict, pendingVerdict}
 
 -- a destination of 32 bits has a field of the kind's width
 pub value-fits : (kind : InstructionLabelKind) (pc dest : ℕ) → dest < 2 ^ 32 → fieldValue kind pc dest < 2 ^ fieldWidth kind
@@ -62,9 +64,16 @@ destination-lt labels s (Label n) d e = go (resolve labels (part s (n .«name_at
     go (Known a) k = let z : (a + n .offset) % 2 ^ 32 ≡ d = cc in omega arith
     go Unknown k = let z : _≡_ {A = ℕ} 0 1 = cc in absurd (omega arith)
 
-pub jump-page : (pc dest : ℕ) → inRange Jump pc dest ≡ true → dest / 2 ^ 28 ≡ after pc / 2 ^ 28
+pub jump-page : (job : Job) (pc dest : ℕ) → inRange job Jump pc dest ≡ true → dest / 2 ^ 28 ≡ after pc / 2 ^ 28
 unfolding inRange jumpInRange
-jump-page pc dest e = eqb-true (dest / 2 ^ 28) (after pc / 2 ^ 28) e
+jump-page job pc dest e = eqb-true (dest / 2 ^ 28) (after pc / 2 ^ 28) e
+
+-- a branch that a manual job takes is within 16 signed bits
+pub manual-near : (pc dest : ℕ) → inRange Manual Branch pc dest ≡ true → (after pc / 4 ≤ dest / 4 + 32768) × (dest / 4 ≤ after pc / 4 + 32767)
+unfolding inRange branchInRange
+manual-near pc dest e =
+    let b = and-eq-true-iff (leb (after pc / 4) (dest / 4 + 32768)) (leb (dest / 4) (after pc / 4 + 32767)) .0 e in
+    (leb-true (after pc / 4) (dest / 4 + 32768) (b .0), leb-true (dest / 4) (after pc / 4 + 32767) (b .1))
 
 -- ---- a destination, by its label
 
@@ -108,55 +117,55 @@ module _ (pc dest word : ℕ) where
 -- ---- the checks
 
 -- what a patch that passes its checks says
-pub record Reached (labels pending : List ℕ) (g : Region) (p : Pending) : Type 0 where
+pub record Reached (job : Job) (labels pending : List ℕ) (g : Region) (p : Pending) : Type 0 where
   pub dest : ℕ
   pub inside : p .offset + 4 ≤ g .size
   pub known : destination labels pending (p .label) ≡ Known dest
-  pub range : inRange (p .kind) (pcOf g p) dest ≡ true
+  pub range : inRange job (p .kind) (pcOf g p) dest ≡ true
 
 -- the four outcomes of a patch's checks
-module _ (labels pending : List ℕ) (g : Region) (p : Pending) where
-  pub stops-past : g .size < p .offset + 4 → pendingVerdict labels pending g p ≡ Stop (PatchPastEnd (p .location))
+module _ (job : Job) (labels pending : List ℕ) (g : Region) (p : Pending) where
+  pub stops-past : g .size < p .offset + 4 → pendingVerdict job labels pending g p ≡ Stop (PatchPastEnd (p .location))
   unfolding pendingVerdict
   stops-past h = rw (lt-leb (p .offset + 4) (g .size) h, pendingVerdict)
 
   inside-is : p .offset + 4 ≤ g .size
-      → pendingVerdict labels pending g p ≡ reachVerdict p (pcOf g p) (destination labels pending (p .label))
+      → pendingVerdict job labels pending g p ≡ reachVerdict job p (pcOf g p) (destination labels pending (p .label))
   unfolding pendingVerdict
   inside-is h = rw (le-leb (p .offset + 4) (g .size) h, pendingVerdict)
 
   pub stops-unknown : p .offset + 4 ≤ g .size → destination labels pending (p .label) ≡ Unknown
-      → pendingVerdict labels pending g p ≡ Stop (UnknownLabel (nameLocation (p .label)))
+      → pendingVerdict job labels pending g p ≡ Stop (UnknownLabel (nameLocation (p .label)))
   unfolding reachVerdict
-  stops-unknown h k = inside-is h ∙ ap (reachVerdict p (pcOf g p)) k
+  stops-unknown h k = inside-is h ∙ ap (reachVerdict job p (pcOf g p)) k
 
   known-is : (d : ℕ) → p .offset + 4 ≤ g .size → destination labels pending (p .label) ≡ Known d
-      → pendingVerdict labels pending g p ≡ reachVerdict p (pcOf g p) (Known d)
-  known-is d h k = inside-is h ∙ ap (reachVerdict p (pcOf g p)) k
+      → pendingVerdict job labels pending g p ≡ reachVerdict job p (pcOf g p) (Known d)
+  known-is d h k = inside-is h ∙ ap (reachVerdict job p (pcOf g p)) k
 
   pub stops-far : (d : ℕ) → p .offset + 4 ≤ g .size → destination labels pending (p .label) ≡ Known d
-      → inRange (p .kind) (pcOf g p) d ≡ false
-      → pendingVerdict labels pending g p ≡ Stop (JumpOutOfRange (p .location) d (pcOf g p))
+      → inRange job (p .kind) (pcOf g p) d ≡ false
+      → pendingVerdict job labels pending g p ≡ Stop (JumpOutOfRange (p .location) d (pcOf g p))
   unfolding reachVerdict
   stops-far d h k r = known-is d h k ∙ rw (r, reachVerdict)
 
   pub passes : (d : ℕ) → p .offset + 4 ≤ g .size → destination labels pending (p .label) ≡ Known d
-      → inRange (p .kind) (pcOf g p) d ≡ true → pendingVerdict labels pending g p ≡ Pass
+      → inRange job (p .kind) (pcOf g p) d ≡ true → pendingVerdict job labels pending g p ≡ Pass
   unfolding reachVerdict
   passes d h k r = known-is d h k ∙ rw (r, reachVerdict)
 
-  pub reached : pendingVerdict labels pending g p ≡ Pass → Reached labels pending g p
+  pub reached : pendingVerdict job labels pending g p ≡ Pass → Reached job labels pending g p
   reached e = go (leb (p .offset + 4) (g .size)) refl (destination labels pending (p .label)) refl
     where
       far : (d : ℕ) → p .offset + 4 ≤ g .size → destination labels pending (p .label) ≡ Known d
-          → (b : Bool) → inRange (p .kind) (pcOf g p) d ≡ b → inRange (p .kind) (pcOf g p) d ≡ true
+          → (b : Bool) → inRange job (p .kind) (pcOf g p) d ≡ b → inRange job (p .kind) (pcOf g p) d ≡ true
       far d h k true r = r
       far d h k false r = cc (stops-far d h k r)
 
-      go : (b : Bool) → leb (p .offset + 4) (g .size) ≡ b → (a : Address) → destination labels pending (p .label) ≡ a → Reached labels pending g p
+      go : (b : Bool) → leb (p .offset + 4) (g .size) ≡ b → (a : Address) → destination labels pending (p .label) ≡ a → Reached job labels pending g p
       go true f (Known d) k =
           let h : p .offset + 4 ≤ g .size = leb-true (p .offset + 4) (g .size) f in
-          record { dest = d; inside = h; known = k; range = far d h k (inRange (p .kind) (pcOf g p) d) refl }
+          record { dest = d; inside = h; known = k; range = far d h k (inRange job (p .kind) (pcOf g p) d) refl }
       go true f Unknown k =
           let h : p .offset + 4 ≤ g .size = leb-true (p .offset + 4) (g .size) f in
           let s = stops-unknown h k in

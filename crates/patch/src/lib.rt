@@ -5,8 +5,10 @@ ghost use lib.ListN.{length};
 ghost use Rattle.labels.specs.Labels.{labelLayout};
 ghost use mathlib.Core.Bool.{_&&_};
 ghost use lib.Dec.{leb};
+ghost use Rattle.jobs.specs.Jobs.{mostBack, mostAhead};
 ghost use Rattle.patch.specs.Patches.{destination, plusOffset, nameEnd, inRange, patchedWord, nameLocation, addressOr, pendingVerdict, writePending};
 use address_label::AddressLabel;
+use jobs::Job;
 use labels::Address;
 use pending::InstructionLabelKind;
 use pending::Pending;
@@ -62,12 +64,12 @@ struct Span {
 }
 
 // Whether a branch or a jump at pc reaches the destination.
-fn in_range(kind: InstructionLabelKind, pc: u32, destination: u32) -> bool
-    ensures { λ r. ⌜ r ≡ inRange kind pc destination ⌝ }
+fn in_range(job: Job, kind: InstructionLabelKind, pc: u32, destination: u32) -> bool
+    ensures { λ r. ⌜ r ≡ inRange job kind pc destination ⌝ }
 {
     let after = std::num::wrapping_add_u32(pc, 4);
     match kind {
-        InstructionLabelKind::Branch => branch_in_range(after / 4, destination / 4),
+        InstructionLabelKind::Branch => branch_in_range(job, after / 4, destination / 4),
         InstructionLabelKind::Jump => destination / 0x1000_0000 == after / 0x1000_0000,
         InstructionLabelKind::Lower => true,
         InstructionLabelKind::Upper => true,
@@ -75,13 +77,13 @@ fn in_range(kind: InstructionLabelKind, pc: u32, destination: u32) -> bool
     }
 }
 
-// A distance of -0x10000 to 0xFFFF words.
-fn branch_in_range(from: u32, to: u32) -> bool
+// A distance that the job takes.
+fn branch_in_range(job: Job, from: u32, to: u32) -> bool
     requires { ⌜ (from < 2 ^ 30) × (to < 2 ^ 30) ⌝ }
-    ensures { λ r. ⌜ r ≡ (leb from (to + 0x10000) && leb to (from + 0xFFFF)) ⌝ }
+    ensures { λ r. ⌜ r ≡ (leb from (to + mostBack job) && leb to (from + mostAhead job)) ⌝ }
 {
-    if from <= to + 0x10000 {
-        to <= from + 0xFFFF
+    if from <= to + jobs::most_back(job) {
+        to <= from + jobs::most_ahead(job)
     } else {
         false
     }
@@ -107,10 +109,16 @@ fn add_label(instruction: u32, kind: InstructionLabelKind, span: Span) -> u32
 }
 
 // The checks of one patch: 14, 15, 16.
-pub fn check_pending(labels: &[u8], pending: &[u8], region: Region, patch: Pending) -> Verdict
+pub fn check_pending(
+    job: Job,
+    labels: &[u8],
+    pending: &[u8],
+    region: Region,
+    patch: Pending,
+) -> Verdict
     requires { ⌜ labelLayout (now labels) ≡ Layout.Good ⌝ }
     requires { ⌜ nameEnd (patch .label) ≤ length (now pending) ⌝ }
-    ensures { λ r. ⌜ r ≡ pendingVerdict (now (labels .entry)) (now (pending .entry)) region patch ⌝ }
+    ensures { λ r. ⌜ r ≡ pendingVerdict job (now (labels .entry)) (now (pending .entry)) region patch ⌝ }
 {
     let location = patch.location;
     let label = patch.label;
@@ -123,7 +131,7 @@ pub fn check_pending(labels: &[u8], pending: &[u8], region: Region, patch: Pendi
     match get_address(label, pending, labels) {
         Address::Unknown => Verdict::Stop(Refusal::UnknownLabel(name_location(label))),
         Address::Known(destination) => {
-            if in_range(kind, pc, destination) {
+            if in_range(job, kind, pc, destination) {
                 Verdict::Pass
             } else {
                 Verdict::Stop(Refusal::JumpOutOfRange(location, destination, pc))

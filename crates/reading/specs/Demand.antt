@@ -3,6 +3,7 @@
 use mathlib.Core.Path.{_≡_, sym, ap, _∙_}
 use mathlib.Core.List.{List}
 use Prim.Native.Nat.{ℕ}
+use Rattle.jobs.specs.declared.Job.{Job}
 use Rattle.record.specs.Records.{places}
 use Rattle.address_label.specs.Entries.{entryOf}
 use Rattle.build_outcome.specs.Build.{buildOutcome, entryAddress}
@@ -15,27 +16,27 @@ use Rattle.reading.specs.ReadBackLaws.{read-back}
 use Rattle.reading.specs.TablesLaws.{same-used}
 
 -- "document 01's MIPS32 reading of each patch in the finished words, by its kind, equals its destination": one claim on the whole list
-pub reads-back : (labels entry regions pending : List ℕ) → Premises labels entry regions pending
-    → readings (imageOf (buildOutcome labels entry regions pending .regions)) pending ≡ destinations labels pending
-reads-back labels entry regions pending pr =
-    ap (λ (r : List ℕ). readings (imageOf r) pending) (outcome-accepted labels entry regions pending (pr .accepted) .1)
-    ∙ read-back labels entry regions pending pr
+pub reads-back : (job : Job) (labels entry regions pending : List ℕ) → Premises job labels entry regions pending
+    → readings (imageOf (buildOutcome job labels entry regions pending .regions)) pending ≡ destinations labels pending
+reads-back job labels entry regions pending pr =
+    ap (λ (r : List ℕ). readings (imageOf r) pending) (outcome-accepted job labels entry regions pending (pr .accepted) .1)
+    ∙ read-back job labels entry regions pending pr
 
 -- "two label tables that differ in a used address never share an image with its entry"
-pub never-shared : (labels₁ labels₂ entry regions pending : List ℕ) → Bytes labels₁ → Bytes labels₂
-    → Premises labels₁ entry regions pending → Premises labels₂ entry regions pending
-    → imageOf (buildOutcome labels₁ entry regions pending .regions) ≡ imageOf (buildOutcome labels₂ entry regions pending .regions)
-    → buildOutcome labels₁ entry regions pending .answer ≡ buildOutcome labels₂ entry regions pending .answer
+pub never-shared : (job : Job) (labels₁ labels₂ entry regions pending : List ℕ) → Bytes labels₁ → Bytes labels₂
+    → Premises job labels₁ entry regions pending → Premises job labels₂ entry regions pending
+    → imageOf (buildOutcome job labels₁ entry regions pending .regions) ≡ imageOf (buildOutcome job labels₂ entry regions pending .regions)
+    → buildOutcome job labels₁ entry regions pending .answer ≡ buildOutcome job labels₂ entry regions pending .answer
     → SameUsed labels₁ labels₂ entry pending
-never-shared labels₁ labels₂ entry regions pending b₁ b₂ pr₁ pr₂ i a =
-    let o₁ = outcome-accepted labels₁ entry regions pending (pr₁ .accepted) in
-    let o₂ = outcome-accepted labels₂ entry regions pending (pr₂ .accepted) in
+never-shared job labels₁ labels₂ entry regions pending b₁ b₂ pr₁ pr₂ i a =
+    let o₁ = outcome-accepted job labels₁ entry regions pending (pr₁ .accepted) in
+    let o₂ = outcome-accepted job labels₂ entry regions pending (pr₂ .accepted) in
     let e : entryAddress labels₁ entry (entryOf entry (places entry)) ≡ entryAddress labels₂ entry (entryOf entry (places entry)) = cc in
-    same-used labels₁ labels₂ entry regions pending b₁ b₂ pr₁ pr₂ (sym (ap imageOf (o₁ .1)) ∙ i ∙ ap imageOf (o₂ .1)) e
+    same-used job labels₁ labels₂ entry regions pending b₁ b₂ pr₁ pr₂ (sym (ap imageOf (o₁ .1)) ∙ i ∙ ap imageOf (o₂ .1)) e
 
 -- the same in the tender's direction: tables that differ in a used address do not have both in common
-pub differing-apart : (labels₁ labels₂ entry regions pending : List ℕ) → Bytes labels₁ → Bytes labels₂
-    → Premises labels₁ entry regions pending → Premises labels₂ entry regions pending → (SameUsed labels₁ labels₂ entry pending → ⊥)
-    → imageOf (buildOutcome labels₁ entry regions pending .regions) ≡ imageOf (buildOutcome labels₂ entry regions pending .regions)
-    → buildOutcome labels₁ entry regions pending .answer ≡ buildOutcome labels₂ entry regions pending .answer → ⊥
-differing-apart labels₁ labels₂ entry regions pending b₁ b₂ pr₁ pr₂ differ i a = differ (never-shared labels₁ labels₂ entry regions pending b₁ b₂ pr₁ pr₂ i a)
+pub differing-apart : (job : Job) (labels₁ labels₂ entry regions pending : List ℕ) → Bytes labels₁ → Bytes labels₂
+    → Premises job labels₁ entry regions pending → Premises job labels₂ entry regions pending → (SameUsed labels₁ labels₂ entry pending → ⊥)
+    → imageOf (buildOutcome job labels₁ entry regions pending .regions) ≡ imageOf (buildOutcome job labels₂ entry regions pending .regions)
+    → buildOutcome job labels₁ entry regions pending .answer ≡ buildOutcome job labels₂ entry regions pending .answer → ⊥
+differing-apart job labels₁ labels₂ entry regions pending b₁ b₂ pr₁ pr₂ differ i a = differ (never-shared job labels₁ labels₂ entry regions pending b₁ b₂ pr₁ pr₂ i a)

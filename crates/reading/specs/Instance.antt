@@ -7,14 +7,17 @@ use mathlib.Core.Path.{_≡_, refl, sym, ap, _∙_}
 use lib.ListN.{take}
 use lib.Dec.{eqb}
 use borrow.Author.Tests.{leb-true, eqb-true}
+use Rattle.jobs.specs.declared.Job.{Job}
+use Rattle.jobs.specs.declared.Job.the-variants.{Commit}
 use Rattle.record.specs.Records.{places}
 use Rattle.labels.specs.Labels.{resolve}
 use Rattle.labels.specs.declared.Address.{Address}
 use Rattle.labels.specs.declared.Address.the-variants.{Known}
 use Rattle.pending.specs.declared.InstructionLabelKind.{InstructionLabelKind}
 use Rattle.pending.specs.declared.InstructionLabelKind.the-variants.{Branch, Jump, Lower, Upper}
+use Rattle.refusal.specs.declared.Verdict.the-variants.{Pass}
 use Rattle.pending.specs.Pendings.{kindFrom, pendingAt}
-use Rattle.build_outcome.specs.Build.{patchOrder, writePatches, BuildOutcome, buildOutcome}
+use Rattle.build_outcome.specs.Build.{patchOrder, buildVerdict, writePatches, BuildOutcome, buildOutcome}
 use Rattle.build_outcome.specs.declared.Built.the-variants.{Entry}
 use Rattle.reading.specs.Reading.{imageOf, readings, destinations}
 use Rattle.finished_words.specs.Listed.{In, pcAt, destinationAt}
@@ -23,7 +26,7 @@ use Rattle.finished_words.specs.Instance.{each, bytes, apart}
 use Rattle.reading.specs.Premises.{Pair, Premises}
 use Rattle.reading.specs.Used.{SameUsed}
 use Rattle.reading.specs.Demand.{reads-back, never-shared, differing-apart}
-use Rattle.reading.specs.InstanceLaws.{onWord, notFarBack, notFarOn, fits, Computed, evaluated}
+use Rattle.reading.specs.InstanceLaws.{onWord, notFarBack, notFarOn, fits, in-each, outcome, Computed, evaluated}
 
 -- ---- the premises
 pair : Pair pending 116 0
@@ -39,7 +42,7 @@ pair =
       target = record { form = refl; value = refl; name = refl };
     }
 
-module _ (labels : List ℕ) (computed : Computed labels) where
+module _ (job : Job) (labels : List ℕ) (computed : Computed labels) where
   fitting : (kind : InstructionLabelKind) (p : ℕ) → In pending p → pendingAt pending p .kind ≡ kind → fits labels kind p ≡ true
   fitting kind p m e = rw e at (each (λ (p : ℕ). fits labels (pendingAt pending p .kind) p) (places pending) (computed .fit) p m)
 
@@ -52,32 +55,32 @@ module _ (labels : List ℕ) (computed : Computed labels) where
   on-word : (p : ℕ) → onWord labels p ≡ true → destinationAt labels pending p % 4 ≡ 0
   on-word p e = eqb-true (destinationAt labels pending p % 4) 0 e
 
-  premises : Premises labels entry regions pending
+  premises : Premises job labels entry regions pending
   premises =
       record {
-        accepted = computed .accepted;
+        accepted = in-each (λ job. buildVerdict job labels entry regions pending ≡ Pass) (computed .accepted) job;
         aligned = λ p m. eqb-true (pcAt regions pending p % 4) 0 (each (λ (p : ℕ). eqb (pcAt regions pending p % 4) 0) (places pending) (evaluated .aligned) p m);
         apart = apart;
         branch-target = λ p m e. on-word p (branching p m e .0);
         jump-target = λ p m e. on-word p (fitting Jump p m e);
-        near = λ p m e. (leb-true _ _ (branching p m e .1 .0), leb-true _ _ (branching p m e .1 .1));
+        near = λ commit p m e. (leb-true _ _ (branching p m e .1 .0), leb-true _ _ (branching p m e .1 .1));
         upper-paired = λ p m e. (0, rw (eqb-true p 116 (fitting Upper p m e)) pair);
         lower-paired = λ p m e. (116, rw (eqb-true p 0 (fitting Lower p m e)) pair);
       }
 
 -- ---- the theorems on the instance
-pub instance₁ : Premises labels₁ entry regions pending
-instance₁ = premises labels₁ (evaluated .first)
+pub instance₁ : (job : Job) → Premises job labels₁ entry regions pending
+instance₁ job = premises job labels₁ (evaluated .first)
 
-pub instance₂ : Premises labels₂ entry regions pending
-instance₂ = premises labels₂ (evaluated .second)
+pub instance₂ : (job : Job) → Premises job labels₂ entry regions pending
+instance₂ job = premises job labels₂ (evaluated .second)
 
-pub instance₃ : Premises labels₃ entry regions pending
-instance₃ = premises labels₃ (evaluated .third)
+pub instance₃ : (job : Job) → Premises job labels₃ entry regions pending
+instance₃ job = premises job labels₃ (evaluated .third)
 
 -- the six readings, in list order
-pub instance-reads : readings (imageOf (buildOutcome labels₁ entry regions pending .regions)) pending ≡ destinations labels₁ pending
-instance-reads = reads-back labels₁ entry regions pending instance₁
+pub instance-reads : (job : Job) → readings (imageOf (buildOutcome job labels₁ entry regions pending .regions)) pending ≡ destinations labels₁ pending
+instance-reads job = reads-back job labels₁ entry regions pending (instance₁ job)
 
 pub instance-numbers : destinations labels₁ pending
     ≡ Known 0x0040C008 ∷ Known 0x00400008 ∷ Known 0x12345678 ∷ Known 0x0040C008 ∷ Known 0x00400004 ∷ Known 0x003E0010 ∷ []
@@ -103,16 +106,18 @@ pub first-listed-only-fails : readings (imageOf (writePatches labels₁ regions 
 first-listed-only-fails e = fails (writePatches labels₁ regions pending (take 1 (places pending)) regions) _ _ (evaluated .first-listed-only) (λ z. omega arith) e
 
 -- ---- the first two tables differ, share an image with its entry, and agree on the used address
-same-outcome : buildOutcome labels₁ entry regions pending ≡ buildOutcome labels₂ entry regions pending
-same-outcome = evaluated .first-outcome ∙ sym (evaluated .second-outcome)
+same-outcome : (job : Job) → buildOutcome job labels₁ entry regions pending ≡ buildOutcome job labels₂ entry regions pending
+same-outcome job =
+    in-each (λ job. buildOutcome job labels₁ entry regions pending ≡ outcome) (evaluated .first-outcome) job
+    ∙ sym (in-each (λ job. buildOutcome job labels₂ entry regions pending ≡ outcome) (evaluated .second-outcome) job)
 
 pub tables-differ : (resolve labels₁ idle ≡ Known 0x00001000) × (resolve labels₂ idle ≡ Known 0x00002000)
 tables-differ = evaluated .idle-addresses
 
-pub instance-used : SameUsed labels₁ labels₂ entry pending
-instance-used =
-    never-shared labels₁ labels₂ entry regions pending (bytes labels₁ (evaluated .first .bytes-fit)) (bytes labels₂ (evaluated .second .bytes-fit)) instance₁ instance₂
-    (ap (λ (o : BuildOutcome). imageOf (o .regions)) same-outcome) (ap (λ (o : BuildOutcome). o .answer) same-outcome)
+pub instance-used : (job : Job) → SameUsed labels₁ labels₂ entry pending
+instance-used job =
+    never-shared job labels₁ labels₂ entry regions pending (bytes labels₁ (evaluated .first .bytes-fit)) (bytes labels₂ (evaluated .second .bytes-fit)) (instance₁ job) (instance₂ job)
+    (ap (λ (o : BuildOutcome). imageOf (o .regions)) (same-outcome job)) (ap (λ (o : BuildOutcome). o .answer) (same-outcome job))
 
 -- ---- the first and the third differ in a used address, and so do not share an image with its entry
 pub used-differs : (resolve labels₁ loop ≡ Known 0x00400008) × (resolve labels₃ loop ≡ Known 0x0040000C)
@@ -126,11 +131,11 @@ not-same-used u =
     let z : _≡_ {A = ℕ} 0x00400008 0x0040000C = cc in
     omega arith
 
-pub instance-apart : imageOf (buildOutcome labels₁ entry regions pending .regions) ≡ imageOf (buildOutcome labels₃ entry regions pending .regions)
-    → buildOutcome labels₁ entry regions pending .answer ≡ buildOutcome labels₃ entry regions pending .answer → ⊥
-instance-apart =
-    differing-apart labels₁ labels₃ entry regions pending (bytes labels₁ (evaluated .first .bytes-fit)) (bytes labels₃ (evaluated .third .bytes-fit)) instance₁ instance₃ not-same-used
+pub instance-apart : (job : Job) → imageOf (buildOutcome job labels₁ entry regions pending .regions) ≡ imageOf (buildOutcome job labels₃ entry regions pending .regions)
+    → buildOutcome job labels₁ entry regions pending .answer ≡ buildOutcome job labels₃ entry regions pending .answer → ⊥
+instance-apart job =
+    differing-apart job labels₁ labels₃ entry regions pending (bytes labels₁ (evaluated .first .bytes-fit)) (bytes labels₃ (evaluated .third .bytes-fit)) (instance₁ job) (instance₃ job) not-same-used
 
 -- document 01's example of a build
-pub example : buildOutcome [] [] exampleRegions examplePending ≡ record { answer = Entry 0x00400000; regions = exampleFinished }
+pub example : buildOutcome Commit [] [] exampleRegions examplePending ≡ record { answer = Entry 0x00400000; regions = exampleFinished }
 example = evaluated .example

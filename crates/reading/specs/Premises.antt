@@ -2,6 +2,8 @@
 use Prim.Native.Nat.{ℕ, _+_, _-_, _/_, _%_, _≤_}
 use mathlib.Core.Path.{_≡_}
 use mathlib.Core.List.{List}
+use Rattle.jobs.specs.declared.Job.{Job}
+use Rattle.jobs.specs.declared.Job.the-variants.{Commit}
 use Rattle.record.specs.Bytes.{byteAt, le64, part}
 use Rattle.record.specs.Records.{bodyLen}
 use Rattle.refusal.specs.declared.Verdict.the-variants.{Pass}
@@ -28,9 +30,9 @@ pub record Pair (pending : List ℕ) (upper lower : ℕ) : Type 0 where
   pub target : SameTarget pending upper lower
 
 -- The tender's premises, for a label table, a region list, an entry record and a pending list in whatever order.
-pub record Premises (labels entry regions pending : List ℕ) : Type 0 where
+pub record Premises (job : Job) (labels entry regions pending : List ℕ) : Type 0 where
   -- "An accepted build is one to which no refusal is due"
-  pub accepted : buildVerdict labels entry regions pending ≡ Pass
+  pub accepted : buildVerdict job labels entry regions pending ≡ Pass
   -- "patch addresses multiples of four": "A patch's address is its pc"
   pub aligned : (p : ℕ) → In pending p → pcAt regions pending p % 4 ≡ 0
   -- "patches not overlapping"
@@ -38,8 +40,9 @@ pub record Premises (labels entry regions pending : List ℕ) : Type 0 where
   -- "branch and jump destinations multiples of four"
   pub branch-target : (p : ℕ) → In pending p → pendingAt pending p .kind ≡ Branch → destinationAt labels pending p % 4 ≡ 0
   pub jump-target : (p : ℕ) → In pending p → pendingAt pending p .kind ≡ Jump → destinationAt labels pending p % 4 ≡ 0
-  -- "branch distances within -32,768 to 32,767 words"
-  pub near : (p : ℕ) → In pending p → pendingAt pending p .kind ≡ Branch
+  -- "branch distances within -32,768 to 32,767 words"; document 02, P5: "For manual jobs the reading-back condition needs no premise on
+  -- branch distance"
+  pub near : job ≡ Commit → (p : ℕ) → In pending p → pendingAt pending p .kind ≡ Branch
       → (after (pcAt regions pending p) / 4 ≤ destinationAt labels pending p / 4 + 32768)
       × (destinationAt labels pending p / 4 ≤ after (pcAt regions pending p) / 4 + 32767)
   -- "every half in a pair"

@@ -1,12 +1,14 @@
 -- Reading back: in the image of an accepted build, under the tender's premises, the readings of the whole pending list are its
 -- destinations. Assumes nothing.
-use Prim.Native.Nat.{ℕ, _+_, _-_, _*_, _/_, _%_, _^_}
+use Prim.Native.Nat.{ℕ, _+_, _-_, _*_, _/_, _%_, _^_, _≤_}
 use native.Mathlib.Omega.{arith}
 use mathlib.Core.List.{List}
 use mathlib.Core.Bool.{Bool, true, false}
-use mathlib.Core.Path.{_≡_, refl, sym, ap, ap₂, _∙_}
+use mathlib.Core.Path.{_≡_, refl, sym, ap, ap₂, subst, _∙_}
 use lib.Dec.{eqb}
 use borrow.Author.Tests.{eqb-true, eqb-false}
+use Rattle.jobs.specs.declared.Job.{Job}
+use Rattle.jobs.specs.declared.Job.the-variants.{Commit, Manual}
 use Rattle.record.specs.Bytes.{byteAt, le32, le64, part}
 use Rattle.record.specs.Records.{bodyLen, next, places}
 use Rattle.labels.specs.declared.Address.the-variants.{Known}
@@ -17,7 +19,7 @@ use Rattle.pending.specs.declared.InstructionLabelKind.the-variants.{Branch, Ju
 use Rattle.pending.specs.Pendings.{pendingAt, labelOf}
 use Rattle.labels.specs.Labels.{resolve}
 use Rattle.patch.specs.Patches.{destination, plusOffset, wrap32, after, fieldWidth, fieldValue, inRange, addressOr}
-use Rattle.patch.specs.PatchesLaws.{jump-page}
+use Rattle.patch.specs.PatchesLaws.{jump-page, manual-near}
 use Rattle.build_outcome.specs.Build.{patchedRegions}
 use Rattle.finished_words.specs.Listed.{In, kindOf, slotAt, destinationAt, pcAt}
 use Rattle.finished_words.specs.Words.{finishedWord, finishedAt}
@@ -62,19 +64,19 @@ target-same labels pending p q t = ap (addressOr 0) (go (eqb (byteAt pending (p 
         named-is labels pending p n ∙ ap₂ (λ (l : List ℕ) (v : ℕ). plusOffset (resolve labels l) v) (t .name) (t .value)
         ∙ sym (named-is labels pending q (λ z. n (t .form ∙ z)))
 
-module _ (labels entry regions pending : List ℕ) (premises : Premises labels entry regions pending) where
+module _ (job : Job) (labels entry regions pending : List ℕ) (premises : Premises job labels entry regions pending) where
   -- the word of each patch in the image
   word-at : (p : ℕ) → In pending p
       → wordIn (imageOf (patchedRegions labels regions pending)) (pendingAt pending p .region) (pendingAt pending p .offset) ≡ finishedAt labels regions pending p
   word-at p m =
-      image-word regions (patchedRegions labels regions pending) (finished-kept labels entry regions pending (premises .accepted)) (pendingAt pending p .region)
-      (has-region labels entry regions pending (premises .accepted) p m) (pendingAt pending p .offset) (reaches labels entry regions pending (premises .accepted) p m .inside)
-      ∙ word-finished labels entry regions pending (premises .accepted) (premises .apart) p m
+      image-word regions (patchedRegions labels regions pending) (finished-kept job labels entry regions pending (premises .accepted)) (pendingAt pending p .region)
+      (has-region job labels entry regions pending (premises .accepted) p m) (pendingAt pending p .offset) (reaches job labels entry regions pending (premises .accepted) p m .inside)
+      ∙ word-finished job labels entry regions pending (premises .accepted) (premises .apart) p m
 
   pc-at : (p : ℕ) → In pending p → pcIn (imageOf (patchedRegions labels regions pending)) (pendingAt pending p) ≡ pcAt regions pending p
   pc-at p m =
-      image-pc regions (patchedRegions labels regions pending) (pendingAt pending p) (finished-kept labels entry regions pending (premises .accepted))
-      (has-region labels entry regions pending (premises .accepted) p m)
+      image-pc regions (patchedRegions labels regions pending) (pendingAt pending p) (finished-kept job labels entry regions pending (premises .accepted))
+      (has-region job labels entry regions pending (premises .accepted) p m)
 
   -- its low bits are the patch's field
   field-at : (p : ℕ) → In pending p
@@ -83,7 +85,22 @@ module _ (labels entry regions pending : List ℕ) (premises : Premises labels e
   field-at p m =
       ap (λ (w : ℕ). w % 2 ^ fieldWidth (kindOf pending p)) (word-at p m)
       ∙ finished-field (kindOf pending p) (pcAt regions pending p) (destinationAt labels pending p) (le32 regions (slotAt regions pending p))
-      (dest-lt labels entry regions pending (premises .accepted) p m)
+      (dest-lt job labels entry regions pending (premises .accepted) p m)
+
+  -- the distance of each branch: by the premise, or since the manual's build took it
+  near : (p : ℕ) → In pending p → pendingAt pending p .kind ≡ Branch
+      → (after (pcAt regions pending p) / 4 ≤ destinationAt labels pending p / 4 + 32768)
+      × (destinationAt labels pending p / 4 ≤ after (pcAt regions pending p) / 4 + 32767)
+  near p m e = go job refl
+    where
+      go : (j : Job) → job ≡ j
+          → (after (pcAt regions pending p) / 4 ≤ destinationAt labels pending p / 4 + 32768)
+          × (destinationAt labels pending p / 4 ≤ after (pcAt regions pending p) / 4 + 32767)
+      go Commit q = premises .near q p m e
+      go Manual q =
+          let r : inRange job Branch (pcAt regions pending p) (destinationAt labels pending p) ≡ true = rw e at (in-range job labels entry regions pending (premises .accepted) p m) in
+          manual-near (pcAt regions pending p) (destinationAt labels pending p)
+          (subst (λ (j : Job). inRange j Branch (pcAt regions pending p) (destinationAt labels pending p) ≡ true) q r)
 
   branch-back : (p : ℕ) → In pending p → pendingAt pending p .kind ≡ Branch
       → readBy Branch (imageOf (patchedRegions labels regions pending)) (pendingAt pending p) ≡ destinationAt labels pending p
@@ -93,7 +110,7 @@ module _ (labels entry regions pending : List ℕ) (premises : Premises labels e
       ≡ fieldValue Branch (pcAt regions pending p) (destinationAt labels pending p) = rw e at (field-at p m) in
       ap₂ (λ (pc n : ℕ). wrap32 (after pc + signedBytes n)) (pc-at p m) f
       ∙ branch-reads (pcAt regions pending p) (destinationAt labels pending p) (omega (arith, premises .aligned p m)) (omega (arith, premises .branch-target p m e))
-      (dest-lt labels entry regions pending (premises .accepted) p m) (omega (arith, premises .near p m e .0)) (omega (arith, premises .near p m e .1))
+      (dest-lt job labels entry regions pending (premises .accepted) p m) (omega (arith, near p m e .0)) (omega (arith, near p m e .1))
 
   jump-back : (p : ℕ) → In pending p → pendingAt pending p .kind ≡ Jump
       → readBy Jump (imageOf (patchedRegions labels regions pending)) (pendingAt pending p) ≡ destinationAt labels pending p
@@ -101,9 +118,9 @@ module _ (labels entry regions pending : List ℕ) (premises : Premises labels e
   jump-back p m e =
       let f : wordIn (imageOf (patchedRegions labels regions pending)) (pendingAt pending p .region) (pendingAt pending p .offset) % 2 ^ fieldWidth Jump
       ≡ fieldValue Jump (pcAt regions pending p) (destinationAt labels pending p) = rw e at (field-at p m) in
-      let r : inRange Jump (pcAt regions pending p) (destinationAt labels pending p) ≡ true = rw e at (in-range labels entry regions pending (premises .accepted) p m) in
+      let r : inRange job Jump (pcAt regions pending p) (destinationAt labels pending p) ≡ true = rw e at (in-range job labels entry regions pending (premises .accepted) p m) in
       ap₂ (λ (pc n : ℕ). after pc / 2 ^ 28 * 2 ^ 28 + n * 4) (pc-at p m) f
-      ∙ jump-reads (pcAt regions pending p) (destinationAt labels pending p) (omega (arith, premises .jump-target p m e)) (jump-page (pcAt regions pending p) (destinationAt labels pending p) r)
+      ∙ jump-reads (pcAt regions pending p) (destinationAt labels pending p) (omega (arith, premises .jump-target p m e)) (jump-page job (pcAt regions pending p) (destinationAt labels pending p) r)
 
   full-back : (p : ℕ) → In pending p → pendingAt pending p .kind ≡ Full
       → readBy Full (imageOf (patchedRegions labels regions pending)) (pendingAt pending p) ≡ destinationAt labels pending p
@@ -171,7 +188,7 @@ module _ (labels entry regions pending : List ℕ) (premises : Premises labels e
 
   each-back : (p : ℕ) → In pending p
       → Known (reading (imageOf (patchedRegions labels regions pending)) (pendingAt pending p)) ≡ destination labels pending (pendingAt pending p .label)
-  each-back p m = ap Known (by-kind (pendingAt pending p .kind) p m refl) ∙ sym (known labels entry regions pending (premises .accepted) p m)
+  each-back p m = ap Known (by-kind (pendingAt pending p .kind) p m refl) ∙ sym (known job labels entry regions pending (premises .accepted) p m)
 
   -- One claim on the whole pending list: the list of readings is the list of destinations.
   pub read-back : readings (imageOf (patchedRegions labels regions pending)) pending ≡ destinations labels pending

@@ -6,6 +6,7 @@ use mathlib.Core.List.{List, [], _∷_, map, List·Memᴰ, List·Memᴰ·cases-c
 use mathlib.Core.Logic.{_⊎_, inl, inr, ⊎-elim}
 use mathlib.Core.Path.{_≡_, refl, sym, ap, _∙_}
 use lib.ListN.{length}
+use Rattle.jobs.specs.declared.Job.{Job}
 use Rattle.record.specs.Bytes.{byteAt, le32, le64}
 use Rattle.record.specs.Records.{bodyLen, next, places}
 use Rattle.names.specs.Names.{firstNamed}
@@ -65,13 +66,13 @@ offset-same labels₁ labels₂ name v d b₁ b₂ e₁ e₂ = go (resolve label
     go (Known a) f Unknown g = let z : _≡_ {A = ℕ} 0 1 = cc in absurd (omega arith)
     go Unknown f y g = let z : _≡_ {A = ℕ} 0 1 = cc in absurd (omega arith)
 
-module _ (labels₁ labels₂ entry regions pending : List ℕ) (b₁ : Bytes labels₁) (b₂ : Bytes labels₂)
-    (pr₁ : Premises labels₁ entry regions pending) (pr₂ : Premises labels₂ entry regions pending) where
+module _ (job : Job) (labels₁ labels₂ entry regions pending : List ℕ) (b₁ : Bytes labels₁) (b₂ : Bytes labels₂)
+    (pr₁ : Premises job labels₁ entry regions pending) (pr₂ : Premises job labels₂ entry regions pending) where
   -- equal images have equal destinations
   same-destinations : imageOf (patchedRegions labels₁ regions pending) ≡ imageOf (patchedRegions labels₂ regions pending)
       → destinations labels₁ pending ≡ destinations labels₂ pending
   same-destinations i =
-      sym (read-back labels₁ entry regions pending pr₁) ∙ ap (λ (x : _). readings x pending) i ∙ read-back labels₂ entry regions pending pr₂
+      sym (read-back job labels₁ entry regions pending pr₁) ∙ ap (λ (x : _). readings x pending) i ∙ read-back job labels₂ entry regions pending pr₂
 
   pending-used : imageOf (patchedRegions labels₁ regions pending) ≡ imageOf (patchedRegions labels₂ regions pending)
       → (p : ℕ) → In pending p → (byteAt pending (p + 19) ≡ 0 → ⊥) → resolve labels₁ (pendingName pending p) ≡ resolve labels₂ (pendingName pending p)
@@ -80,18 +81,18 @@ module _ (labels₁ labels₂ entry regions pending : List ℕ) (b₁ : Bytes la
       let d : destination labels₁ pending (labelOf pending p) ≡ destination labels₂ pending (labelOf pending p) = map-at
       (λ (at : ℕ). destination labels₁ pending (pendingAt pending at .label)) (λ (at : ℕ). destination labels₂ pending (pendingAt pending at .label))
       (places pending) (same-destinations i) p m in
-      let k = known labels₁ entry regions pending (pr₁ .accepted) p m in
+      let k = known job labels₁ entry regions pending (pr₁ .accepted) p m in
       offset-same labels₁ labels₂ (pendingName pending p) (le64 pending (p + 20)) _ b₁ b₂
       (sym (named-is labels₁ pending p n) ∙ k) (sym (named-is labels₂ pending p n) ∙ sym d ∙ k)
 
   -- the entry
-  entry-known : (labels : List ℕ) → Premises labels entry regions pending → (p : ℕ) → places entry ≡ p ∷ []
+  entry-known : (labels : List ℕ) → Premises job labels entry regions pending → (p : ℕ) → places entry ≡ p ∷ []
       → destination labels entry (addressLabelAt entry (p + 4) (next entry p)) ≡ Known (entryAddress labels entry (entryOf entry (places entry)))
   entry-known labels pr p e =
       go (destination labels entry (addressLabelAt entry (p + 4) (next entry p))) refl
     where
       passes : reachEntry (addressLabelAt entry (p + 4) (next entry p)) (destination labels entry (addressLabelAt entry (p + 4) (next entry p))) ≡ Pass
-      passes = rw e at (accepted-is labels entry regions pending (pr .accepted) .entry-passes)
+      passes = rw e at (accepted-is job labels entry regions pending (pr .accepted) .entry-passes)
 
       go : (a : Address) → destination labels entry (addressLabelAt entry (p + 4) (next entry p)) ≡ a
           → destination labels entry (addressLabelAt entry (p + 4) (next entry p)) ≡ Known (entryAddress labels entry (entryOf entry (places entry)))
@@ -103,7 +104,7 @@ module _ (labels₁ labels₂ entry regions pending : List ℕ) (b₁ : Bytes la
 
   entry-used : entryAddress labels₁ entry (entryOf entry (places entry)) ≡ entryAddress labels₂ entry (entryOf entry (places entry))
       → (p : ℕ) → In entry p → (byteAt entry (p + 4) ≡ 0 → ⊥) → resolve labels₁ (entryName entry p) ≡ resolve labels₂ (entryName entry p)
-  entry-used same p m n = alone (places entry) refl (entry-good entry (accepted-is labels₁ entry regions pending (pr₁ .accepted) .entry-good) .2) m
+  entry-used same p m n = alone (places entry) refl (entry-good entry (accepted-is job labels₁ entry regions pending (pr₁ .accepted) .entry-good) .2) m
     where
       by-name : (labels : List ℕ) → destination labels entry (addressLabelAt entry (p + 4) (next entry p)) ≡ plusOffset (resolve labels (entryName entry p)) (le64 entry (p + 5))
       by-name labels = label-is labels entry (p + 4) (next entry p) (p + 21) (bodyLen entry p - 17) (p + 5) n (omega arith) (omega arith) (omega arith)

@@ -29,6 +29,9 @@ pub enum Refusal {
     UnknownLabel(Location),
     // the destination and the patch's pc
     JumpOutOfRange(Location, u32, u32),
+    // of a line that is made by the manual
+    ShiftOutOfRange(Location),
+    CodeOutOfRange(Location),
     // a text's token that cannot be read, or is none that a record may hold, or has no room
     BadByte(Location),
     BadToken(Location),
@@ -89,6 +92,8 @@ pub fn numbers(refusal: Refusal) -> Numbered
         Refusal::PatchPastEnd(l) => with(14, l, none),
         Refusal::UnknownLabel(l) => with(15, l, none),
         Refusal::JumpOutOfRange(l, a, b) => with(16, l, Values { a, b }),
+        Refusal::ShiftOutOfRange(l) => with(19, l, none),
+        Refusal::CodeOutOfRange(l) => with(20, l, none),
         Refusal::BadByte(l) => with(21, l, none),
         Refusal::BadToken(l) => with(22, l, none),
         Refusal::NoTokenSpace(l) => with(23, l, none),

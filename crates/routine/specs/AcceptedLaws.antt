@@ -2,6 +2,7 @@
 use Prim.Native.Nat.{ℕ}
 use native.Mathlib.Omega.{arith}
 use mathlib.Core.Path.{_≡_, refl, sym, ap, _∙_}
+use Rattle.jobs.specs.declared.Job.{Job}
 use Rattle.record.specs.declared.Layout.the-variants.{Good}
 use Rattle.refusal.specs.Verdicts.{layoutVerdict, nameVerdict}
 use Rattle.refusal.specs.VerdictsLaws.{both-pass, layout-pass}
@@ -73,7 +74,7 @@ module _ (c : Call) where
   answer-made : (made : Line) (a : LineAnswer) → answerStop (c .token-list) (mnemonicLocation (c .mnemonic)) (c .numbers) (c .lent) (made .pairs) a ≡ Pass → a ≡ Made
   answer-made made Made e = refl
   answer-made made (Missed m) e = cc
-  answer-made made OutOfRange e = cc
+  answer-made made (OutOfRange fault) e = cc
 
   line-passes : (made : Line) (position : ℕ) (loaded : LoadForm) → callLine c made .answer ≡ Done position loaded → LinePasses made
   unfolding lineOutcome
@@ -86,52 +87,53 @@ module _ (c : Call) where
       go Pass p d = record { made-is = answer-made made (made .answer) p; passes = p; outcome-is = ap outcome p }
       go (Stop r) p d = let z : _≡_ {A = ℕ} 0 1 = cc in absurd (omega arith)
 
+module _ (job : Job) (c : Call) where
   -- ---- the call
 
   pub record AcceptedCall : Type 0 where
     pub lists : ListsPass c
     pub made : Line
-    pub pairs-are : made .pairs ≡ callPairs c
-    pub line : LinePasses made
+    pub pairs-are : made .pairs ≡ callPairs job c
+    pub line : LinePasses c made
     pub words : Words (c .token-list) 1 5 (made .pairs)
-    pub outcome-is : emitOutcome c ≡ acceptLine c made
+    pub outcome-is : emitOutcome job c ≡ acceptLine c made
 
   module _ (position : ℕ) (loaded : LoadForm) (bytes : Bytes (c .token-list)) where
-    accepted-as : callStop c ≡ Pass → (m : Meaning) → meaning (c .descriptors) (mnemonicName (c .mnemonic)) ≡ m → meaningOutcome c m .answer ≡ Done position loaded → AcceptedCall
+    accepted-as : callStop c ≡ Pass → (m : Meaning) → meaning (c .descriptors) (mnemonicName (c .mnemonic)) ≡ m → meaningOutcome job c m .answer ≡ Done position loaded → AcceptedCall
     unfolding emitOutcome callPairs tableLine
     accepted-as s (Table p) e d =
         let ts = tokens (c .token-list) in
-        let made = tableLine (c .descriptors) p ts (startOf c) in
+        let made = tableLine job (c .descriptors) p ts (startOf c) in
         let i = instructionAt (c .descriptors) p in
         let lists = lists-pass c s in
-        let l = line-passes made position loaded d in
+        let l = line-passes c made position loaded d in
         record {
           lists = lists;
           made = made;
-          pairs-are = sym (ap (meaningPairs c) e);
+          pairs-are = sym (ap (meaningPairs job c) e);
           line = l;
-          words = encoding-made (c .token-list) ts (tokens-fit (c .token-list) bytes (lists .tokens-good)) (i .encoding) (i .opcode) (startOf c) (l .made-is);
-          outcome-is = ap (listOutcome c) s ∙ ap (meaningOutcome c) e ∙ l .outcome-is;
+          words = encoding-made (c .token-list) ts (tokens-fit (c .token-list) bytes (lists .tokens-good)) job (i .encoding) (i .opcode) (startOf c) (l .made-is);
+          outcome-is = ap (listOutcome job c) s ∙ ap (meaningOutcome job c) e ∙ l .outcome-is;
         }
     accepted-as s (Builtin p) e d =
         let ts = tokens (c .token-list) in
-        let made = pseudoLine p ts (startOf c) in
+        let made = pseudoLine job p ts (startOf c) in
         let lists = lists-pass c s in
-        let l = line-passes made position loaded d in
+        let l = line-passes c made position loaded d in
         record {
           lists = lists;
           made = made;
-          pairs-are = sym (ap (meaningPairs c) e);
+          pairs-are = sym (ap (meaningPairs job c) e);
           line = l;
-          words = pseudo-made (c .token-list) ts (tokens-fit (c .token-list) bytes (lists .tokens-good)) p (startOf c) (l .made-is);
-          outcome-is = ap (listOutcome c) s ∙ ap (meaningOutcome c) e ∙ l .outcome-is;
+          words = pseudo-made (c .token-list) ts (tokens-fit (c .token-list) bytes (lists .tokens-good)) job p (startOf c) (l .made-is);
+          outcome-is = ap (listOutcome job c) s ∙ ap (meaningOutcome job c) e ∙ l .outcome-is;
         }
     accepted-as s Neither e d = let z : _≡_ {A = ℕ} 0 1 = cc in absurd (omega arith)
 
-    pub accepted : emitOutcome c .answer ≡ Done position loaded → AcceptedCall
+    pub accepted : emitOutcome job c .answer ≡ Done position loaded → AcceptedCall
     unfolding emitOutcome
     accepted d = go (callStop c) refl d
       where
-        go : (v : Verdict) → callStop c ≡ v → listOutcome c v .answer ≡ Done position loaded → AcceptedCall
+        go : (v : Verdict) → callStop c ≡ v → listOutcome job c v .answer ≡ Done position loaded → AcceptedCall
         go Pass s d = accepted-as s (meaning (c .descriptors) (mnemonicName (c .mnemonic))) refl d
         go (Stop r) s d = let z : _≡_ {A = ℕ} 0 1 = cc in absurd (omega arith)

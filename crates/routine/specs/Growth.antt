@@ -4,6 +4,7 @@ use native.Mathlib.Omega.{arith}
 use mathlib.Core.Path.{_≡_, sym, subst}
 use mathlib.Core.List.{List}
 use lib.ListN.{length}
+use Rattle.jobs.specs.declared.Job.{Job}
 use Rattle.descriptors.specs.Mnemonics.{mnemonicLocation}
 use Rattle.breakpoints.specs.BreakpointBytesLaws.{breakpoint-length}
 use Rattle.emit_pairs.specs.declared.InstructionPair.{InstructionPair}
@@ -26,12 +27,12 @@ pub record Grows (before after : FillCounts) : Type 0 where
   -- head and location are 12 bytes, "then one 4-byte pc a word"
   pub breakpoints-most : after .breakpoints ≤ before .breakpoints + 32
 
-pub line-grows : (c : Call) (position : ℕ) (loaded : LoadForm) → Bytes (c .token-list) → emitOutcome c .answer ≡ Done position loaded → Grows (c .numbers .counts) (emitOutcome c .counts)
-line-grows c position loaded bytes e =
-    let a = accepted c position loaded bytes e in
+pub line-grows : (job : Job) (c : Call) (position : ℕ) (loaded : LoadForm) → Bytes (c .token-list) → emitOutcome job c .answer ≡ Done position loaded → Grows (c .numbers .counts) (emitOutcome job c .counts)
+line-grows job c position loaded bytes e =
+    let a = accepted job c position loaded bytes e in
     let pairs = a .made .pairs in
     let line = mnemonicLocation (c .mnemonic) in
-    let two : waits pairs ≤ 2 = subst (λ (ps : List InstructionPair). waits ps ≤ 2) (sym (a .pairs-are)) (call-waits c) in
+    let two : waits pairs ≤ 2 = subst (λ (ps : List InstructionPair). waits ps ≤ 2) (sym (a .pairs-are)) (call-waits job c) in
     let counts = c .numbers .counts in
     subst (λ (o : EmitOutcome). Grows counts (o .counts)) (sym (a .outcome-is)) (record {
       data-most = omega (arith, a .words .at-most);

@@ -6,6 +6,7 @@ use mathlib.Core.List.{List, [], _∷_, _++_}
 use mathlib.Core.Bool.{true, and-eq-true-iff}
 use lib.Dec.{ltb}
 use borrow.Author.Tests.{ltb-true}
+use Rattle.jobs.specs.declared.Job.the-variants.{Commit}
 use Rattle.record.specs.Bytes.{all, sameBytes}
 use Rattle.record.specs.Records.{placesF, placesFrom, places, firstBad, firstBadOf, withinLimit}
 use Rattle.record.specs.Stores.{le32Bytes, locationBytes, recordBytes, append}
@@ -58,6 +59,7 @@ line region address n name tokens = record {
   token-list = tokens;
   mnemonic = recordBytes 32 (locationBytes (place n) ++ name);
   descriptors = [];
+  job = Commit;
   place = record { position = 0; region = region; address = address };
 }
 

@@ -5,6 +5,7 @@ use mathlib.Core.Path.{_≡_, sym, subst}
 use mathlib.Core.List.{List, [], _∷_, _++_}
 use mathlib.Core.Bool.{true}
 use lib.ListN.{length, take}
+use Rattle.jobs.specs.declared.Job.{Job}
 use Rattle.record.specs.declared.Layout.the-variants.{Good}
 use Rattle.pending.specs.Pendings.{pendingLayout}
 use Rattle.breakpoints.specs.Breakpoints.{regionNumberOk, dataBufferLayout, pendingBufferLayout, breakpointBufferLayout}
@@ -31,7 +32,7 @@ filledPending lent counts = take (counts .pending) (lent .pending)
 abbrev pub filledBreakpoints : Lent → FillCounts → List ℕ
 filledBreakpoints lent counts = take (counts .breakpoints) (lent .breakpoints)
 
-pub record LineFits (c : Call) (o : EmitOutcome) : Type 0 where
+pub record LineFits (job : Job) (c : Call) (o : EmitOutcome) : Type 0 where
   -- the next call's checks of the three buffers pass
   pub data-good : (region : ℕ) → regionNumberOk region ≡ true → dataBufferLayout region (o .counts .«data_len») (o .lent .region-data) ≡ Good
   pub pending-good : pendingBufferLayout (o .counts .pending) (o .lent .pending) ≡ Good
@@ -42,26 +43,26 @@ pub record LineFits (c : Call) (o : EmitOutcome) : Type 0 where
   pub build-takes : (regions : ℕ) → c .numbers .place .region < regions → pendingLayout regions (filledPending (c .lent) (c .numbers .counts)) ≡ Good
       → pendingLayout regions (filledPending (o .lent) (o .counts)) ≡ Good
   -- the data grows by the line's words
-  pub data-grown : o .counts .«data_len» ≡ c .numbers .counts .«data_len» + 4 * length (callPairs c)
+  pub data-grown : o .counts .«data_len» ≡ c .numbers .counts .«data_len» + 4 * length (callPairs job c)
   -- what is read is what was there before, and then the line's
-  pub words-are : filledData (o .lent) (o .counts) ≡ filledData (c .lent) (c .numbers .counts) ++ wordBytes (callPairs c)
-  pub patches-are : patchesIn (filledPending (o .lent) (o .counts)) ≡ patchesIn (filledPending (c .lent) (c .numbers .counts)) ++ callPatches c
-  pub breakpoints-are : breakpointsIn (filledBreakpoints (o .lent) (o .counts)) ≡ breakpointsIn (filledBreakpoints (c .lent) (c .numbers .counts)) ++ callBreakpoint c ∷ []
+  pub words-are : filledData (o .lent) (o .counts) ≡ filledData (c .lent) (c .numbers .counts) ++ wordBytes (callPairs job c)
+  pub patches-are : patchesIn (filledPending (o .lent) (o .counts)) ≡ patchesIn (filledPending (c .lent) (c .numbers .counts)) ++ callPatches job c
+  pub breakpoints-are : breakpointsIn (filledBreakpoints (o .lent) (o .counts)) ≡ breakpointsIn (filledBreakpoints (c .lent) (c .numbers .counts)) ++ callBreakpoint job c ∷ []
 
-accept-fits : (c : Call) (a : AcceptedCall c) → Bytes (c .mnemonic) → LineFits c (acceptLine c (a .made))
-accept-fits c a mnemonic = record {
-  data-good = data-after c a mnemonic;
-  pending-good = pending-after c a mnemonic;
-  breakpoints-good = breakpoints-after c a mnemonic;
-  region-below = region-selected c a mnemonic;
-  build-takes = build-after c a mnemonic;
-  data-grown = data-count-after c a mnemonic;
-  words-are = words-after c a mnemonic;
-  patches-are = patches-after c a mnemonic;
-  breakpoints-are = breakpoints-read c a mnemonic;
+accept-fits : (job : Job) (c : Call) (a : AcceptedCall job c) → Bytes (c .mnemonic) → LineFits job c (acceptLine c (a .made))
+accept-fits job c a mnemonic = record {
+  data-good = data-after job c a mnemonic;
+  pending-good = pending-after job c a mnemonic;
+  breakpoints-good = breakpoints-after job c a mnemonic;
+  region-below = region-selected job c a mnemonic;
+  build-takes = build-after job c a mnemonic;
+  data-grown = data-count-after job c a mnemonic;
+  words-are = words-after job c a mnemonic;
+  patches-are = patches-after job c a mnemonic;
+  breakpoints-are = breakpoints-read job c a mnemonic;
 }
 
-pub line-fits : (c : Call) (position : ℕ) (loaded : LoadForm) → Bytes (c .token-list) → Bytes (c .mnemonic) → emitOutcome c .answer ≡ Done position loaded → LineFits c (emitOutcome c)
-line-fits c position loaded tokens mnemonic e =
-    let a = accepted c position loaded tokens e in
-    subst (LineFits c) (sym (a .outcome-is)) (accept-fits c a mnemonic)
+pub line-fits : (job : Job) (c : Call) (position : ℕ) (loaded : LoadForm) → Bytes (c .token-list) → Bytes (c .mnemonic) → emitOutcome job c .answer ≡ Done position loaded → LineFits job c (emitOutcome job c)
+line-fits job c position loaded tokens mnemonic e =
+    let a = accepted job c position loaded tokens e in
+    subst (LineFits job c) (sym (a .outcome-is)) (accept-fits job c a mnemonic)

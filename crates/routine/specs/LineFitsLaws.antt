@@ -6,6 +6,7 @@ use mathlib.Core.List.{List, [], _∷_, _++_}
 use mathlib.Core.Bool.{Bool, true, false}
 use lib.ListN.{length, take}
 use lib.Dec.{eqb}
+use Rattle.jobs.specs.declared.Job.{Job}
 use Rattle.record.specs.Records.{places, firstBad, limit}
 use Rattle.record.specs.Stores.{LocationFits, append, filledWith}
 use Rattle.record.specs.declared.Layout.the-variants.{Good}
@@ -43,7 +44,7 @@ some-region : (line : Location) (b : Bool) → _≡_ {A = Verdict} (elim b [ tru
 some-region line true e = cc
 some-region line false e = refl
 
-module _ (c : Call) (a : AcceptedCall c) (mnemonic : Bytes (c .mnemonic)) where
+module _ (job : Job) (c : Call) (a : AcceptedCall job c) (mnemonic : Bytes (c .mnemonic)) where
   abbrev counts : FillCounts
   counts = c .numbers .counts
 
@@ -85,13 +86,13 @@ module _ (c : Call) (a : AcceptedCall c) (mnemonic : Bytes (c .mnemonic)) where
       data-passes (counts .«data_len» + 4 * length pairs) (append d (counts .«data_len») bs) (still-short d (counts .«data_len») bs data-room (data-before .1))
       (omega (arith, data-count, filled-within d (counts .«data_len») bs data-room)) region e
 
-  pub words-after : take (counts .«data_len» + 4 * length pairs) (append (c .lent .region-data) (counts .«data_len») (wordBytes pairs)) ≡ take (counts .«data_len») (c .lent .region-data) ++ wordBytes (callPairs c)
+  pub words-after : take (counts .«data_len» + 4 * length pairs) (append (c .lent .region-data) (counts .«data_len») (wordBytes pairs)) ≡ take (counts .«data_len») (c .lent .region-data) ++ wordBytes (callPairs job c)
   words-after =
       ap (λ (n : ℕ). take n (append (c .lent .region-data) (counts .«data_len») (wordBytes pairs))) data-count
       ∙ filled-is (c .lent .region-data) (counts .«data_len») (wordBytes pairs) data-room
       ∙ ap (λ (ps : List InstructionPair). take (counts .«data_len») (c .lent .region-data) ++ wordBytes ps) (a .pairs-are)
 
-  pub data-count-after : counts .«data_len» + 4 * length pairs ≡ counts .«data_len» + 4 * length (callPairs c)
+  pub data-count-after : counts .«data_len» + 4 * length pairs ≡ counts .«data_len» + 4 * length (callPairs job c)
   data-count-after = ap (λ (ps : List InstructionPair). counts .«data_len» + 4 * length ps) (a .pairs-are)
 
   -- ---- the pending list
@@ -121,7 +122,7 @@ module _ (c : Call) (a : AcceptedCall c) (mnemonic : Bytes (c .mnemonic)) where
       (still-short (c .lent .pending) (counts .pending) waits pending-room (pending-before .0)) (filled-within (c .lent .pending) (counts .pending) waits pending-room)
       (behind 16 region-selected (pending-before .2) .keeps)
 
-  pub patches-after : patchesIn (filledWith (c .lent .pending) (counts .pending) waits) ≡ patchesIn pendings ++ callPatches c
+  pub patches-after : patchesIn (filledWith (c .lent .pending) (counts .pending) waits) ≡ patchesIn pendings ++ callPatches job c
   patches-after =
       behind 16 region-selected (pending-before .2) .patches-are
       ∙ ap (λ (ps : List InstructionPair). patchesIn pendings ++ patchesFrom (c .token-list) (callOrigin c) 0 ps) (a .pairs-are)
@@ -161,6 +162,6 @@ module _ (c : Call) (a : AcceptedCall c) (mnemonic : Bytes (c .mnemonic)) where
       (still-short (c .lent .breakpoints) (counts .breakpoints) pcs breakpoints-room (breakpoints-before .0)) (filled-within (c .lent .breakpoints) (counts .breakpoints) pcs breakpoints-room)
       (follows .keeps)
 
-  pub breakpoints-read : breakpointsIn (filledWith (c .lent .breakpoints) (counts .breakpoints) pcs) ≡ breakpointsIn breakpoints ++ callBreakpoint c ∷ []
+  pub breakpoints-read : breakpointsIn (filledWith (c .lent .breakpoints) (counts .breakpoints) pcs) ≡ breakpointsIn breakpoints ++ callBreakpoint job c ∷ []
   breakpoints-read =
       follows .breakpoints-are ∙ ap (λ (ps : List InstructionPair). breakpointsIn breakpoints ++ breakpointOf line (pcsFrom (length ps) first-pc) ∷ []) (a .pairs-are)

@@ -3,6 +3,7 @@ use Prim.Native.Nat.{ℕ, _+_, _≤_}
 use native.Mathlib.Omega.{arith}
 use mathlib.Core.Path.{_≡_, refl}
 use lib.ListN.{length}
+use Rattle.jobs.specs.declared.Job.{Job}
 use Rattle.record.specs.declared.Location.{Location}
 use Rattle.refusal.specs.declared.Refusal.the-variants.{NoSpace}
 use Rattle.refusal.specs.declared.Verdict.{Verdict}
@@ -29,7 +30,7 @@ use Rattle.routine.specs.TokenLaws.{tokens-fit}
 use Rattle.routine.specs.WordLaws.{Words, encoding-made, pseudo-made}
 use Rattle.routine.specs.AcceptedLaws.{callStop, ListsPass, lists-pass}
 use Rattle.routine.specs.WaitsLaws.{waits, waits-bytes, meaning-waits}
-use Rattle.routine.specs.SpaceLaws.{Other, lists-other, miss-other, room-other}
+use Rattle.routine.specs.SpaceLaws.{Other, lists-other, miss-other, fault-other, room-other}
 
 pub record Roomy (counts : FillCounts) (lent : Lent) : Type 0 where
   pub data-room : counts .«data_len» + 20 ≤ length (lent .region-data)
@@ -37,7 +38,7 @@ pub record Roomy (counts : FillCounts) (lent : Lent) : Type 0 where
   pub pending-room : counts .pending + 200 ≤ length (lent .pending)
   pub breakpoints-room : counts .breakpoints + 32 ≤ length (lent .breakpoints)
 
-module _ (c : Call) (roomy : Roomy (c .numbers .counts) (c .lent)) where
+module _ (job : Job) (c : Call) (roomy : Roomy (c .numbers .counts) (c .lent)) where
   abbrev line : Location
   line = mnemonicLocation (c .mnemonic)
 
@@ -54,7 +55,7 @@ module _ (c : Call) (roomy : Roomy (c .numbers .counts) (c .lent)) where
           (omega (arith, pendings-length (c .token-list) (callOrigin c) (made .pairs), waits-bytes (c .token-list) (made .pairs) (w .fit), two, roomy .pending-room))
           (omega (arith, breakpoint-length line (c .numbers .place .address + c .numbers .counts .«data_len») (length (made .pairs)), n, roomy .breakpoints-room))
       go (Missed m) e = miss-other line m
-      go OutOfRange e = λ l a f. let z : _≡_ {A = ℕ} 0 1 = cc in omega arith
+      go (OutOfRange fault) e = fault-other line fault
 
   outcome-other : (made : Line) → Other (lineStop (c .token-list) line (c .numbers) (c .lent) made) → (l : Location) (a position : ℕ) → callLine c made .answer ≡ Refused (NoSpace l a) position → ⊥
   unfolding lineOutcome
@@ -64,26 +65,26 @@ module _ (c : Call) (roomy : Roomy (c .numbers .counts) (c .lent)) where
       go Pass s f = let z : _≡_ {A = ℕ} 0 1 = cc in omega arith
       go (Stop r) s f = other l a cc
 
-  meaning-other : Bytes (c .token-list) → ListsPass c → (m : Meaning) (l : Location) (a position : ℕ) → meaningOutcome c m .answer ≡ Refused (NoSpace l a) position → ⊥
+  meaning-other : Bytes (c .token-list) → ListsPass c → (m : Meaning) (l : Location) (a position : ℕ) → meaningOutcome job c m .answer ≡ Refused (NoSpace l a) position → ⊥
   unfolding tableLine
   meaning-other bytes lists (Table p) =
       let ts = tokens (c .token-list) in
       let x = instructionAt (c .descriptors) p in
-      let made = tableLine (c .descriptors) p ts (startOf c) in
+      let made = tableLine job (c .descriptors) p ts (startOf c) in
       outcome-other made
-      (line-other made (encoding-made (c .token-list) ts (tokens-fit (c .token-list) bytes (lists .tokens-good)) (x .encoding) (x .opcode) (startOf c)) (meaning-waits c (Table p)))
+      (line-other made (encoding-made (c .token-list) ts (tokens-fit (c .token-list) bytes (lists .tokens-good)) job (x .encoding) (x .opcode) (startOf c)) (meaning-waits job c (Table p)))
   meaning-other bytes lists (Builtin p) =
       let ts = tokens (c .token-list) in
-      let made = pseudoLine p ts (startOf c) in
+      let made = pseudoLine job p ts (startOf c) in
       outcome-other made
-      (line-other made (pseudo-made (c .token-list) ts (tokens-fit (c .token-list) bytes (lists .tokens-good)) p (startOf c)) (meaning-waits c (Builtin p)))
+      (line-other made (pseudo-made (c .token-list) ts (tokens-fit (c .token-list) bytes (lists .tokens-good)) job p (startOf c)) (meaning-waits job c (Builtin p)))
   meaning-other bytes lists Neither = λ l a position e. let z : _≡_ {A = ℕ} 0 1 = cc in omega arith
 
   -- no line is refused with 12 then
-  pub room-enough : Bytes (c .token-list) → (l : Location) (a position : ℕ) → emitOutcome c .answer ≡ Refused (NoSpace l a) position → ⊥
+  pub room-enough : Bytes (c .token-list) → (l : Location) (a position : ℕ) → emitOutcome job c .answer ≡ Refused (NoSpace l a) position → ⊥
   unfolding emitOutcome
   room-enough bytes l a position e = go (callStop c) refl e
     where
-      go : (v : Verdict) → callStop c ≡ v → listOutcome c v .answer ≡ Refused (NoSpace l a) position → ⊥
+      go : (v : Verdict) → callStop c ≡ v → listOutcome job c v .answer ≡ Refused (NoSpace l a) position → ⊥
       go (Stop r) s f = lists-other (c .token-list) (c .mnemonic) (c .descriptors) (c .lent) (c .numbers .place .region) (c .numbers .counts) l a cc
       go Pass s f = meaning-other bytes (lists-pass c s) (meaning (c .descriptors) (mnemonicName (c .mnemonic))) l a position f

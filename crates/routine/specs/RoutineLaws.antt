@@ -35,7 +35,7 @@ one-of : (P : Buffer → Type 0) {x y : Buffer} (t : Bool) → P x → P y → P
 one-of P true p q = p
 one-of P false p q = q
 
-after-sound : (l : RoutineLine) (b : Buffers) → Sound b → LineFits (callOn l b) (emitOutcome (callOn l b)) → Sound (afterLine l b)
+after-sound : (l : RoutineLine) (b : Buffers) → Sound b → LineFits (l .job) (callOn l b) (emitOutcome (l .job) (callOn l b)) → Sound (afterLine l b)
 after-sound l b s f = record {
   data-good = λ r region e.
       one-of (λ (d : Buffer). dataBufferLayout region (d .fill) (d .bytes) ≡ Good) (eqb r (l .place .region)) (f .data-good region e) (s .data-good r region e);
@@ -44,18 +44,18 @@ after-sound l b s f = record {
 }
 
 -- the region's data, with the line's words behind what it held
-after-words : (l : RoutineLine) (b : Buffers) → LineFits (callOn l b) (emitOutcome (callOn l b)) → (region : ℕ)
+after-words : (l : RoutineLine) (b : Buffers) → LineFits (l .job) (callOn l b) (emitOutcome (l .job) (callOn l b)) → (region : ℕ)
     → filled (afterLine l b .region-data region) ≡ filled (b .region-data region) ++ wordsIn region l b
 after-words l b f region = go (eqb region (l .place .region)) refl
   where
     words : List ℕ
-    words = wordBytes (callPairs (callOn l b))
+    words = wordBytes (callPairs (l .job) (callOn l b))
 
     go : (t : Bool) → eqb region (l .place .region) ≡ t → filled (cond t (selectedAfter l b) (b .region-data region)) ≡ filled (b .region-data region) ++ cond t words []
     go true e = f .words-are ∙ ap (λ (r : ℕ). filled (b .region-data r) ++ words) (sym (eqb-true region (l .place .region) e))
     go false e = sym (append-nil (filled (b .region-data region)))
 
-after-grown : (l : RoutineLine) (b : Buffers) → LineFits (callOn l b) (emitOutcome (callOn l b)) → (region : ℕ) → b .region-data region .fill ≤ afterLine l b .region-data region .fill
+after-grown : (l : RoutineLine) (b : Buffers) → LineFits (l .job) (callOn l b) (emitOutcome (l .job) (callOn l b)) → (region : ℕ) → b .region-data region .fill ≤ afterLine l b .region-data region .fill
 after-grown l b f region = go (eqb region (l .place .region)) refl
   where
     go : (t : Bool) → eqb region (l .place .region) ≡ t → b .region-data region .fill ≤ cond t (selectedAfter l b) (b .region-data region) .fill
@@ -63,16 +63,16 @@ after-grown l b f region = go (eqb region (l .place .region)) refl
     go false e = omega arith
 
 -- the line's patches lie inside its region's data, and still do when that has grown
-line-inside : (l : RoutineLine) (b later : Buffers) → LineFits (callOn l b) (emitOutcome (callOn l b)) → ((region : ℕ) → afterLine l b .region-data region .fill ≤ later .region-data region .fill)
-    → Each (Inside later) (callPatches (callOn l b))
+line-inside : (l : RoutineLine) (b later : Buffers) → LineFits (l .job) (callOn l b) (emitOutcome (l .job) (callOn l b)) → ((region : ℕ) → afterLine l b .region-data region .fill ≤ later .region-data region .fill)
+    → Each (Inside later) (callPatches (l .job) (callOn l b))
 line-inside l b later f grown =
     let c = callOn l b in
     let selected = l .place .region in
-    let end = emitOutcome c .counts .«data_len» in
+    let end = emitOutcome (l .job) c .counts .«data_len» in
     let own : afterLine l b .region-data selected .fill ≡ end = rw (eq-eqb selected selected refl, replaced) in
     each-so (Before selected end) (Inside later)
     (λ p h. omega (arith, h .1, own, grown selected, ap (λ (r : ℕ). later .region-data r .fill) (h .0)))
-    (callPatches c) (patches-before (l .token-list) (callOrigin c) 0 end (callPairs c) (omega (arith, f .data-grown)))
+    (callPatches (l .job) c) (patches-before (l .token-list) (callOrigin c) 0 end (callPairs (l .job) c) (omega (arith, f .data-grown)))
 
 -- a buffer of which nothing is filled
 pub empty-filled : (b : Buffer) → Empty b → filled b ≡ []
@@ -146,7 +146,7 @@ run-fits [] b bytes a s = record {
 }
 run-fits (l ∷ ls) b bytes (next position loaded e a) s =
     let c = callOn l b in
-    let f = line-fits c position loaded (bytes .0 .0) (bytes .0 .1) e in
+    let f = line-fits (l .job) c position loaded (bytes .0 .0) (bytes .0 .1) e in
     let r = run-fits ls (afterLine l b) (bytes .1) a (after-sound l b s f) in
     record {
       sound = r .sound;
@@ -157,12 +157,12 @@ run-fits (l ∷ ls) b bytes (next position loaded e a) s =
           ∙ append-assoc (filled (b .region-data region)) (wordsIn region l b) (routineWords region ls (afterLine l b));
       patches-are =
           r .patches-are ∙ ap (λ (ps : List Patch). ps ++ routinePatches ls (afterLine l b)) (f .patches-are)
-          ∙ append-assoc (patchesIn (filled (b .pending))) (callPatches c) (routinePatches ls (afterLine l b));
+          ∙ append-assoc (patchesIn (filled (b .pending))) (callPatches (l .job) c) (routinePatches ls (afterLine l b));
       breakpoints-are =
           r .breakpoints-are ∙ ap (λ (xs : List Breakpoint). xs ++ routineBreakpoints ls (afterLine l b)) (f .breakpoints-are)
-          ∙ append-assoc (breakpointsIn (filled (b .breakpoints))) (callBreakpoint c ∷ []) (routineBreakpoints ls (afterLine l b));
+          ∙ append-assoc (breakpointsIn (filled (b .breakpoints))) (callBreakpoint (l .job) c ∷ []) (routineBreakpoints ls (afterLine l b));
       grown = λ region. omega (arith, after-grown l b f region, r .grown region);
       inside =
-          each-append (Inside (run ls (afterLine l b))) (callPatches c) (routinePatches ls (afterLine l b))
+          each-append (Inside (run ls (afterLine l b))) (callPatches (l .job) c) (routinePatches ls (afterLine l b))
           (line-inside l b (run ls (afterLine l b)) f (r .grown)) (r .inside);
     }

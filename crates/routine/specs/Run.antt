@@ -6,6 +6,7 @@ use mathlib.Core.List.{List, [], _∷_, _++_}
 use mathlib.Core.Bool.{cond}
 use lib.ListN.{length, take}
 use lib.Dec.{eqb}
+use Rattle.jobs.specs.declared.Job.{Job}
 use Rattle.record.specs.Records.{limit}
 use Rattle.emit_bytes.specs.Appended.{wordBytes}
 use Rattle.loading.specs.declared.LoadForm.{LoadForm}
@@ -32,8 +33,9 @@ pub record Buffers : Type 0 where
   pub pending : Buffer
   pub breakpoints : Buffer
 
--- what else a line's call is given
+-- what else a line's call is given, and the job that it is emitted for
 pub record RoutineLine : Type 0 where
+  pub job : Job
   pub token-list : List ℕ
   pub mnemonic : List ℕ
   pub descriptors : List ℕ
@@ -52,12 +54,12 @@ replaced all selected new region = cond (eqb region selected) new (all region)
 
 -- the selected region's data after the call
 abbrev pub selectedAfter : RoutineLine → Buffers → Buffer
-selectedAfter l b = record { bytes = emitOutcome (callOn l b) .lent .region-data; fill = emitOutcome (callOn l b) .counts .«data_len» }
+selectedAfter l b = record { bytes = emitOutcome (l .job) (callOn l b) .lent .region-data; fill = emitOutcome (l .job) (callOn l b) .counts .«data_len» }
 
 -- all the buffers after it
 abbrev pub afterLine : RoutineLine → Buffers → Buffers
 afterLine l b =
-    let o = emitOutcome (callOn l b) in
+    let o = emitOutcome (l .job) (callOn l b) in
     record {
       region-data = replaced (b .region-data) (l .place .region) (selectedAfter l b);
       pending = record { bytes = o .lent .pending; fill = o .counts .pending };
@@ -72,7 +74,7 @@ run (l ∷ ls) b = run ls (afterLine l b)
 pub data AllAccepted : List RoutineLine → Buffers → Type 0 where
   none : {b : Buffers} → AllAccepted [] b
   next : {l : RoutineLine} {ls : List RoutineLine} {b : Buffers} (position : ℕ) (loaded : LoadForm)
-      → emitOutcome (callOn l b) .answer ≡ Done position loaded → AllAccepted ls (afterLine l b) → AllAccepted (l ∷ ls) b
+      → emitOutcome (l .job) (callOn l b) .answer ≡ Done position loaded → AllAccepted ls (afterLine l b) → AllAccepted (l ∷ ls) b
 
 -- what holds of each of a list
 abbrev pub Each : {A : Type 0} → (A → Type 0) → List A → Type 0
@@ -97,7 +99,7 @@ pub record AllEmpty (b : Buffers) : Type 0 where
 
 -- the words of a line that selects the region, as bytes
 abbrev pub wordsIn : (region : ℕ) → RoutineLine → Buffers → List ℕ
-wordsIn region l b = cond (eqb region (l .place .region)) (wordBytes (callPairs (callOn l b))) []
+wordsIn region l b = cond (eqb region (l .place .region)) (wordBytes (callPairs (l .job) (callOn l b))) []
 
 unfoldable pub routineWords : (region : ℕ) → List RoutineLine → Buffers → List ℕ
 unfolding wordBytes callPairs
@@ -106,11 +108,11 @@ routineWords region (l ∷ ls) b = wordsIn region l b ++ routineWords region ls 
 
 unfoldable pub routinePatches : List RoutineLine → Buffers → List Patch
 routinePatches [] b = []
-routinePatches (l ∷ ls) b = callPatches (callOn l b) ++ routinePatches ls (afterLine l b)
+routinePatches (l ∷ ls) b = callPatches (l .job) (callOn l b) ++ routinePatches ls (afterLine l b)
 
 unfoldable pub routineBreakpoints : List RoutineLine → Buffers → List Breakpoint
 routineBreakpoints [] b = []
-routineBreakpoints (l ∷ ls) b = callBreakpoint (callOn l b) ∷ routineBreakpoints ls (afterLine l b)
+routineBreakpoints (l ∷ ls) b = callBreakpoint (l .job) (callOn l b) ∷ routineBreakpoints ls (afterLine l b)
 
 -- the patch lies inside its region's data
 abbrev pub Inside : Buffers → Patch → Type 0

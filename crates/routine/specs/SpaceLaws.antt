@@ -22,9 +22,12 @@ use Rattle.descriptors.specs.Descriptors.{descriptorRepeat, descriptorLayout}
 use Rattle.descriptors.specs.Mnemonics.{mnemonicLayout}
 use Rattle.lexer.specs.Tokens.{tokenLayout}
 use Rattle.breakpoints.specs.Breakpoints.{dataBufferLayout, pendingBufferLayout, breakpointBufferLayout}
+use Rattle.emit_pairs.specs.declared.Fault.{Fault}
+use Rattle.emit_pairs.specs.declared.Fault.the-variants.{Immediate, ShiftAmount, ConditionCode}
 use Rattle.emit_pairs.specs.declared.InstructionPair.{InstructionPair}
 use Rattle.emit_outcome.specs.Call.{Lent}
 use Rattle.emit_outcome.specs.Checks.{layoutStop, listStop, missRefusal}
+use Rattle.emit_outcome.specs.Emit.{faultRefusal}
 use Rattle.emit_outcome.specs.Room.{noRegion, regionStop, edgeStop, newPending, newBreakpoint, spaceStop, mostData, roomStop}
 use Rattle.emit_outcome.specs.declared.FillCounts.{FillCounts}
 use Rattle.emit_outcome.specs.declared.LineNumbers.{LineNumbers}
@@ -69,6 +72,11 @@ miss-other line (ExpectedRegister kind met) = λ l a e. unlike cc
 miss-other line (ExpectedConstant kind met) = λ l a e. unlike cc
 miss-other line (ExpectedLabel kind met) = λ l a e. unlike cc
 miss-other line (ExpectedRightBrace kind met) = λ l a e. unlike cc
+
+pub fault-other : (line : Location) (fault : Fault) → Other (Stop (faultRefusal line fault))
+fault-other line Immediate = λ l a e. unlike cc
+fault-other line ShiftAmount = λ l a e. unlike cc
+fault-other line ConditionCode = λ l a e. unlike cc
 
 region-other : (line : Location) (region : ℕ) → Other (regionStop line region)
 region-other line region = go (eqb region noRegion)

@@ -6,6 +6,7 @@ use mathlib.Core.List.{List, [], _∷_, _++_, map}
 use mathlib.Core.Bool.{Bool, true, false}
 use mathlib.Core.Option.{Option, none, some}
 use lib.ListN.{length}
+use Rattle.jobs.specs.declared.Job.{Job}
 use Rattle.registers.specs.Numbers.{registerNumber}
 use Rattle.registers.specs.declared.RegisterSlot.{RegisterSlot}
 use Rattle.instructions.specs.declared.Opcode.{Opcode}
@@ -151,50 +152,50 @@ offset-line-waits : (o : OffsetOrLabel) (w : ℕ) → waits (offsetPairs o ++ pl
 unfolding waits
 offset-line-waits o w = rw (waits-append (offsetPairs o)) (omega (arith, offset-waits o))
 
-encoding-waits : (e : Encoding) (op : Opcode) (x : AskedAll (encodingWants e)) → waits (encodingPairs e op x) ≤ 2
+encoding-waits : (job : Job) (e : Encoding) (op : Opcode) (x : AskedAll (encodingWants e)) → waits (encodingPairs job e op x) ≤ 2
 unfolding waits
-encoding-waits Register op x = behind (valuePairs (x .2)) _ (value-waits (x .2)) (omega arith)
-encoding-waits RegisterShift op x = omega arith
-encoding-waits Source op x = omega arith
-encoding-waits Destination op x = omega arith
-encoding-waits Inputs op x = inputs-waits op (x .0) (x .1) (x .2)
-encoding-waits Sham op x = omega arith
-encoding-waits SpecialBranch op x = omega arith
-encoding-waits (Immediate alt) op x = omega (arith, immediate-waits op alt (registerNumber (x .0)) (registerNumber (x .1)) (x .2))
-encoding-waits LoadImmediate op x = omega arith
-encoding-waits Jump op x = omega arith
-encoding-waits Branch op x = behind (valuePairs (x .1)) _ (value-waits (x .1)) (omega arith)
-encoding-waits BranchZero op x = omega arith
-encoding-waits Parameterless op x = omega arith
-encoding-waits Offset op x = offset-line-waits (x .1) _
-encoding-waits FPOffset op x = offset-line-waits (x .1) _
-encoding-waits (FP3Register fmt) op x = omega arith
-encoding-waits (FP2Register fmt) op x = omega arith
-encoding-waits (FPMove fmt flag) op x = omega arith
-encoding-waits (FPCond fmt) op x = omega arith
-encoding-waits (FPCrossMove true) op x = omega arith
-encoding-waits (FPCrossMove false) op x = omega arith
-encoding-waits (FPBranch flag) op x = omega arith
+encoding-waits job Register op x = behind (valuePairs (x .2)) _ (value-waits (x .2)) (omega arith)
+encoding-waits job RegisterShift op x = omega arith
+encoding-waits job Source op x = omega arith
+encoding-waits job Destination op x = omega arith
+encoding-waits job Inputs op x = inputs-waits op (x .0) (x .1) (x .2)
+encoding-waits job Sham op x = omega arith
+encoding-waits job SpecialBranch op x = omega arith
+encoding-waits job (Immediate alt) op x = omega (arith, immediate-waits op alt (registerNumber (x .0)) (registerNumber (x .1)) (x .2))
+encoding-waits job LoadImmediate op x = omega arith
+encoding-waits job Jump op x = omega arith
+encoding-waits job Branch op x = behind (valuePairs (x .1)) _ (value-waits (x .1)) (omega arith)
+encoding-waits job BranchZero op x = omega arith
+encoding-waits job Parameterless op x = omega arith
+encoding-waits job Offset op x = offset-line-waits (x .1) _
+encoding-waits job FPOffset op x = offset-line-waits (x .1) _
+encoding-waits job (FP3Register fmt) op x = omega arith
+encoding-waits job (FP2Register fmt) op x = omega arith
+encoding-waits job (FPMove fmt flag) op x = omega arith
+encoding-waits job (FPCond fmt) op x = omega arith
+encoding-waits job (FPCrossMove true) op x = omega arith
+encoding-waits job (FPCrossMove false) op x = omega arith
+encoding-waits job (FPBranch flag) op x = omega arith
 
-pseudo-waits : (p : Pseudo) (x : AskedAll (pseudoWants p)) → waits (pseudoPairs p x) ≤ 2
+pseudo-waits : (job : Job) (p : Pseudo) (x : AskedAll (pseudoWants p)) → waits (pseudoPairs job p x) ≤ 2
 unfolding waits
-pseudo-waits Nop x = omega arith
-pseudo-waits Abs x = omega arith
-pseudo-waits (BranchCustom greater result unsigned) x = behind (valuePairs (x .1)) _ (value-waits (x .1)) (omega arith)
-pseudo-waits (SetCustom greater result unsigned) x = behind (valuePairs (x .2)) _ (value-waits (x .2)) (omega (arith, turned-waits result (x .0)))
-pseudo-waits Beqz x = omega arith
-pseudo-waits Bnez x = omega arith
-pseudo-waits Seq x = rw (waits-append (snePairs (x .0) (x .1) (x .2))) (omega (arith, sne-waits (x .0) (x .1) (x .2), turned-waits false (x .0)))
-pseudo-waits Sne x = omega (arith, sne-waits (x .0) (x .1) (x .2))
-pseudo-waits Neg x = omega arith
-pseudo-waits Negu x = omega arith
-pseudo-waits Not x = omega arith
-pseudo-waits Li x = omega (arith, load-waits (x .1) (registerNumber (x .0)))
-pseudo-waits La x = label-waits (x .1) (registerNumber (x .0))
-pseudo-waits Move x = omega arith
-pseudo-waits B x = omega arith
-pseudo-waits Subi x = omega (arith, immediate-waits (Op 8) (SomeAlternative (Func 32)) (registerNumber (x .0)) (registerNumber (x .1)) (withSign true (x .2)))
-pseudo-waits Subiu x = omega (arith, immediate-waits (Op 9) (SomeAlternative (Func 33)) (registerNumber (x .0)) (registerNumber (x .1)) (withSign true (x .2)))
+pseudo-waits job Nop x = omega arith
+pseudo-waits job Abs x = omega arith
+pseudo-waits job (BranchCustom greater result unsigned) x = behind (valuePairs (x .1)) _ (value-waits (x .1)) (omega arith)
+pseudo-waits job (SetCustom greater result unsigned) x = behind (valuePairs (x .2)) _ (value-waits (x .2)) (omega (arith, turned-waits result (x .0)))
+pseudo-waits job Beqz x = omega arith
+pseudo-waits job Bnez x = omega arith
+pseudo-waits job Seq x = rw (waits-append (snePairs (x .0) (x .1) (x .2))) (omega (arith, sne-waits (x .0) (x .1) (x .2), turned-waits false (x .0)))
+pseudo-waits job Sne x = omega (arith, sne-waits (x .0) (x .1) (x .2))
+pseudo-waits job Neg x = omega arith
+pseudo-waits job Negu x = omega arith
+pseudo-waits job Not x = omega arith
+pseudo-waits job Li x = omega (arith, load-waits (x .1) (registerNumber (x .0)))
+pseudo-waits job La x = label-waits (x .1) (registerNumber (x .0))
+pseudo-waits job Move x = omega arith
+pseudo-waits job B x = omega arith
+pseudo-waits job Subi x = omega (arith, immediate-waits (Op 8) (SomeAlternative (Func 32)) (registerNumber (x .0)) (registerNumber (x .1)) (withSign true (x .2)))
+pseudo-waits job Subiu x = omega (arith, immediate-waits (Op 9) (SomeAlternative (Func 33)) (registerNumber (x .0)) (registerNumber (x .1)) (withSign true (x .2)))
 
 line-waits : {A : Type 0} (a : Answer A) (i : ℕ) (range : A → Range) (pairs : A → List InstructionPair) (form : A → LoadForm)
     → ((x : A) → waits (pairs x) ≤ 2) → waits (lineBy a i range pairs form .pairs) ≤ 2
@@ -202,19 +203,19 @@ unfolding waits
 line-waits (Got x) i range pairs form h = h x
 line-waits (Missed m) i range pairs form h = omega arith
 
-module _ (c : Call) where
-  pub meaning-waits : (m : Meaning) → waits (meaningPairs c m) ≤ 2
+module _ (job : Job) (c : Call) where
+  pub meaning-waits : (m : Meaning) → waits (meaningPairs job c m) ≤ 2
   unfolding waits tableLine encodingLine pseudoLine
   meaning-waits (Table p) =
       let x = instructionAt (c .descriptors) p in
       let read = readOperands (encodingWants (x .encoding)) (tokens (c .token-list)) (startOf c) in
-      line-waits (read .answer) (read .index) (encodingRange (x .encoding)) (encodingPairs (x .encoding) (x .opcode)) (encodingForm (x .encoding))
-      (encoding-waits (x .encoding) (x .opcode))
+      line-waits (read .answer) (read .index) (encodingRange job (x .encoding)) (encodingPairs job (x .encoding) (x .opcode)) (encodingForm (x .encoding))
+      (encoding-waits job (x .encoding) (x .opcode))
   meaning-waits (Builtin p) =
       let read = readOperands (pseudoWants p) (tokens (c .token-list)) (startOf c) in
-      line-waits (read .answer) (read .index) (λ x. Within) (pseudoPairs p) (pseudoForm p) (pseudo-waits p)
+      line-waits (read .answer) (read .index) (λ x. Within) (pseudoPairs job p) (pseudoForm p) (pseudo-waits job p)
   meaning-waits Neither = omega arith
 
-  pub call-waits : waits (callPairs c) ≤ 2
+  pub call-waits : waits (callPairs job c) ≤ 2
   unfolding callPairs
   call-waits = meaning-waits (meaning (c .descriptors) (mnemonicName (c .mnemonic)))

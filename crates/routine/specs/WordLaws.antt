@@ -6,6 +6,7 @@ use mathlib.Core.List.{List, [], _∷_, _++_, map}
 use mathlib.Core.Bool.{Bool, true, false}
 use mathlib.Core.Option.{Option, none, some}
 use lib.ListN.{length, getD, length-append}
+use Rattle.jobs.specs.declared.Job.{Job}
 use Rattle.registers.specs.Numbers.{registerNumber}
 use Rattle.registers.specs.declared.RegisterSlot.{RegisterSlot}
 use Rattle.instructions.specs.declared.Opcode.{Opcode}
@@ -32,7 +33,7 @@ use Rattle.operand_list.specs.OperandLists.{AskedAll, readOperands}
 use Rattle.emit_pairs.specs.declared.InstructionPair.{InstructionPair}
 use Rattle.emit_pairs.specs.declared.PairLabel.{PairLabel}
 use Rattle.emit_pairs.specs.declared.PairLabel.the-variants.{Nothing, Some}
-use Rattle.emit_pairs.specs.declared.Range.the-variants.{Within, Outside}
+use Rattle.emit_pairs.specs.declared.Range.the-variants.{Within}
 use Rattle.emit_pairs.specs.declared.Range.{Range}
 use Rattle.emit_pairs.specs.Pairs.{plain, atNumber, loadPairs, labelPairs, isImmediate, immediateRange, immediatePairs}
 use Rattle.emit_pairs.specs.PairsLaws.{load-pairs-length, pairs-taken, pairs-alternative, range-refused}
@@ -41,7 +42,8 @@ use Rattle.emit_integer.specs.IntegerWords.{inputsPairs}
 use Rattle.emit_pseudo.specs.PseudoWords.{turned}
 use Rattle.emit_dispatch.specs.Wants.{encodingWants, pseudoWants}
 use Rattle.loading.specs.declared.LoadForm.{LoadForm}
-use Rattle.emit_dispatch.specs.Lines.{encodingPairs, pseudoPairs, encodingForm, pseudoForm, encodingRange, rangeAnswer, lineBy, encodingLine, pseudoLine}
+use Rattle.emit_dispatch.specs.LinesLaws.{within-made}
+use Rattle.emit_dispatch.specs.Lines.{encodingPairs, pseudoPairs, encodingForm, pseudoForm, encodingRange, lineBy, encodingLine, pseudoLine}
 use Rattle.emit_dispatch.specs.declared.LineAnswer.the-variants.{Made}
 use Rattle.routine.specs.TokenLaws.{TokenFits}
 use Rattle.routine.specs.ReadLaws.{Of, OffsetFits, AllFit, operands-fit}
@@ -138,75 +140,71 @@ module _ (names : List ℕ) where
   maybe-words op first second none = single tt
   maybe-words op first second (some v) = widened (omega arith) (omega arith) (then-words (value-words v) (one-more tt (one-word tt)))
 
-  encoding-words : (e : Encoding) (op : Opcode) (x : AskedAll (encodingWants e)) → AllFit names (encodingWants e) x → encodingRange e x ≡ Within → Words 1 5 (encodingPairs e op x)
-  encoding-words Register op x h r = widened (omega arith) (omega arith) (then-words (value-words (x .2)) (one-word tt))
-  encoding-words RegisterShift op x h r = single tt
-  encoding-words Source op x h r = single tt
-  encoding-words Destination op x h r = single tt
-  encoding-words Inputs op x h r = maybe-words op (x .0) (x .1) (x .2)
-  encoding-words Sham op x h r = single tt
-  encoding-words SpecialBranch op x h r = single (h .1)
-  encoding-words (Immediate alt) op x h r = widened (omega arith) (omega arith) (immediate-words op alt (registerNumber (x .0)) (registerNumber (x .1)) (x .2) r)
-  encoding-words LoadImmediate op x h r = single tt
-  encoding-words Jump op x h r = single (h .0)
-  encoding-words Branch op x h r = widened (omega arith) (omega arith) (then-words (value-words (x .1)) (one-word (h .2)))
-  encoding-words BranchZero op x h r = single (h .1)
-  encoding-words Parameterless op x h r = single tt
-  encoding-words Offset op x h r = widened (omega arith) (omega arith) (then-words (offset-words (x .1) (h .1)) (one-word tt))
-  encoding-words FPOffset op x h r = widened (omega arith) (omega arith) (then-words (offset-words (x .1) (h .1)) (one-word tt))
-  encoding-words (FP3Register fmt) op x h r = single tt
-  encoding-words (FP2Register fmt) op x h r = single tt
-  encoding-words (FPMove fmt flag) op x h r = single tt
-  encoding-words (FPCond fmt) op x h r = single tt
-  encoding-words (FPCrossMove true) op x h r = single tt
-  encoding-words (FPCrossMove false) op x h r = single tt
-  encoding-words (FPBranch flag) op x h r = single (h .1)
+  encoding-words : (job : Job) (e : Encoding) (op : Opcode) (x : AskedAll (encodingWants e)) → AllFit names (encodingWants e) x → encodingRange job e x ≡ Within → Words 1 5 (encodingPairs job e op x)
+  encoding-words job Register op x h r = widened (omega arith) (omega arith) (then-words (value-words (x .2)) (one-word tt))
+  encoding-words job RegisterShift op x h r = single tt
+  encoding-words job Source op x h r = single tt
+  encoding-words job Destination op x h r = single tt
+  encoding-words job Inputs op x h r = maybe-words op (x .0) (x .1) (x .2)
+  encoding-words job Sham op x h r = single tt
+  encoding-words job SpecialBranch op x h r = single (h .1)
+  encoding-words job (Immediate alt) op x h r = widened (omega arith) (omega arith) (immediate-words op alt (registerNumber (x .0)) (registerNumber (x .1)) (x .2) r)
+  encoding-words job LoadImmediate op x h r = single tt
+  encoding-words job Jump op x h r = single (h .0)
+  encoding-words job Branch op x h r = widened (omega arith) (omega arith) (then-words (value-words (x .1)) (one-word (h .2)))
+  encoding-words job BranchZero op x h r = single (h .1)
+  encoding-words job Parameterless op x h r = single tt
+  encoding-words job Offset op x h r = widened (omega arith) (omega arith) (then-words (offset-words (x .1) (h .1)) (one-word tt))
+  encoding-words job FPOffset op x h r = widened (omega arith) (omega arith) (then-words (offset-words (x .1) (h .1)) (one-word tt))
+  encoding-words job (FP3Register fmt) op x h r = single tt
+  encoding-words job (FP2Register fmt) op x h r = single tt
+  encoding-words job (FPMove fmt flag) op x h r = single tt
+  encoding-words job (FPCond fmt) op x h r = single tt
+  encoding-words job (FPCrossMove true) op x h r = single tt
+  encoding-words job (FPCrossMove false) op x h r = single tt
+  encoding-words job (FPBranch flag) op x h r = single (h .1)
 
   turned-words : (result : Bool) (dest : RegisterSlot) → Words 0 1 (turned result dest)
   turned-words true dest = widened (omega arith) (omega arith) no-words
   turned-words false dest = widened (omega arith) (omega arith) (one-word tt)
 
-  pseudo-words : (p : Pseudo) (x : AskedAll (pseudoWants p)) → AllFit names (pseudoWants p) x → Words 1 5 (pseudoPairs p x)
-  pseudo-words Nop x h = single tt
-  pseudo-words Abs x h = widened (omega arith) (omega arith) (one-more tt (one-more tt (one-word tt)))
-  pseudo-words (BranchCustom greater result unsigned) x h = widened (omega arith) (omega arith) (then-words (value-words (x .1)) (one-more tt (one-word (h .2))))
-  pseudo-words (SetCustom greater result unsigned) x h = widened (omega arith) (omega arith) (then-words (value-words (x .2)) (one-more tt (turned-words result (x .0))))
-  pseudo-words Beqz x h = single (h .1)
-  pseudo-words Bnez x h = single (h .1)
-  pseudo-words Seq x h = widened (omega arith) (omega arith) (then-words (then-words (value-words (x .2)) (one-more tt (one-word tt))) (turned-words false (x .0)))
-  pseudo-words Sne x h = widened (omega arith) (omega arith) (then-words (value-words (x .2)) (one-more tt (one-word tt)))
-  pseudo-words Neg x h = single tt
-  pseudo-words Negu x h = single tt
-  pseudo-words Not x h = single tt
-  pseudo-words Li x h = widened (omega arith) (omega arith) (load-words (x .1) (registerNumber (x .0)))
-  pseudo-words La x h = widened (omega arith) (omega arith) (label-words (x .1) (registerNumber (x .0)) (h .1))
-  pseudo-words Move x h = single tt
-  pseudo-words B x h = single (h .0)
-  pseudo-words Subi x h = widened (omega arith) (omega arith) (immediate-words (Op 8) (SomeAlternative (Func 32)) (registerNumber (x .0)) (registerNumber (x .1)) (withSign true (x .2)) refl)
-  pseudo-words Subiu x h = widened (omega arith) (omega arith) (immediate-words (Op 9) (SomeAlternative (Func 33)) (registerNumber (x .0)) (registerNumber (x .1)) (withSign true (x .2)) refl)
+  pseudo-words : (job : Job) (p : Pseudo) (x : AskedAll (pseudoWants p)) → AllFit names (pseudoWants p) x → Words 1 5 (pseudoPairs job p x)
+  pseudo-words job Nop x h = single tt
+  pseudo-words job Abs x h = widened (omega arith) (omega arith) (one-more tt (one-more tt (one-word tt)))
+  pseudo-words job (BranchCustom greater result unsigned) x h = widened (omega arith) (omega arith) (then-words (value-words (x .1)) (one-more tt (one-word (h .2))))
+  pseudo-words job (SetCustom greater result unsigned) x h = widened (omega arith) (omega arith) (then-words (value-words (x .2)) (one-more tt (turned-words result (x .0))))
+  pseudo-words job Beqz x h = single (h .1)
+  pseudo-words job Bnez x h = single (h .1)
+  pseudo-words job Seq x h = widened (omega arith) (omega arith) (then-words (then-words (value-words (x .2)) (one-more tt (one-word tt))) (turned-words false (x .0)))
+  pseudo-words job Sne x h = widened (omega arith) (omega arith) (then-words (value-words (x .2)) (one-more tt (one-word tt)))
+  pseudo-words job Neg x h = single tt
+  pseudo-words job Negu x h = single tt
+  pseudo-words job Not x h = single tt
+  pseudo-words job Li x h = widened (omega arith) (omega arith) (load-words (x .1) (registerNumber (x .0)))
+  pseudo-words job La x h = widened (omega arith) (omega arith) (label-words (x .1) (registerNumber (x .0)) (h .1))
+  pseudo-words job Move x h = single tt
+  pseudo-words job B x h = single (h .0)
+  pseudo-words job Subi x h = widened (omega arith) (omega arith) (immediate-words (Op 8) (SomeAlternative (Func 32)) (registerNumber (x .0)) (registerNumber (x .1)) (withSign true (x .2)) refl)
+  pseudo-words job Subiu x h = widened (omega arith) (omega arith) (immediate-words (Op 9) (SomeAlternative (Func 33)) (registerNumber (x .0)) (registerNumber (x .1)) (withSign true (x .2)) refl)
 
   -- ---- what was read, made into words
 
   line-words : {A : Type 0} (fits : A → Type 0) (range : A → Range) (pairs : A → List InstructionPair) (form : A → LoadForm) → ((x : A) → fits x → range x ≡ Within → Words 1 5 (pairs x))
       → (a : Answer A) (i : ℕ) → Of fits a → lineBy a i range pairs form .answer ≡ Made → Words 1 5 (lineBy a i range pairs form .pairs)
-  line-words fits range pairs form w (Got x) i h e = w x h (within (range x) e)
-    where
-      within : (r : Range) → rangeAnswer r ≡ Made → r ≡ Within
-      within Within q = refl
-      within Outside q = cc
+  line-words fits range pairs form w (Got x) i h e = w x h (within-made (range x) e)
   line-words fits range pairs form w (Missed m) i h e =
       let z : _≡_ {A = ℕ} 0 1 = cc in
       absurd (omega arith)
 
 module _ (names : List ℕ) (ts : List Token) (fit : (i : ℕ) → TokenFits names (getD ts i noToken)) where
-  pub encoding-made : (e : Encoding) (op : Opcode) (i : ℕ) → encodingLine e op ts i .answer ≡ Made → Words names 1 5 (encodingLine e op ts i .pairs)
+  pub encoding-made : (job : Job) (e : Encoding) (op : Opcode) (i : ℕ) → encodingLine job e op ts i .answer ≡ Made → Words names 1 5 (encodingLine job e op ts i .pairs)
   unfolding encodingLine
-  encoding-made e op i =
-      line-words names (AllFit names (encodingWants e)) (encodingRange e) (encodingPairs e op) (encodingForm e) (encoding-words names e op)
+  encoding-made job e op i =
+      line-words names (AllFit names (encodingWants e)) (encodingRange job e) (encodingPairs job e op) (encodingForm e) (encoding-words names job e op)
       (readOperands (encodingWants e) ts i .answer) (readOperands (encodingWants e) ts i .index) (operands-fit names ts fit (encodingWants e) i)
 
-  pub pseudo-made : (p : Pseudo) (i : ℕ) → pseudoLine p ts i .answer ≡ Made → Words names 1 5 (pseudoLine p ts i .pairs)
+  pub pseudo-made : (job : Job) (p : Pseudo) (i : ℕ) → pseudoLine job p ts i .answer ≡ Made → Words names 1 5 (pseudoLine job p ts i .pairs)
   unfolding pseudoLine
-  pseudo-made p i =
-      line-words names (AllFit names (pseudoWants p)) (λ x. Within) (pseudoPairs p) (pseudoForm p) (λ x h r. pseudo-words names p x h)
+  pseudo-made job p i =
+      line-words names (AllFit names (pseudoWants p)) (λ x. Within) (pseudoPairs job p) (pseudoForm p) (λ x h r. pseudo-words names job p x h)
       (readOperands (pseudoWants p) ts i .answer) (readOperands (pseudoWants p) ts i .index) (operands-fit names ts fit (pseudoWants p) i)

@@ -1,4 +1,4 @@
--- What `read_text` prints (document 02, P7). Assumes nothing.
+-- What `read_text` prints (document 02, P7), in the lines that docs/DECISIONS.md gives. Assumes nothing.
 use Prim.Native.Nat.{ℕ}
 use mathlib.Core.List.{List, _++_}
 use lib.ListN.{take, drop, replicate}
@@ -10,7 +10,7 @@ use Rattle.text_reader.specs.Outcome.{TextOutcome, readText}
 use Rattle.input.specs.Input.{wordOrZero}
 use Rattle.text.specs.Text.{hexBytes, refusedLine}
 
--- "prints `tokens` and the filled part in hexadecimal"
+-- `tokens` and the filled part in hexadecimal
 abbrev pub tokensLine : List ℕ → List ℕ
 tokensLine list = (bytesOf "tokens " ++ hexBytes list) ++ bytesOf "\n"
 
@@ -22,6 +22,6 @@ answerText (Refused r) tokens = refusedLine (numbered r)
 abbrev pub outcomeText : TextOutcome → List ℕ
 outcomeText o = answerText (o .answer) (o .tokens)
 
--- "source (4), length of the token buffer (4), then the text to the end of input"
+-- an input is the source and the length of the token buffer, four bytes each, and then the text to the end
 unfoldable pub readTextText : List ℕ → List ℕ
 readTextText s = outcomeText (readText (drop 8 s) (wordOrZero s 0) (replicate (wordOrZero s 4) 0))

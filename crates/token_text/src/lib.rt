@@ -1,23 +1,17 @@
 // What `read_text` does (document 02, P7), from the bytes that it reads to those that it prints.
 ghost use mathlib.Core.Path.{_≡_};
-ghost use Prim.Native.Nat.{_≤_, min};
+ghost use Prim.Native.Nat.{_≤_};
 ghost use lib.ListN.{length, drop};
 ghost use Rattle.text_reader.specs.Outcome.{readText};
 ghost use Rattle.text.specs.Text.{Put};
 ghost use Rattle.token_text.specs.TokenText.{tokensLine, outcomeText, readTextText};
 use text_reader::TextRead;
 
-fn least(a: usize, b: usize) -> usize
-    ensures { λ r. ⌜ r ≡ min a b ⌝ }
-{
-    if a < b { a } else { b }
-}
-
 // The text, which stands behind the two numbers.
 fn text_of(input: &[u8]) -> &[u8]
     ensures { λ r. ⌜ now r ≡ drop 8 (now (input .entry)) ⌝ }
 {
-    let start = least(8, input.len());
+    let start = input::least(8, input.len());
     &input[start..]
 }
 
@@ -48,6 +42,6 @@ pub fn read_text(input: &[u8], out: &mut [u8; text::MOST]) -> usize
     let source = input::word_or_zero(input, 0);
     let asked = input::word_or_zero(input, 4);
     let mut tokens = [0u8; record::LIMIT + 1];
-    let room = least(asked as usize, record::LIMIT + 1);
+    let room = input::least(asked as usize, record::LIMIT + 1);
     put_read(out, text_of(input), source, &mut tokens[..room])
 }

@@ -3,9 +3,10 @@ ghost use mathlib.Core.Path.{_≡_};
 ghost use Prim.Native.Nat.{_+_, _*_, _^_, _≤_, _<_};
 ghost use Rattle.field.specs.Field.{setField, orField};
 ghost use Rattle.registers.specs.Numbers.{registerNumber, fpRegisterNumber};
-ghost use Rattle.instructions.specs.Bases.{instructionBase, sizeCode};
+ghost use Rattle.instructions.specs.Bases.{instructionBase};
+ghost use Rattle.jobs.specs.Jobs.{sizeCode};
 use instructions::Opcode;
-use instructions::Size;
+use jobs::Format;
 use registers::FPRegisterSlot;
 use registers::RegisterSlot;
 
@@ -158,10 +159,10 @@ impl InstructionBuilder {
         )
     }
 
-    pub fn with_fp_fmt(self, fmt: Size) -> InstructionBuilder
+    pub fn with_fp_fmt(self, fmt: Format) -> InstructionBuilder
         ensures { λ r. ⌜ r .0 ≡ setField (self .0) 21 5 (sizeCode fmt) ⌝ }
     {
-        self.with_number_offset(21, instructions::size_code(fmt))
+        self.with_number_offset(21, jobs::size_code(fmt))
     }
 
     pub fn finish(self) -> u32

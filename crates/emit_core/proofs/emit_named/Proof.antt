@@ -42,7 +42,7 @@ located c made e = let s = c .before .before .before .before .before .before .be
 returns : tie.Need-returns
 returns c =
     let s = c .before .before .before .before .before .before .before .before .before .before .before .before .before .before .before .before .before in
-    by-meaning (call s) (s .pre) (means (c .before .before .before .before) ∙ c .before .before .enum-told .given .1)
+    by-meaning (s .args .job) (call s) (s .pre) (means (c .before .before .before .before) ∙ c .before .before .enum-told .given .1)
     ∙ ap (λ (l : Location). callRefused (call s) (UnknownInstruction l)) (sym (c .before .before .before .before .before .before .before .before .before .before .read-mnemonic .ensures .2))
     ∙ sym (ap (λ (x : Emitted). outcomeOf (x .answer) (x .counts) (lent s)) (c .refused .ensures))
 
@@ -50,14 +50,14 @@ returns-2 : tie.Need-returns-2
 returns-2 c =
     let s = c .before .before .before .before .before .before .before .before .before .before .before .before .before .before .before .before .before .before .before .before .before .before .before .before .before .before .before in
     let d = c .before .before .before .before .before .before .before .before .before .before .dispatch-instruction in
-    by-descriptor (call s) (c .before .before .before .before .before .before .before .before .before .before .before .before .before .before .before .before .start .ensures .0) {made = d .result} (s .pre) _ (means (c .before .before .before .before .before .before .before .before .before .before .before .before .before .before) ∙ c .before .before .before .before .before .before .before .before .before .before .before .before .place .given .1) (d .ensures)
+    by-descriptor (s .args .job) (call s) (c .before .before .before .before .before .before .before .before .before .before .before .before .before .before .before .before .start .ensures .0) {made = d .result} (s .pre) _ (means (c .before .before .before .before .before .before .before .before .before .before .before .before .before .before) ∙ c .before .before .before .before .before .before .before .before .before .before .before .before .place .given .1) (d .ensures)
     ∙ located (c .before .before .before .before .before .before .before .before .before .before .before .before .before .before .before .before .before .before .before .before) (lineMade (d .result)) (c .before .before .before .before .before .before .append-or-refuse .ensures)
 
 returns-3 : tie.Need-returns-3
 returns-3 c =
     let s = c .before .before .before .before .before .before .before .before .before .before .before .before .before .before .before .before .before .before .before .before .before .before .before .before .before .before .before in
     let d = c .before .before .before .before .before .before .before .before .before .before .dispatch-pseudo in
-    by-builtin (call s) (c .before .before .before .before .before .before .before .before .before .before .before .before .before .before .before .before .start .ensures .0) {made = d .result} (s .pre) _ (means (c .before .before .before .before .before .before .before .before .before .before .before .before .before .before) ∙ c .before .before .before .before .before .before .before .before .before .before .before .before .pseudo .given .1) (d .ensures)
+    by-builtin (s .args .job) (call s) (c .before .before .before .before .before .before .before .before .before .before .before .before .before .before .before .before .start .ensures .0) {made = d .result} (s .pre) _ (means (c .before .before .before .before .before .before .before .before .before .before .before .before .before .before) ∙ c .before .before .before .before .before .before .before .before .before .before .before .before .pseudo .given .1) (d .ensures)
     ∙ located (c .before .before .before .before .before .before .before .before .before .before .before .before .before .before .before .before .before .before .before .before) (lineMade (d .result)) (c .before .before .before .before .before .before .append-or-refuse2 .ensures)
 
 pub emit-named-spec : {M : Type 1} → statement M

@@ -18,7 +18,7 @@ returns c =
     let a = b .before .before .before .args in
     let w = pseudoWants (a .pseudo) in
     line-missed w (readOperands w (tokens (a .list .now)) (a .from .index)) (asked-as (a .from .index) (b .before .pseudo-wants .ensures) (b .read-operands .ensures))
-    (λ x. Within) (pseudoPairs (a .pseudo)) (pseudoForm (a .pseudo)) _ (c .before .before .given .given .1) refl (c .none .ensures)
+    (λ x. Within) (pseudoPairs (a .job) (a .pseudo)) (pseudoForm (a .pseudo)) _ (c .before .before .given .given .1) refl (c .none .ensures)
 
 returns-2 : tie.Need-returns-2
 unfolding pseudoLine
@@ -27,7 +27,7 @@ returns-2 c =
     let a = b .before .before .before .args in
     let w = pseudoWants (a .pseudo) in
     line-read w (readOperands w (tokens (a .list .now)) (a .from .index)) (asked-as (a .from .index) (b .before .pseudo-wants .ensures) (b .read-operands .ensures))
-    (λ x. Within) (pseudoPairs (a .pseudo)) (pseudoForm (a .pseudo)) _ (c .before .before .given2 .given .1) refl (c .pseudo-pairs .ensures)
+    (λ x. Within) (pseudoPairs (a .job) (a .pseudo)) (pseudoForm (a .pseudo)) _ (c .before .before .given2 .given .1) refl (c .pseudo-pairs .ensures)
 
 pub dispatch-pseudo-spec : {M : Type 1} → statement M
 dispatch-pseudo-spec =

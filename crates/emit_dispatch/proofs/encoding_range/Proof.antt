@@ -1,75 +1,72 @@
 -- Each arm is the case of its encoding. Assumes nothing.
-use mathlib.Core.Path.{sym, ap, _∙_}
-use Rattle.instructions.specs.declared.Encoding.{Encoding}
-use Rattle.operand_list.specs.HeldOperands.{heldAll}
-use Rattle.emit_dispatch.specs.Wants.{encodingWants}
-use Rattle.emit_dispatch.specs.Lines.{encodingRange}
+use mathlib.Core.Path.{refl}
+use Rattle.emit_dispatch.specs.LinesLaws.{range-as}
 use borrow.Author.Needs.{needs}
 use Rattle.emit_dispatch.proofs.encoding_range.Statement.{statement}
 use Rattle.emit_dispatch.proofs.encoding_range.Tie as tie
 
 returns : tie.Need-returns
-returns c = sym (ap (λ (e : Encoding). encodingRange e (heldAll (encodingWants e) (c .before .before .args .operands))) (c .enum-told .given .1))
+returns c = range-as (c .before .before .args .job) (c .before .before .args .operands) (c .enum-told .given .1) refl
 
 returns-2 : tie.Need-returns-2
-returns-2 c = sym (ap (λ (e : Encoding). encodingRange e (heldAll (encodingWants e) (c .before .before .args .operands))) (c .enum-told2 .given .1))
+returns-2 c = range-as (c .before .before .args .job) (c .before .before .args .operands) (c .enum-told2 .given .1) refl
 
 returns-3 : tie.Need-returns-3
-returns-3 c = sym (ap (λ (e : Encoding). encodingRange e (heldAll (encodingWants e) (c .before .before .args .operands))) (c .enum-told3 .given .1))
+returns-3 c = range-as (c .before .before .args .job) (c .before .before .args .operands) (c .enum-told3 .given .1) refl
 
 returns-4 : tie.Need-returns-4
-returns-4 c = sym (ap (λ (e : Encoding). encodingRange e (heldAll (encodingWants e) (c .before .before .args .operands))) (c .enum-told4 .given .1))
+returns-4 c = range-as (c .before .before .args .job) (c .before .before .args .operands) (c .enum-told4 .given .1) refl
 
 returns-5 : tie.Need-returns-5
-returns-5 c = sym (ap (λ (e : Encoding). encodingRange e (heldAll (encodingWants e) (c .before .before .args .operands))) (c .enum-told5 .given .1))
+returns-5 c = range-as (c .before .before .args .job) (c .before .before .args .operands) (c .enum-told5 .given .1) refl
 
 returns-6 : tie.Need-returns-6
-returns-6 c = sym (ap (λ (e : Encoding). encodingRange e (heldAll (encodingWants e) (c .before .before .args .operands))) (c .enum-told6 .given .1))
+returns-6 c = range-as (c .before .before .before .args .job) (c .before .before .before .args .operands) (c .before .enum-told6 .given .1) (c .shift-range .ensures)
 
 returns-7 : tie.Need-returns-7
-returns-7 c = sym (ap (λ (e : Encoding). encodingRange e (heldAll (encodingWants e) (c .before .before .args .operands))) (c .enum-told7 .given .1))
+returns-7 c = range-as (c .before .before .args .job) (c .before .before .args .operands) (c .enum-told7 .given .1) refl
 
 returns-8 : tie.Need-returns-8
-returns-8 c = c .immediate-range .ensures ∙ rw (c .before .constant-in .ensures) (sym (ap (λ (e : Encoding). encodingRange e (heldAll (encodingWants e) (c .before .before .before .before .before .args .operands))) (c .before .before .before .encoding .given .1)))
+returns-8 c = range-as (c .before .before .before .before .before .args .job) (c .before .before .before .before .before .args .operands) (c .before .before .before .encoding .given .1) (rw (c .before .constant-in .ensures) at (c .immediate-range .ensures))
 
 returns-9 : tie.Need-returns-9
-returns-9 c = sym (ap (λ (e : Encoding). encodingRange e (heldAll (encodingWants e) (c .before .before .args .operands))) (c .enum-told8 .given .1))
+returns-9 c = range-as (c .before .before .args .job) (c .before .before .args .operands) (c .enum-told8 .given .1) refl
 
 returns-10 : tie.Need-returns-10
-returns-10 c = sym (ap (λ (e : Encoding). encodingRange e (heldAll (encodingWants e) (c .before .before .args .operands))) (c .enum-told9 .given .1))
+returns-10 c = range-as (c .before .before .args .job) (c .before .before .args .operands) (c .enum-told9 .given .1) refl
 
 returns-11 : tie.Need-returns-11
-returns-11 c = sym (ap (λ (e : Encoding). encodingRange e (heldAll (encodingWants e) (c .before .before .args .operands))) (c .enum-told10 .given .1))
+returns-11 c = range-as (c .before .before .args .job) (c .before .before .args .operands) (c .enum-told10 .given .1) refl
 
 returns-12 : tie.Need-returns-12
-returns-12 c = sym (ap (λ (e : Encoding). encodingRange e (heldAll (encodingWants e) (c .before .before .args .operands))) (c .enum-told11 .given .1))
+returns-12 c = range-as (c .before .before .args .job) (c .before .before .args .operands) (c .enum-told11 .given .1) refl
 
 returns-13 : tie.Need-returns-13
-returns-13 c = sym (ap (λ (e : Encoding). encodingRange e (heldAll (encodingWants e) (c .before .before .args .operands))) (c .enum-told12 .given .1))
+returns-13 c = range-as (c .before .before .args .job) (c .before .before .args .operands) (c .enum-told12 .given .1) refl
 
 returns-14 : tie.Need-returns-14
-returns-14 c = sym (ap (λ (e : Encoding). encodingRange e (heldAll (encodingWants e) (c .before .before .args .operands))) (c .enum-told13 .given .1))
+returns-14 c = range-as (c .before .before .args .job) (c .before .before .args .operands) (c .enum-told13 .given .1) refl
 
 returns-15 : tie.Need-returns-15
-returns-15 c = sym (ap (λ (e : Encoding). encodingRange e (heldAll (encodingWants e) (c .before .before .args .operands))) (c .enum-told14 .given .1))
+returns-15 c = range-as (c .before .before .args .job) (c .before .before .args .operands) (c .enum-told14 .given .1) refl
 
 returns-16 : tie.Need-returns-16
-returns-16 c = sym (ap (λ (e : Encoding). encodingRange e (heldAll (encodingWants e) (c .before .before .args .operands))) (c .enum-told15 .given .1))
+returns-16 c = range-as (c .before .before .args .job) (c .before .before .args .operands) (c .enum-told15 .given .1) refl
 
 returns-17 : tie.Need-returns-17
-returns-17 c = sym (ap (λ (e : Encoding). encodingRange e (heldAll (encodingWants e) (c .before .before .args .operands))) (c .enum-told16 .given .1))
+returns-17 c = range-as (c .before .before .args .job) (c .before .before .args .operands) (c .enum-told16 .given .1) refl
 
 returns-18 : tie.Need-returns-18
-returns-18 c = sym (ap (λ (e : Encoding). encodingRange e (heldAll (encodingWants e) (c .before .before .args .operands))) (c .enum-told17 .given .1))
+returns-18 c = range-as (c .before .before .before .args .job) (c .before .before .before .args .operands) (c .before .enum-told17 .given .1) (c .code-range .ensures)
 
 returns-19 : tie.Need-returns-19
-returns-19 c = sym (ap (λ (e : Encoding). encodingRange e (heldAll (encodingWants e) (c .before .before .args .operands))) (c .enum-told18 .given .1))
+returns-19 c = range-as (c .before .before .before .args .job) (c .before .before .before .args .operands) (c .before .enum-told18 .given .1) (c .code-range2 .ensures)
 
 returns-20 : tie.Need-returns-20
-returns-20 c = sym (ap (λ (e : Encoding). encodingRange e (heldAll (encodingWants e) (c .before .before .args .operands))) (c .enum-told19 .given .1))
+returns-20 c = range-as (c .before .before .args .job) (c .before .before .args .operands) (c .enum-told19 .given .1) refl
 
 returns-21 : tie.Need-returns-21
-returns-21 c = sym (ap (λ (e : Encoding). encodingRange e (heldAll (encodingWants e) (c .before .before .args .operands))) (c .enum-told20 .given .1))
+returns-21 c = range-as (c .before .before .before .args .job) (c .before .before .before .args .operands) (c .before .enum-told20 .given .1) (c .code-range3 .ensures)
 
 pub encoding-range-spec : {M : Type 1} → statement M
 encoding-range-spec =
@@ -81,6 +78,7 @@ encoding-range-spec =
     (λ c. search needs)
     (λ c. search needs)
     (λ c. search needs)
+    (λ c κs. search needs)
     (λ c. search needs)
     (λ c. search needs)
     (λ c κs. search needs)
@@ -95,9 +93,12 @@ encoding-range-spec =
     (λ c. search needs)
     (λ c. search needs)
     (λ c. search needs)
+    (λ c κs. search needs)
+    (λ c. search needs)
+    (λ c κs. search needs)
     (λ c. search needs)
     (λ c. search needs)
-    (λ c. search needs)
+    (λ c κs. search needs)
     returns
     returns-2
     returns-3

@@ -5,7 +5,7 @@ use Rattle.emit_float.proofs.do_fp_move_instruction.Statement.{statemen
 use Rattle.emit_float.proofs.do_fp_move_instruction.Tie as tie
 
 returns : tie.Need-returns
-returns c = emit-as (c .with .ensures) (rw (c .before .fp-move-word .ensures, c .before .before .code-in .ensures, c .before .before .before .fp-slot-in2 .ensures, c .before .before .before .before .fp-slot-in .ensures))
+returns c = emit-as (c .with .ensures) (rw (c .before .fp-move-word .ensures, c .before .before .before .code-in .ensures, c .before .before .before .before .fp-slot-in2 .ensures, c .before .before .before .before .before .fp-slot-in .ensures))
 
 pub do-fp-move-instruction-spec : {M : Type 1} → statement M
 do-fp-move-instruction-spec =

@@ -10,7 +10,6 @@ use Rattle.refusal.specs.Numbers.{numbered}
 use Rattle.regions.specs.Regions.{regionLayout}
 use Rattle.build_outcome.specs.declared.Built.{Built}
 use Rattle.build_outcome.specs.declared.Built.the-variants.{Entry, Refused}
-use Rattle.build_outcome.specs.Build.{buildOutcome}
 use Rattle.reading.specs.Reading.{imageOf}
 use Rattle.text.specs.Text.{refusedLine}
 use Rattle.text.specs.TextLaws.{put-then, put-room, refused-most}
@@ -22,24 +21,24 @@ use Rattle.image_text.proofs.put_build.Statement.{statement}
 use Rattle.image_text.proofs.put_build.Tie as tie
 
 -- the text, by what the build answers and leaves
-text-is : (c : tie.After-build) (built : Built) → let a = c .before .before .before .before .before .before .before .args in c .build .result ≡ built
-    → buildText (a .labels .now) (a .entry .now) (a .regions .now) (a .pending .now) ≡ outcomeText built (c .build .last .1 .1 .0)
+text-is : (c : tie.After-build-for) (built : Built) → let a = c .before .before .before .before .before .before .before .args in c .build-for .result ≡ built
+    → buildText (a .job) (a .labels .now) (a .entry .now) (a .regions .now) (a .pending .now) ≡ outcomeText built (c .build-for .last .1 .1 .1 .0)
 text-is c built e =
-    let i = c .build .ensures in
+    let i = c .build-for .ensures in
     ap₂ outcomeText (sym (i .answer-is) ∙ e) (sym (i .bytes-are))
 
 -- an accepted build's regions keep their layout, and so its text is not too long
-good : (c : tie.After-address) → regionLayout (c .before .before .before .before .build .last .1 .1 .0) ≡ Good
+good : (c : tie.After-address) → regionLayout (c .before .before .before .before .build-for .last .1 .1 .1 .0) ≡ Good
 good c =
-    let i = c .before .before .before .before .build .ensures in
+    let i = c .before .before .before .before .build-for .ensures in
     let a = c .before .before .before .before .before .before .before .before .before .before .before .args in
-    rw (i .bytes-are) (accepted-layout (a .labels .now) (a .entry .now) (a .regions .now) (a .pending .now) (c .address .given .0 .0) (sym (i .answer-is) ∙ c .address .given .1))
+    rw (i .bytes-are) (accepted-layout (a .job) (a .labels .now) (a .entry .now) (a .regions .now) (a .pending .now) (c .address .given .0 .0) (sym (i .answer-is) ∙ c .address .given .1))
 
-room : (c : tie.After-address) (entry : ℕ) → 0 + length (imageText entry (imageOf (c .before .before .before .before .build .last .1 .1 .0))) ≤ length (c .before .before .before .before .before .before .before .before .before .before .before .args .out .now)
-room c entry = omega (arith, image-most (c .before .before .before .before .build .last .1 .1 .0) entry (good c), c .before .before .before .before .before .before .before .before .before .before .before .pre)
+room : (c : tie.After-address) (entry : ℕ) → 0 + length (imageText entry (imageOf (c .before .before .before .before .build-for .last .1 .1 .1 .0))) ≤ length (c .before .before .before .before .before .before .before .before .before .before .before .args .out .now)
+room c entry = omega (arith, image-most (c .before .before .before .before .build-for .last .1 .1 .1 .0) entry (good c), c .before .before .before .before .before .before .before .before .before .before .before .pre)
 
 put-regions-requires : tie.Need-put-regions-requires
-put-regions-requires c κs = (good (c .before .before .before .before .before .before .before), put-room _ _ _ _ _ (c .before .before .before .before .put-entry .ensures) (regionsText 0 (imageOf (c .before .before .before .before .before .before .before .before .before .before .before .build .last .1 .1 .0))) (room (c .before .before .before .before .before .before .before) _))
+put-regions-requires c κs = (good (c .before .before .before .before .before .before .before), put-room _ _ _ _ _ (c .before .before .before .before .put-entry .ensures) (regionsText 0 (imageOf (c .before .before .before .before .before .before .before .before .before .before .before .build-for .last .1 .1 .1 .0))) (room (c .before .before .before .before .before .before .before) _))
 
 returns : tie.Need-returns
 returns c =

@@ -1,6 +1,6 @@
 -- `with_fp_fmt` meets its contract: a format's code fits a field of five bits. Assumes nothing.
 use borrow.Author.Needs.{needs}
-use Rattle.instructions.specs.BaseLaws.{size-lt}
+use Rattle.jobs.specs.JobsLaws.{size-lt}
 use Rattle.word.proofs.InstructionBuilder.with_fp_fmt.Statement.{statement}
 use Rattle.word.proofs.InstructionBuilder.with_fp_fmt.Tie as tie
 
