@@ -94,7 +94,7 @@
 
    STACK. Measured, not proved, on x86-64 with gcc as the caller's compiler: link/stack ran over a
    million calls of nazgwern_do_instruction, of which none took more than 4,616 bytes of stack, 731
-   of nazgwern_build, of which none took more than 312, as many by the manual, of which none took
+   of nazgwern_build, of which none took more than 408, as many by the manual, of which none took
    more than these, 20,506 of nazgwern_read_text, of which none took more than 928, and 1,338 of
    nazgwern_dry_run, of which none took more than 680; arguments and return address counted. The
    code may also use the 128 bytes below its stack pointer, as the x86-64 convention allows. */
