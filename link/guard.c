@@ -491,6 +491,11 @@ static void do_manual_instruction(void)
     line(nazgwern_do_manual_instruction);
 }
 
+static void do_release_6_instruction(void)
+{
+    line(nazgwern_do_release_6_instruction);
+}
+
 /* ---- a build */
 
 static void build_lists(void)
@@ -729,6 +734,7 @@ static const struct {
 } entries[] = {
     {"nazgwern_do_instruction", do_instruction, 1000000},
     {"nazgwern_do_manual_instruction", do_manual_instruction, 1000000},
+    {"nazgwern_do_release_6_instruction", do_release_6_instruction, 1000000},
     {"nazgwern_build", build, 500000},
     {"nazgwern_build_manual", build_manual, 500000},
     {"nazgwern_count_forms", count_forms, 500000},

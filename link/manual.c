@@ -5,7 +5,9 @@
            bnez  $t0, far
 
    Then two refusals that only a manual job has: the build with far one word further, and the line
-   sll $t0, $t1, 32. The same calls of another job are accepted, and give other words. */
+   sll $t0, $t1, 32. The same calls of another job are accepted, and give other words.
+   Last come two lines for a Release 6 board: jr $ra, whose word is printed, and mflo $t0, which is
+   refused. */
 #include "nazgwern.h"
 
 #include <inttypes.h>
@@ -14,7 +16,7 @@
 
 enum { REGISTER = 3, INTEGER_LITERAL = 5, SYMBOL = 8, COMMA = 11 };
 enum { MNEMONIC = 32, LABEL = 34, REGION = 35 };
-enum { T0 = 8, T1 = 9, BASE = 0x00400000, FAR = 0x0042000c };
+enum { T0 = 8, T1 = 9, RA = 31, BASE = 0x00400000, FAR = 0x0042000c };
 
 /* What this program puts into a list is far shorter than its array. */
 struct list {
@@ -22,8 +24,13 @@ struct list {
     uint8_t bytes[256];
 };
 
-/* sll: Func (1) 0, encoding Sham (5). abs and bnez are pseudo-instructions. */
-static const uint8_t descriptors[] = {11, 0, 33, 0, 1, 0, 5, 0, 0, 0, 0, 0, 's', 'l', 'l'};
+/* sll: Func (1) 0, encoding Sham (5); jr: Func 8, encoding Source (2); mflo: Func 18, encoding
+   Destination (3). abs and bnez are pseudo-instructions. */
+static const uint8_t descriptors[] = {
+    11, 0, 33, 0, 1, 0,  5, 0, 0, 0, 0, 0, 's', 'l', 'l',
+    10, 0, 33, 0, 1, 8,  2, 0, 0, 0, 0, 0, 'j', 'r',
+    12, 0, 33, 0, 1, 18, 3, 0, 0, 0, 0, 0, 'm', 'f', 'l', 'o',
+};
 
 static struct list tokens;
 static uint8_t data[64], pending[128], breakpoints[128];
@@ -85,13 +92,19 @@ static int refused(void)
     return 1;
 }
 
+typedef uint32_t line_call(const uint8_t *, size_t, const uint8_t *, size_t, const uint8_t *,
+                           size_t, uint8_t *, size_t, uint8_t *, size_t, uint8_t *, size_t,
+                           uint8_t *, size_t, uint32_t, uint16_t, uint32_t, uint8_t *, size_t);
+
+static line_call *line = nazgwern_do_manual_instruction;
+
 /* Emits the line of the tokens, which are then gone. */
 static int emit(const char *name)
 {
     struct list mnemonic = {0};
 
     put_named(&mnemonic, MNEMONIC, name);
-    uint32_t number = nazgwern_do_manual_instruction(
+    uint32_t number = line(
         tokens.bytes, tokens.length, mnemonic.bytes, mnemonic.length,
         descriptors, sizeof descriptors, data, sizeof data, pending, sizeof pending,
         breakpoints, sizeof breakpoints, counts, sizeof counts, 0, 0, BASE,
@@ -141,5 +154,16 @@ int main(void)
     token(REGISTER, T0, 1), token(COMMA, 0, 0), token(REGISTER, T1, 1), token(COMMA, 0, 0);
     token(INTEGER_LITERAL, 32, 8);
 
-    return build(FAR + 4) != 0 && emit("sll") != 0 ? 0 : 1;
+    if (build(FAR + 4) == 0 || emit("sll") == 0)
+        return 1;
+
+    line = nazgwern_do_release_6_instruction;
+    uint32_t place = number_at(counts, 0);
+    token(REGISTER, RA, 1);
+    if (emit("jr") != 0)
+        return 1;
+    printf("%08" PRIx32 "\n", number_at(data, place));
+
+    token(REGISTER, T0, 1);
+    return emit("mflo") != 0 ? 0 : 1;
 }

@@ -84,20 +84,24 @@
      22  A text is over 64 bytes, a parameter has no name, a number is over 64 bits, 0x has no
          digit, or a register is unknown.
      23  The token buffer is too short for the token.
+     27  In a Release 6 job, a line of encoding 4 has a third operand, or the descriptor's opcode is
+         of class 1 with the key 18 modulo 64.
      28  A dry run's pc is no multiple of four, or no whole word stands there.
      30  The range's start exceeds its end.
 
-   The location is zero for 1, 2, 28 and 30; the mnemonic's for 3, 4, 9 to 12, 19 and 20; for 5 to 8
-   that of the token that was met, or the mnemonic's at a NewLine; the name's for 13 and 15, and the
-   pending's for 14 and 16; for 21 to 23 the call's source and the place of the token's first byte.
+   The location is zero for 1, 2, 28 and 30; the mnemonic's for 3, 4, 9 to 12, 19, 20 and 27; for 5
+   to 8 that of the token that was met, or the mnemonic's at a NewLine; the name's for 13 and 15,
+   and the pending's for 14 and 16; for 21 to 23 the call's source and the place of the token's
+   first byte.
    docs/REFUSALS.md says what to do about each.
 
    STACK. Measured, not proved, on x86-64 with gcc as the caller's compiler: link/stack ran over a
-   million calls of nazgwern_do_instruction, of which none took more than 4,616 bytes of stack, 731
-   of nazgwern_build, of which none took more than 408, as many by the manual, of which none took
-   more than these, 20,506 of nazgwern_read_text, of which none took more than 928, and 1,338 of
-   nazgwern_dry_run, of which none took more than 680; arguments and return address counted. The
-   code may also use the 128 bytes below its stack pointer, as the x86-64 convention allows. */
+   million calls of nazgwern_do_instruction, of which none took more than 4,632 bytes of stack, 731
+   of nazgwern_build, of which none took more than 456, as many by the manual and lines for Release
+   6, of which none took more than these, 20,506 of nazgwern_read_text, of which none took more than
+   928, and 1,338 of nazgwern_dry_run, of which none took more than 680; arguments and return
+   address counted. The code may also use the 128 bytes below its stack pointer, as the x86-64
+   convention allows. */
 #ifndef NAZGWERN_H
 #define NAZGWERN_H
 
@@ -150,6 +154,20 @@ uint32_t nazgwern_do_instruction(
    sra $at,source,31; and a shift amount or condition code out of range is refused with 19 or 20,
    tested as 64 bits when the operands are read, before 9. */
 uint32_t nazgwern_do_manual_instruction(
+    const uint8_t *tokens, size_t tokens_length,
+    const uint8_t *mnemonic, size_t mnemonic_length,
+    const uint8_t *descriptors, size_t descriptors_length,
+    uint8_t *data, size_t data_length,
+    uint8_t *pending, size_t pending_length,
+    uint8_t *breakpoints, size_t breakpoints_length,
+    uint8_t *counts, size_t counts_length,
+    uint32_t position, uint16_t region, uint32_t address,
+    uint8_t *answer, size_t answer_length);
+
+/* The same for a Release 6 job: as in a manual job, but that function 8 under encoding 2 becomes 9,
+   so that jr $ra is 03e00009, and that refusal 27 is looked at straight after 20. Its build is
+   nazgwern_build_manual. */
+uint32_t nazgwern_do_release_6_instruction(
     const uint8_t *tokens, size_t tokens_length,
     const uint8_t *mnemonic, size_t mnemonic_length,
     const uint8_t *descriptors, size_t descriptors_length,

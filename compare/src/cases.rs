@@ -9,8 +9,8 @@ use crate::line_input::{LineInput, LineOutcome};
 use crate::records::{bodies, u32_at};
 use std::fs::read;
 
-/// The jobs that `emit_line` knows, by their bytes: Release 6 is added when P9 lands.
-const JOBS: [Job; 2] = [Job::Commit, Job::Manual];
+/// The jobs that `emit_line` knows, by their bytes.
+const JOBS: [Job; 3] = [Job::Commit, Job::Manual, Job::Release6];
 
 /// Compares all stored cases, from the repository's root; false where one differs.
 pub fn run() -> bool {

@@ -1,4 +1,9 @@
 pub mod Marked
 pub mod Unlisted
+pub mod SameOutcome
 pub mod AsCommit
+pub mod Changed
+pub mod AsManual
+pub mod Function18
+pub mod Function18Laws
 pub mod Demands

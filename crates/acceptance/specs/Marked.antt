@@ -6,7 +6,7 @@ use Prim.Native.Nat.{ℕ}
 use lib.IntN.{ℤ, pos}
 use mathlib.Core.List.{List, [], _∷_, _++_}
 use Rattle.jobs.specs.declared.Job.{Job}
-use Rattle.jobs.specs.declared.Job.the-variants.{Commit, Manual}
+use Rattle.jobs.specs.declared.Job.the-variants.{Commit, Manual, Release6}
 use Rattle.field.specs.Field.{setField}
 use Rattle.record.specs.Bytes.{all, sameBytes}
 use Rattle.record.specs.Records.{placesF, placesFrom, places, firstBad, firstBadOf, withinLimit}
@@ -44,7 +44,7 @@ use Rattle.emit_outcome.specs.Dispatch.{meaning, tableLine}
 use Rattle.emit_outcome.specs.Checks.{layoutStop, listStop}
 use Rattle.emit_outcome.specs.Room.{edgeStop, roomStop}
 use Rattle.emit_outcome.specs.Emit.{lineOutcome, emitOutcome}
-use Rattle.example_lists.specs.Lists.{register, fpRegister, symbol, integer, minus, comma, leftBrace, rightBrace, «addu», «li», «lw», «abs», «sll», cvtSW, «bc1t», floatDescriptor, descriptor, lineIn, line, asBytes, pcsFrom, emits, region, patch}
+use Rattle.example_lists.specs.Lists.{register, fpRegister, symbol, integer, minus, comma, leftBrace, rightBrace, «addu», «li», «lw», «abs», «sll», cvtSW, «bc1t», «jr», «mflo», «mult», «addi», floatDescriptor, descriptor, eitherDescriptor, lineIn, line, asBytes, pcsFrom, emits, region, patch}
 
 -- ---- a refused call, by document 01's numbers; every lent byte and count is as at entry
 
@@ -92,6 +92,30 @@ pub record ManualRows : Type 0 where
   -- b, pc 00400000 to 003e0000: refusal 16
   pub b-too-far-back : BuildRefuses Manual (region 0x00400000 0x10000000) (patch 0 0x003e0000) 16 (pos 0x003e0000) 0x00400000
 
+-- the marks of jobs for Release 6 boards (document 02, P9)
+pub record Release6Rows : Type 0 where
+  -- jr $ra (Func 8): "so `jr $ra` is 03e00009"; a key counts modulo 64
+  pub jr-ra : emitOutcome Release6 (line «jr» (descriptor 1 8 2 «jr») (register 31)) ≡ emits 1 Unloaded (0x03e00009 ∷ [])
+  pub jr-by-72 : emitOutcome Release6 (line «jr» (descriptor 1 72 2 «jr») (register 31)) ≡ emits 1 Unloaded (0x03e00009 ∷ [])
+  pub jr-by-manual : emitOutcome Manual (line «jr» (descriptor 1 8 2 «jr») (register 31)) ≡ emits 1 Unloaded (0x03e00008 ∷ [])
+  -- function 8 under another encoding (Destination) stays
+  pub eight-elsewhere : emitOutcome Release6 (line «jr» (descriptor 1 8 3 «jr») (register 31)) ≡ emits 1 Unloaded (0x0000f808 ∷ [])
+  -- mflo $t0 (Func 18): refusal 27, with no region selected too
+  pub mflo-dropped : LineRefuses Release6 (line «mflo» (descriptor 1 18 3 «mflo») (register 8)) 27 (pos 0) 0 1
+  pub mflo-nowhere : LineRefuses Release6 (lineIn 65535 «mflo» (descriptor 1 18 3 «mflo») (register 8)) 27 (pos 0) 0 1
+  -- mult $t0,$t1,$t2 (Func 24): refusal 27; mult $t0,$t1
+  pub mult-third : LineRefuses Release6 (line «mult» (descriptor 1 24 4 «mult») (register 8 ++ comma ++ register 9 ++ comma ++ register 10)) 27 (pos 0) 0 5
+  pub mult-two : emitOutcome Release6 (line «mult» (descriptor 1 24 4 «mult») (register 8 ++ comma ++ register 9)) ≡ emits 3 Unloaded (0x01090018 ∷ [])
+  -- Func 18 under FPMove with code 8: 20 goes before 27; under Immediate with 32768: 27 goes before 9
+  pub code-first : LineRefuses Release6 (line «mflo» (descriptor 1 18 17 «mflo») (fpRegister 0 ++ comma ++ fpRegister 2 ++ comma ++ integer 8)) 20 (pos 0) 0 5
+  pub immediate-last : LineRefuses Release6 (line «mflo» (descriptor 1 18 7 «mflo») (register 8 ++ comma ++ register 9 ++ comma ++ integer 32768)) 27 (pos 0) 0 5
+  -- accepted, and yet with opcode 0 and function 18: an alternative Func 18, and a constant that lands there under Immediate, LoadImmediate, Offset and FPOffset
+  pub alternative-used : emitOutcome Release6 (line «addi» (eitherDescriptor 0 8 1 18 «addi») (register 8 ++ comma ++ register 9 ++ comma ++ integer 32768)) ≡ emits 5 Ori (0x34018000 ∷ 0x01214012 ∷ [])
+  pub immediate-lands : emitOutcome Release6 (line «jr» (descriptor 1 8 7 «jr») (register 8 ++ comma ++ register 9 ++ comma ++ integer 18)) ≡ emits 5 Unloaded (0x01280012 ∷ [])
+  pub load-immediate-lands : emitOutcome Release6 (line «jr» (descriptor 1 8 8 «jr») (register 8 ++ comma ++ integer 18)) ≡ emits 3 Unloaded (0x00080012 ∷ [])
+  pub offset-lands : emitOutcome Release6 (line «jr» (descriptor 0 0 13 «jr») (register 8 ++ comma ++ integer 18 ++ leftBrace ++ register 9 ++ rightBrace)) ≡ emits 6 Unloaded (0x01280012 ∷ [])
+  pub float-offset-lands : emitOutcome Release6 (line «jr» (descriptor 0 64 14 «jr») (fpRegister 8 ++ comma ++ integer 18 ++ leftBrace ++ register 9 ++ rightBrace)) ≡ emits 6 Unloaded (0x01280012 ∷ [])
+
 pub record MarkedTable : Type 0 where
   -- addu $t0,$t1,$t2 (Func 33)
   pub addu : emitOutcome Commit (line «addu» (descriptor 1 33 0 «addu») (register 8 ++ comma ++ register 9 ++ comma ++ register 10)) ≡ emits 5 Unloaded (0x012a4021 ∷ [])
@@ -125,8 +149,9 @@ pub record MarkedTable : Type 0 where
   pub j-next-page : buildOutcome Commit [] [] (region 0x0ffffffc 0x08000000) (patch 1 0x10000000) ≡ builds (region 0x0ffffffc 0x08000000)
   -- j (Op 2), pc 0ffffffc to 0ffffff8: refusal 16
   pub j-other-page : BuildRefuses Commit (region 0x0ffffffc 0x08000000) (patch 1 0x0ffffff8) 16 (pos 0x0ffffff8) 0x0ffffffc
-  -- and those of jobs by the manual
+  -- and those of jobs by the manual and for Release 6 boards
   pub manual : ManualRows
+  pub release-6 : Release6Rows
 
 pub marked : MarkedTable
 unfolding emitOutcome lineOutcome tableLine listStop layoutStop roomStop edgeStop meaning wordBytes pendingsBytes pcsBytes append pseudoIn pseudoLine encodingLine loadPairs labelPairs isImmediate immediatePairs breakpointOk filledLayout pendingBufferLayout breakpointBufferLayout dataBufferLayout fieldsOk descriptorOk descriptorLayout mnemonicOk oneMnemonic mnemonicLayout mnemonicName readOperand readOperands symbolLabel toLabel getLabel braced afterLabel getOffsetOrLabel getRegister getFPRegister getCc signed getInteger getConstant getValue passed peek step nextAdjacent peekAdjacent pendingOk addressLabelOk payloadOf payloadOk tokenOk tokenLayout tokens isSmall formOf loadWords firstNamed firstLater firstRepeat firstStop placesF placesFrom places firstBad firstBadOf withinLimit all sameBytes asBytes pcsFrom buildOutcome buildVerdict layoutVerdicts writePatches writePending pendingVerdict reachVerdict orderFrom keep inRange jumpInRange branchInRange fieldValue fieldWidth destination kindFrom pendingLayout entryLayout entryOk regionLayout regionRecords regionOk resolve labelLayout labelOk setField
@@ -160,5 +185,22 @@ marked = record {
     b-too-far = record { returned-is = refl; regions-stay = refl };
     b-back = refl;
     b-too-far-back = record { returned-is = refl; regions-stay = refl };
+  };
+  release-6 = record {
+    jr-ra = refl;
+    jr-by-72 = refl;
+    jr-by-manual = refl;
+    eight-elsewhere = refl;
+    mflo-dropped = record { returned-is = refl; counts-stay = refl; lent-stays = refl };
+    mflo-nowhere = record { returned-is = refl; counts-stay = refl; lent-stays = refl };
+    mult-third = record { returned-is = refl; counts-stay = refl; lent-stays = refl };
+    mult-two = refl;
+    code-first = record { returned-is = refl; counts-stay = refl; lent-stays = refl };
+    immediate-last = record { returned-is = refl; counts-stay = refl; lent-stays = refl };
+    alternative-used = refl;
+    immediate-lands = refl;
+    load-immediate-lands = refl;
+    offset-lands = refl;
+    float-offset-lands = refl;
   };
 }

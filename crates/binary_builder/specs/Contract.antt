@@ -1,4 +1,4 @@
--- What a build promises in either sort of job: its answer in document 01's numbers, every byte of the region list, and that the patches read back. Assumes nothing.
+-- What a build promises in each sort of job: its answer in document 01's numbers, every byte of the region list, and that the patches read back. Assumes nothing.
 use mathlib.Core.Path.{_≡_}
 use mathlib.Core.List.{List}
 use Prim.Native.Nat.{ℕ}

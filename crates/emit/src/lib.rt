@@ -96,6 +96,34 @@ pub fn do_manual_instruction(
     )
 }
 
+// The entry of a job for a Release 6 board, with the counts by value.
+pub fn do_release_6_instruction(
+    counts: FillCounts,
+    tokens: &[u8],
+    mnemonic: &[u8],
+    descriptors: &[u8],
+    data: &mut [u8],
+    pending: &mut [u8],
+    breakpoints: &mut [u8],
+    place: LinePlace,
+) -> Emitted
+    ensures { λ r. ⌜ EmittedBy Job.Release6 (callOf (now (tokens .entry)) (now (mnemonic .entry)) (now (descriptors .entry))
+        (lentOf (now («data» .entry)) (now (pending .entry)) (now (breakpoints .entry))) counts place)
+        (r .answer) (r .counts) (lentOf (now («data» .exit)) (now (pending .exit)) (now (breakpoints .exit))) ⌝ }
+{
+    emit_core::do_job(
+        Job::Release6,
+        counts,
+        tokens,
+        mnemonic,
+        descriptors,
+        data,
+        pending,
+        breakpoints,
+        place,
+    )
+}
+
 // The entry of a job, with the counts by value.
 pub fn do_job_line(
     job: Job,
@@ -124,6 +152,16 @@ pub fn do_job_line(
             place,
         ),
         Job::Manual => do_manual_instruction(
+            counts,
+            tokens,
+            mnemonic,
+            descriptors,
+            data,
+            pending,
+            breakpoints,
+            place,
+        ),
+        Job::Release6 => do_release_6_instruction(
             counts,
             tokens,
             mnemonic,

@@ -1,4 +1,4 @@
-// The checks of an emit call, over unchanged bytes: the lists (1, 2), and a line that was made (4 to 12, 19 and 20).
+// The checks of an emit call, over unchanged bytes: the lists (1, 2), and a line that was made (4 to 12, 19, 20 and 27).
 ghost use mathlib.Core.Path.{_≡_};
 ghost use Prim.Native.Nat.{_≤_};
 ghost use Rattle.emit_outcome.specs.Call.{lentOf};
@@ -119,7 +119,7 @@ fn miss_refusal(line: Location, miss: Miss) -> Refusal
     }
 }
 
-// Refusals 9, 19 and 20.
+// Refusals 9, 19, 20 and 27.
 fn fault_refusal(line: Location, fault: Fault) -> Refusal
     ensures { λ r. ⌜ r ≡ faultRefusal line fault ⌝ }
 {
@@ -127,6 +127,7 @@ fn fault_refusal(line: Location, fault: Fault) -> Refusal
         Fault::Immediate => Refusal::ConstantOutOfRange(line),
         Fault::ShiftAmount => Refusal::ShiftOutOfRange(line),
         Fault::ConditionCode => Refusal::CodeOutOfRange(line),
+        Fault::Dropped => Refusal::DroppedInstruction(line),
     }
 }
 
@@ -196,7 +197,7 @@ fn check_room(
     }
 }
 
-// Refusals 4 to 12, 19 and 20 of a line whose mnemonic stands at `line`.
+// Refusals 4 to 12, 19, 20 and 27 of a line whose mnemonic stands at `line`.
 pub fn check_line(
     tokens: &[u8],
     data: &[u8],

@@ -3,6 +3,7 @@
 use Prim.Native.Nat.{ℕ}
 use mathlib.Core.List.{List, []}
 use mathlib.Core.Bool.{Bool, true, false}
+use mathlib.Core.Option.{Option, none, some}
 use Rattle.registers.specs.Numbers.{registerNumber, fpRegisterNumber}
 use Rattle.instructions.specs.declared.Opcode.{Opcode}
 use Rattle.instructions.specs.declared.Opcode.the-variants.{Op, Func}
@@ -11,14 +12,15 @@ use Rattle.instructions.specs.declared.Encoding.the-variants.{Register, Registe
 use Rattle.pseudo_names.specs.declared.Pseudo.{Pseudo}
 use Rattle.pseudo_names.specs.declared.Pseudo.the-variants.{Nop, Abs, BranchCustom, SetCustom, Beqz, Bnez, Seq, Sne, Neg, Negu, Not, Li, La, Move, B, Subi, Subiu}
 use Rattle.jobs.specs.declared.Job.{Job}
-use Rattle.jobs.specs.Jobs.{formatOf, shiftWithin, codeWithin}
+use Rattle.jobs.specs.Jobs.{formatOf, shiftWithin, codeWithin, sourceOpcode, isDropped}
 use Rattle.lexer.specs.declared.Token.{Token}
 use Rattle.cursor.specs.Cursors.{At}
+use Rattle.operand.specs.declared.InstructionValue.{InstructionValue}
 use Rattle.operand.specs.Answers.{Answer, Got, Missed}
 use Rattle.operand_list.specs.OperandLists.{AskedAll, readOperands}
 use Rattle.emit_pairs.specs.declared.InstructionPair.{InstructionPair}
 use Rattle.emit_pairs.specs.declared.Fault.{Fault}
-use Rattle.emit_pairs.specs.declared.Fault.the-variants.{ShiftAmount, ConditionCode}
+use Rattle.emit_pairs.specs.declared.Fault.the-variants.{ShiftAmount, ConditionCode, Dropped}
 use Rattle.emit_pairs.specs.declared.Range.{Range}
 use Rattle.emit_pairs.specs.declared.Range.the-variants.{Within, Outside}
 use Rattle.loading.specs.declared.LoadForm.{LoadForm}
@@ -38,7 +40,7 @@ use Rattle.emit_dispatch.specs.declared.LineAnswer.the-variants.{Made, M
 abbrev pub encodingPairs : Job → (e : Encoding) → Opcode → AskedAll (encodingWants e) → List InstructionPair
 encodingPairs job Register op x = registerPairs op (x .0) (x .1) (x .2)
 encodingPairs job RegisterShift op x = registerShiftPairs op (x .0) (x .1) (x .2)
-encodingPairs job Source op x = sourcePairs op (x .0)
+encodingPairs job Source op x = sourcePairs (sourceOpcode job op) (x .0)
 encodingPairs job Destination op x = destinationPairs op (x .0)
 encodingPairs job Inputs op x = inputsPairs op (x .0) (x .1) (x .2)
 encodingPairs job Sham op x = shamPairs op (x .0) (x .1) (x .2)
@@ -78,34 +80,48 @@ pseudoPairs job B x = bPairs (x .0)
 pseudoPairs job Subi x = subiPairs (Op 8) (Func 32) (x .0) (x .1) (x .2)
 pseudoPairs job Subiu x = subiPairs (Op 9) (Func 33) (x .0) (x .1) (x .2)
 
--- ---- the ranges of operands: "9. An immediate without alternative lies outside -32,768 to 32,767"; document 02, P5: "19, a shift amount
--- outside 0 to 31; 20, a condition code outside 0 to 7 .. tested .. after the line's last operand is read". An encoding has one of them at most.
+-- ---- what a job takes: "9. An immediate without alternative lies outside -32,768 to 32,767"; document 02, P5: "19, a shift amount outside 0 to
+-- 31; 20, a condition code outside 0 to 7 .. tested .. after the line's last operand is read, before 9"; P9: "27 .. tested straight after 20"
 
 abbrev pub withinOr : Fault → Bool → Range
 withinOr fault b = elim b [ true ↦ Within | false ↦ Outside fault ]
 
-abbrev pub encodingRange : Job → (e : Encoding) → AskedAll (encodingWants e) → Range
-encodingRange job Register x = Within
-encodingRange job RegisterShift x = Within
-encodingRange job Source x = Within
-encodingRange job Destination x = Within
-encodingRange job Inputs x = Within
-encodingRange job Sham x = withinOr ShiftAmount (shiftWithin job (x .2))
-encodingRange job SpecialBranch x = Within
-encodingRange job (Immediate alt) x = immediateRange alt (x .2)
-encodingRange job LoadImmediate x = Within
-encodingRange job Jump x = Within
-encodingRange job Branch x = Within
-encodingRange job BranchZero x = Within
-encodingRange job Parameterless x = Within
-encodingRange job Offset x = Within
-encodingRange job FPOffset x = Within
-encodingRange job (FP3Register fmt) x = Within
-encodingRange job (FP2Register fmt) x = Within
-encodingRange job (FPMove fmt flag) x = withinOr ConditionCode (codeWithin job (x .2))
-encodingRange job (FPCond fmt) x = withinOr ConditionCode (codeWithin job (x .0))
-encodingRange job (FPCrossMove flag) x = Within
-encodingRange job (FPBranch flag) x = withinOr ConditionCode (codeWithin job (x .0))
+-- the first that lies outside decides
+abbrev pub rangeThen : Range → Range → Range
+rangeThen Within next = next
+rangeThen (Outside fault) next = Outside fault
+
+-- whether the optional operand of Inputs was read
+abbrev pub isGiven : Option InstructionValue → Bool
+isGiven none = false
+isGiven (some value) = true
+
+-- 27
+abbrev pub keptRange : Job → (third : Bool) → Opcode → Range
+keptRange job third op = elim (isDropped job third op) [ true ↦ Outside Dropped | false ↦ Within ]
+
+abbrev pub encodingRange : Job → (e : Encoding) → Opcode → AskedAll (encodingWants e) → Range
+encodingRange job Register op x = keptRange job false op
+encodingRange job RegisterShift op x = keptRange job false op
+encodingRange job Source op x = keptRange job false op
+encodingRange job Destination op x = keptRange job false op
+encodingRange job Inputs op x = keptRange job (isGiven (x .2)) op
+encodingRange job Sham op x = rangeThen (withinOr ShiftAmount (shiftWithin job (x .2))) (keptRange job false op)
+encodingRange job SpecialBranch op x = keptRange job false op
+encodingRange job (Immediate alt) op x = rangeThen (keptRange job false op) (immediateRange alt (x .2))
+encodingRange job LoadImmediate op x = keptRange job false op
+encodingRange job Jump op x = keptRange job false op
+encodingRange job Branch op x = keptRange job false op
+encodingRange job BranchZero op x = keptRange job false op
+encodingRange job Parameterless op x = keptRange job false op
+encodingRange job Offset op x = keptRange job false op
+encodingRange job FPOffset op x = keptRange job false op
+encodingRange job (FP3Register fmt) op x = keptRange job false op
+encodingRange job (FP2Register fmt) op x = keptRange job false op
+encodingRange job (FPMove fmt flag) op x = rangeThen (withinOr ConditionCode (codeWithin job (x .2))) (keptRange job false op)
+encodingRange job (FPCond fmt) op x = rangeThen (withinOr ConditionCode (codeWithin job (x .0))) (keptRange job false op)
+encodingRange job (FPCrossMove flag) op x = keptRange job false op
+encodingRange job (FPBranch flag) op x = rangeThen (withinOr ConditionCode (codeWithin job (x .0))) (keptRange job false op)
 
 -- ---- how the line's constant is loaded (document 02, P2: "All emitters that take a literal pass the report up, or none where nothing is
 -- loaded"): a line loads one constant at most
@@ -175,7 +191,7 @@ unfoldable pub encodingLine : Job → Encoding → Opcode → List Token → ℕ
 unfolding readOperands
 encodingLine job e op ts i =
     let read = readOperands (encodingWants e) ts i in
-    lineBy (read .answer) (read .index) (encodingRange job e) (encodingPairs job e op) (encodingForm e)
+    lineBy (read .answer) (read .index) (encodingRange job e op) (encodingPairs job e op) (encodingForm e)
 
 -- the line of a pseudo-instruction: each immediate that it takes has an alternative
 unfoldable pub pseudoLine : Job → Pseudo → List Token → ℕ → Line

@@ -3,11 +3,11 @@ ghost use mathlib.Core.Path.{_≡_};
 ghost use Rattle.lexer.specs.Tokens.{tokens};
 ghost use Rattle.cursor.specs.Reads.{Placed};
 ghost use Rattle.jobs.specs.Jobs.{shiftWithin, codeWithin};
-ghost use Rattle.operand.specs.Held.{constantIn, codeIn};
+ghost use Rattle.operand.specs.Held.{constantIn, codeIn, maybeValueIn};
 ghost use Rattle.operand_list.specs.HeldOperands.{heldAll};
 ghost use Rattle.emit_pairs.specs.Pairs.{EmitIs};
 ghost use Rattle.emit_dispatch.specs.Wants.{encodingWants, pseudoWants};
-ghost use Rattle.emit_dispatch.specs.Lines.{withinOr, encodingRange, encodingPairs, encodingForm, pseudoPairs, pseudoForm, rangeAnswer, encodingLine, pseudoLine};
+ghost use Rattle.emit_dispatch.specs.Lines.{withinOr, rangeThen, isGiven, keptRange, encodingRange, encodingPairs, encodingForm, pseudoPairs, pseudoForm, rangeAnswer, encodingLine, pseudoLine};
 ghost use Rattle.emit_dispatch.specs.Contract.{LineAs};
 use cursor::Cursor;
 use emit_float::MoveForm;
@@ -130,7 +130,9 @@ fn encoding_pairs(job: Job, encoding: Encoding, op: Opcode, operands: Operands) 
     match encoding {
         Encoding::Register => emit_integer::do_register_instruction(op, operands),
         Encoding::RegisterShift => emit_integer::do_register_shift_instruction(op, operands),
-        Encoding::Source => emit_integer::do_source_instruction(op, operands),
+        Encoding::Source => {
+            emit_integer::do_source_instruction(jobs::source_opcode(job, op), operands)
+        }
         Encoding::Destination => emit_integer::do_destination_instruction(op, operands),
         Encoding::Inputs => emit_integer::do_inputs_instruction(op, operands),
         Encoding::Sham => emit_integer::do_sham_instruction(op, operands),
@@ -197,34 +199,75 @@ fn code_range(job: Job, operand: Operand) -> Range
     within_or(Fault::ConditionCode, within)
 }
 
-// Whether the operands are within their ranges.
-fn encoding_range(job: Job, encoding: Encoding, operands: Operands) -> Range
-    ensures { λ r. ⌜ r ≡ encodingRange job encoding (heldAll (encodingWants encoding) operands) ⌝ }
+fn range_then(first: Range, next: Range) -> Range
+    ensures { λ r. ⌜ r ≡ rangeThen first next ⌝ }
+{
+    match first {
+        Range::Within => next,
+        Range::Outside(fault) => Range::Outside(fault),
+    }
+}
+
+// Whether the optional operand of Inputs was read.
+fn is_given(operand: Operand) -> bool
+    ensures { λ r. ⌜ r ≡ isGiven (maybeValueIn operand) ⌝ }
+{
+    match operand {
+        Operand::Register(_) => false,
+        Operand::FPRegister(_) => false,
+        Operand::Code(_) => false,
+        Operand::Value(_) => true,
+        Operand::Constant(_) => false,
+        Operand::Label(_) => false,
+        Operand::Offset(_, _) => false,
+        Operand::Absent => false,
+    }
+}
+
+fn kept_range(job: Job, third: bool, op: Opcode) -> Range
+    ensures { λ r. ⌜ r ≡ keptRange job third op ⌝ }
+{
+    if jobs::is_dropped(job, third, op) {
+        Range::Outside(Fault::Dropped)
+    } else {
+        Range::Within
+    }
+}
+
+// Whether the job takes the line: 19 and 20, then 27, then 9.
+fn encoding_range(job: Job, encoding: Encoding, op: Opcode, operands: Operands) -> Range
+    ensures { λ r. ⌜ r ≡ encodingRange job encoding op (heldAll (encodingWants encoding) operands) ⌝ }
 {
     let first = operands.first;
     let third = operands.third;
+    let kept = kept_range(job, false, op);
     match encoding {
-        Encoding::Register => Range::Within,
-        Encoding::RegisterShift => Range::Within,
-        Encoding::Source => Range::Within,
-        Encoding::Destination => Range::Within,
-        Encoding::Inputs => Range::Within,
-        Encoding::Sham => shift_range(job, third),
-        Encoding::SpecialBranch => Range::Within,
-        Encoding::Immediate(alt) => emit_pairs::immediate_range(alt, operand::constant_in(third)),
-        Encoding::LoadImmediate => Range::Within,
-        Encoding::Jump => Range::Within,
-        Encoding::Branch => Range::Within,
-        Encoding::BranchZero => Range::Within,
-        Encoding::Parameterless => Range::Within,
-        Encoding::Offset => Range::Within,
-        Encoding::FPOffset => Range::Within,
-        Encoding::FP3Register(_) => Range::Within,
-        Encoding::FP2Register(_) => Range::Within,
-        Encoding::FPMove { size: _, flag: _ } => code_range(job, third),
-        Encoding::FPCond(_) => code_range(job, first),
-        Encoding::FPCrossMove { flag: _ } => Range::Within,
-        Encoding::FPBranch { flag: _ } => code_range(job, first),
+        Encoding::Register => kept,
+        Encoding::RegisterShift => kept,
+        Encoding::Source => kept,
+        Encoding::Destination => kept,
+        Encoding::Inputs => kept_range(job, is_given(third), op),
+        Encoding::Sham => range_then(shift_range(job, third), kept),
+        Encoding::SpecialBranch => kept,
+        Encoding::Immediate(alt) => {
+            range_then(
+                kept,
+                emit_pairs::immediate_range(alt, operand::constant_in(third)),
+            )
+        }
+        Encoding::LoadImmediate => kept,
+        Encoding::Jump => kept,
+        Encoding::Branch => kept,
+        Encoding::BranchZero => kept,
+        Encoding::Parameterless => kept,
+        Encoding::Offset => kept,
+        Encoding::FPOffset => kept,
+        Encoding::FP3Register(_) => kept,
+        Encoding::FP2Register(_) => kept,
+        Encoding::FPMove { size: _, flag: _ } => range_then(code_range(job, third), kept),
+        Encoding::FPCond(_) => range_then(code_range(job, first), kept),
+        Encoding::FPCrossMove { flag: _ } => kept,
+        Encoding::FPBranch { flag: _ } => range_then(code_range(job, first), kept),
     }
 }
 
@@ -314,7 +357,7 @@ pub fn dispatch_encoding(
             cursor,
         },
         OperandsAnswer::Got(operands) => {
-            let answer = range_answer(encoding_range(job, encoding, operands));
+            let answer = range_answer(encoding_range(job, encoding, op, operands));
             let emit = encoding_pairs(job, encoding, op, operands);
             LineEmit {
                 answer,

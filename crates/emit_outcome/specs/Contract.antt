@@ -1,4 +1,4 @@
--- What an emit call promises in either sort of job, whether its counts go by value or are lent. Assumes nothing.
+-- What an emit call promises in each sort of job, whether its counts go by value or are lent. Assumes nothing.
 use mathlib.Core.Path.{_≡_}
 use Rattle.jobs.specs.declared.Job.{Job}
 use Rattle.jobs.specs.declared.Job.the-variants.{Commit}

@@ -6,7 +6,7 @@ use Rattle.jobs.specs.declared.Job.{Job}
 use Rattle.record.specs.declared.Location.{Location}
 use Rattle.record.specs.Stores.{append}
 use Rattle.refusal.specs.declared.Refusal.{Refusal}
-use Rattle.refusal.specs.declared.Refusal.the-variants.{UnknownInstruction, ConstantOutOfRange, ShiftOutOfRange, CodeOutOfRange}
+use Rattle.refusal.specs.declared.Refusal.the-variants.{UnknownInstruction, ConstantOutOfRange, ShiftOutOfRange, CodeOutOfRange, DroppedInstruction}
 use Rattle.refusal.specs.declared.Verdict.{Verdict}
 use Rattle.refusal.specs.declared.Verdict.the-variants.{Pass, Stop}
 use Rattle.lexer.specs.Tokens.{tokens}
@@ -17,7 +17,7 @@ use Rattle.emit_dispatch.specs.declared.LineAnswer.the-variants.{Made, Missed, 
 use Rattle.emit_dispatch.specs.Lines.{Line}
 use Rattle.emit_dispatch.specs.Lines.{pseudoLine}
 use Rattle.emit_pairs.specs.declared.Fault.{Fault}
-use Rattle.emit_pairs.specs.declared.Fault.the-variants.{Immediate, ShiftAmount, ConditionCode}
+use Rattle.emit_pairs.specs.declared.Fault.the-variants.{Immediate, ShiftAmount, ConditionCode, Dropped}
 use Rattle.emit_pairs.specs.declared.InstructionPair.{InstructionPair}
 use Rattle.emit_bytes.specs.Appended.{wordBytes}
 use Rattle.emit_outcome.specs.Dispatch.{meaning, tableLine}
@@ -54,13 +54,15 @@ accept token-list line numbers lent made =
       };
     }
 
--- ---- 4 to 12, 19 and 20: a line that was made, whose mnemonic stands at `line`
+-- ---- 4 to 12, 19, 20 and 27: a line that was made, whose mnemonic stands at `line`
 
--- 9; "19, a shift amount outside 0 to 31; 20, a condition code outside 0 to 7" (document 02, P5)
+-- 9; "19, a shift amount outside 0 to 31; 20, a condition code outside 0 to 7" (document 02, P5); "27, an Inputs line with a third operand or a
+-- Func 18 line" (P9)
 abbrev pub faultRefusal : Location → Fault → Refusal
 faultRefusal line Immediate = ConstantOutOfRange line
 faultRefusal line ShiftAmount = ShiftOutOfRange line
 faultRefusal line ConditionCode = CodeOutOfRange line
+faultRefusal line Dropped = DroppedInstruction line
 
 abbrev pub answerStop : (token-list : List ℕ) → Location → LineNumbers → Lent → List InstructionPair → LineAnswer → Verdict
 answerStop token-list line numbers lent pairs Made = roomStop token-list line numbers lent pairs

@@ -36,14 +36,15 @@ pub struct EmitInstruction {
     pub loaded: LoadForm,
 }
 
-// What an operand is that lies outside its range: refusals 9, 19 and 20.
+// What a line has outside what its job takes: refusals 9, 19, 20 and 27.
 pub enum Fault {
     Immediate,
     ShiftAmount,
     ConditionCode,
+    Dropped,
 }
 
-// Whether the operands of a line lie within their ranges.
+// Whether a line lies within what its job takes.
 pub enum Range {
     Within,
     Outside(Fault),

@@ -106,7 +106,7 @@ pub code-lt : (cc : ℕ) (flag : Bool) → codeBits cc flag < 256
 code-lt cc true = omega arith
 code-lt cc false = omega arith
 
--- abs's first word in either sort of job
+-- abs's first word by the manual and as the commit has it
 pub abs-commit : (rt : ℕ) → immediateLayout 0 0 rt 31 ≡ absFirstWord Commit rt
 abs-commit rt = omega arith
 

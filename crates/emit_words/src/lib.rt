@@ -236,19 +236,18 @@ pub fn abs_first_word(job: Job, source: RegisterSlot) -> u32
     ensures { λ r. ⌜ r ≡ absFirstWord job (registerNumber source) ⌝ }
 {
     let dest = RegisterSlot::AssemblerTemporary;
-    match job {
-        Job::Commit => InstructionBuilder::from_op(Opcode::Func(3))
+    if jobs::by_manual(job) {
+        let fields = ShamFields {
+            dest,
+            temp: source,
+            sham: 31,
+        };
+        sham_word(Opcode::Func(3), fields)
+    } else {
+        InstructionBuilder::from_op(Opcode::Func(3))
             .with_dest(dest)
             .with_temp(source)
             .with_immediate(31)
-            .finish(),
-        Job::Manual => sham_word(
-            Opcode::Func(3),
-            ShamFields {
-                dest,
-                temp: source,
-                sham: 31,
-            },
-        ),
+            .finish()
     }
 }

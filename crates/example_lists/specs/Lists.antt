@@ -58,6 +58,18 @@ cvtSW = 99 ∷ 118 ∷ 116 ∷ 46 ∷ 115 ∷ 46 ∷ 119 ∷ []
 abbrev pub «bc1t» : List ℕ
 «bc1t» = 98 ∷ 99 ∷ 49 ∷ 116 ∷ []
 
+abbrev pub «jr» : List ℕ
+«jr» = 106 ∷ 114 ∷ []
+
+abbrev pub «mflo» : List ℕ
+«mflo» = 109 ∷ 102 ∷ 108 ∷ 111 ∷ []
+
+abbrev pub «mult» : List ℕ
+«mult» = 109 ∷ 117 ∷ 108 ∷ 116 ∷ []
+
+abbrev pub «addi» : List ℕ
+«addi» = 97 ∷ 100 ∷ 100 ∷ 105 ∷ []
+
 abbrev pub mnemonic : List ℕ → List ℕ
 mnemonic name = recordBytes 32 (here ++ name)
 
@@ -68,6 +80,10 @@ floatDescriptor class key encoding size flag name = recordBytes 33 (class ∷ ke
 -- class, key and encoding; the other fields are 0
 abbrev pub descriptor : (class key encoding : ℕ) → List ℕ → List ℕ
 descriptor class key encoding name = floatDescriptor class key encoding 0 0 name
+
+-- class and key of an opcode under Immediate, and of its alternative
+abbrev pub eitherDescriptor : (class key altClass altKey : ℕ) → List ℕ → List ℕ
+eitherDescriptor class key altClass altKey name = recordBytes 33 (class ∷ key ∷ 7 ∷ 0 ∷ 0 ∷ 1 ∷ altClass ∷ altKey ∷ name)
 
 abbrev pub zeros : ℕ → List ℕ
 zeros zero = []

@@ -11,7 +11,7 @@ use Rattle.registers.specs.declared.RegisterSlot.the-variants.{AssemblerTempora
 use Rattle.instructions.specs.declared.Opcode.{Opcode}
 use Rattle.jobs.specs.declared.Job.{Job}
 use Rattle.jobs.specs.declared.Format.{Format as Fmt}
-use Rattle.jobs.specs.Jobs.{sizeCode, formatOf}
+use Rattle.jobs.specs.Jobs.{sizeCode, formatOf, sourceOpcode}
 use Rattle.instructions.specs.declared.Alternative.{Alternative}
 use Rattle.instructions.specs.declared.Alternative.the-variants.{Nothing, Some}
 use Rattle.instructions.specs.declared.Encoding.{Encoding}
@@ -100,8 +100,8 @@ abbrev pub encodingFormats : Job → (e : Encoding) → Opcode → AskedAll (enc
 encodingFormats job Register op x = inRegister op (number (x .1)) (valueIn (x .2)) (number (x .0)) 0 ∷ []
 -- SLLV rd, rt, rs
 encodingFormats job RegisterShift op x = inRegister op (number (x .2)) (number (x .1)) (number (x .0)) 0 ∷ []
--- JR rs
-encodingFormats job Source op x = inRegister op (number (x .0)) (baseFields op .rt) 0 0 ∷ []
+-- JR rs; Release 6 has it as JALR with rd 0
+encodingFormats job Source op x = inRegister (sourceOpcode job op) (number (x .0)) (baseFields (sourceOpcode job op) .rt) 0 0 ∷ []
 -- MFHI rd
 encodingFormats job Destination op x = inRegister op (baseFields op .rs) (baseFields op .rt) (number (x .0)) 0 ∷ []
 -- MULT rs, rt

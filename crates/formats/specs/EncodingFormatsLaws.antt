@@ -7,7 +7,7 @@ use mathlib.Core.Option.{Option, none, some}
 use native.Mathlib.Omega.{arith}
 use lib.Dec.{lit<}
 use Rattle.jobs.specs.declared.Job.{Job}
-use Rattle.jobs.specs.Jobs.{formatOf}
+use Rattle.jobs.specs.Jobs.{formatOf, sourceOpcode}
 use Rattle.registers.specs.Numbers.{registerNumber as number, fpRegisterNumber as fpNumber}
 use Rattle.registers.specs.NumberLaws.{register-lt, fp-register-lt}
 use Rattle.registers.specs.declared.RegisterSlot.{RegisterSlot}
@@ -31,7 +31,8 @@ use Rattle.emit_pairs.specs.Pairs.{plain, waiting, loadPairs, labelPairs, isImm
 use Rattle.emit_pairs.specs.Values.{constantPairs}
 use Rattle.emit_integer.specs.IntegerWords.{inputsPairs, offsetLinePairs}
 use Rattle.emit_dispatch.specs.Wants.{encodingWants}
-use Rattle.emit_dispatch.specs.Lines.{encodingRange, encodingPairs}
+use Rattle.emit_dispatch.specs.LinesLaws.{then-within}
+use Rattle.emit_dispatch.specs.Lines.{keptRange, encodingRange, encodingPairs}
 use Rattle.formats.specs.Formats.{Has, InFormats, first, register}
 use Rattle.formats.specs.FormatsLaws.{base-register, base-jump, source-register, source-branch, destination-register, inputs-register, inputs-branch, register-register, immediate-immediate, load-immediate, sham-register, three-float, two-float, cross-float, move-float, cond-float, branch-float}
 use Rattle.formats.specs.Operations.{wordsOf}
@@ -100,18 +101,19 @@ module _ (op : Opcode) where
 
 -- ---- all encodings
 
-pub encoding-words : (job : Job) (e : Encoding) (op : Opcode) (x : AskedAll (encodingWants e)) → encodingRange job e x ≡ Within
+pub encoding-words : (job : Job) (e : Encoding) (op : Opcode) (x : AskedAll (encodingWants e)) → encodingRange job e op x ≡ Within
     → LoadThen (encodingLoads e x) (encodingFormats job e op x) (wordsOf (encodingPairs job e op x))
 encoding-words job Register op x h =
     value-then (x .2) (λ n. inRegister op (number (x .1)) n (number (x .0)) 0 ∷ []) (λ n. plain (registerWord op (number (x .0)) (number (x .1)) n) ∷ [])
     (λ n k. one (register-register op (number (x .1)) n (register-lt (x .1)) k (number (x .0)) (register-lt (x .0))))
 encoding-words job RegisterShift op x h = alone (one (register-register op (number (x .2)) (number (x .1)) (register-lt (x .2)) (register-lt (x .1)) (number (x .0)) (register-lt (x .0))))
-encoding-words job Source op x h = alone (one (source-register op (number (x .0)) (register-lt (x .0))))
+encoding-words job Source op x h = alone (one (source-register (sourceOpcode job op) (number (x .0)) (register-lt (x .0))))
 encoding-words job Destination op x h = alone (one (destination-register op (number (x .0)) (register-lt (x .0))))
 encoding-words job Inputs op x h = inputs-words op (x .0) (x .1) (x .2)
 encoding-words job Sham op x h = alone (one (sham-register op (number (x .0)) (number (x .1)) (x .2) (register-lt (x .0)) (register-lt (x .1))))
 encoding-words job SpecialBranch op x h = alone (one (source-branch op (number (x .0)) (register-lt (x .0))))
-encoding-words job (Immediate alt) op x h = immediate-words op (number (x .0)) (number (x .1)) (x .2) (register-lt (x .0)) (register-lt (x .1)) alt h
+encoding-words job (Immediate alt) op x h =
+    immediate-words op (number (x .0)) (number (x .1)) (x .2) (register-lt (x .0)) (register-lt (x .1)) alt (then-within (keptRange job false op) (immediateRange alt (x .2)) h .1)
 encoding-words job LoadImmediate op x h = alone (one (load-immediate op (number (x .0)) (x .1 % 65536) (register-lt (x .0)) (omega arith)))
 encoding-words job Jump op x h = alone (one (base-jump op))
 encoding-words job Branch op x h =

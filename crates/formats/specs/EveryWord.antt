@@ -45,7 +45,7 @@ pub every-word : (job : Job) (o : Operation) (ts : List Token) (i : ℕ) → lin
 unfolding encodingLine pseudoLine
 every-word job (encoded e op) ts i h =
     let read = readOperands (encodingWants e) ts i in
-    made-words job (encoded e op) (read .index) (encodingRange job e) (encodingPairs job e op) (encodingForm e) (encoding-words job e op) (read .answer) h
+    made-words job (encoded e op) (read .index) (encodingRange job e op) (encodingPairs job e op) (encodingForm e) (encoding-words job e op) (read .answer) h
 every-word job (pseudo p) ts i h =
     let read = readOperands (pseudoWants p) ts i in
     made-words job (pseudo p) (read .index) (λ x. Within) (pseudoPairs job p) (pseudoForm p) (λ x w. pseudo-words job p x) (read .answer) h

@@ -4,7 +4,7 @@ use Prim.Native.Nat.{ℕ}
 use mathlib.Core.Bool.{Bool, true, false}
 use mathlib.Core.List.{List, [], _∷_, _++_}
 use Rattle.jobs.specs.declared.Job.{Job}
-use Rattle.jobs.specs.declared.Job.the-variants.{Commit, Manual}
+use Rattle.jobs.specs.Jobs.{byManual}
 use Rattle.registers.specs.Numbers.{registerNumber as number}
 use Rattle.instructions.specs.declared.Opcode.the-variants.{Op, Func}
 use Rattle.instructions.specs.declared.Alternative.the-variants.{Some}
@@ -43,8 +43,7 @@ addressFormats rt (Label name) = nameFormats rt
 
 -- SRA $at, rt, 31; the commit's lost rd, sa and function to 31 (a difference)
 abbrev pub absFormat : Job → (rt : ℕ) → Format
-absFormat Commit rt = immediate 0 0 rt 31
-absFormat Manual rt = register 0 0 rt $at 31 3
+absFormat job rt = elim (byManual job) [ true ↦ register 0 0 rt $at 31 3 | false ↦ immediate 0 0 rt 31 ]
 
 -- ---- all pseudo-instructions: x .0, x .1 and x .2 are the operands, left to right
 

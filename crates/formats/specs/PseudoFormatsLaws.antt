@@ -6,7 +6,7 @@ use mathlib.Core.List.{List, [], _∷_, _++_, append-assoc}
 use lib.Dec.{lit<}
 use Rattle.jobs.specs.declared.Job.{Job}
 use Rattle.jobs.specs.declared.Job.the-variants.{Commit, Manual}
-use Rattle.jobs.specs.Jobs.{absFirstWord}
+use Rattle.jobs.specs.Jobs.{byManual, absFirstWord}
 use Rattle.registers.specs.Numbers.{registerNumber as number}
 use Rattle.registers.specs.NumberLaws.{register-lt}
 use Rattle.registers.specs.declared.RegisterSlot.{RegisterSlot}
@@ -70,10 +70,13 @@ unfolding labelPairs
 label-words r (Constant c) = loaded-alone c r
 label-words r (Label name) = alone (named r no-words)
 
--- abs's first word in either sort of job
+-- abs's first word, by the manual or as the commit has it
 abs-has : (job : Job) (rt : ℕ) → rt < 32 → Has (absFirstWord job rt) (absFormat job rt)
-abs-has Commit rt h = subst (λ (w : ℕ). Has w (immediate 0 0 rt 31)) (abs-commit rt) (has-immediate 0 0 rt 31 (lit< tt) (lit< tt) h (lit< tt))
-abs-has Manual rt h = subst (λ (w : ℕ). Has w (register 0 0 rt $at 31 3)) (abs-manual rt) (sham-register (Func 3) $at rt 31 (lit< tt) h)
+abs-has job rt h = go (byManual job)
+  where
+    go : (b : Bool) → Has (elim b [ true ↦ absFirstWord Manual rt | false ↦ absFirstWord Commit rt ]) (elim b [ true ↦ absFormat Manual rt | false ↦ absFormat Commit rt ])
+    go true = subst (λ (w : ℕ). Has w (register 0 0 rt $at 31 3)) (abs-manual rt) (sham-register (Func 3) $at rt 31 (lit< tt) h)
+    go false = subst (λ (w : ℕ). Has w (immediate 0 0 rt 31)) (abs-commit rt) (has-immediate 0 0 rt 31 (lit< tt) (lit< tt) h (lit< tt))
 
 pub pseudo-words : (job : Job) (p : Pseudo) (x : AskedAll (pseudoWants p)) → LoadThen (pseudoLoads p x) (pseudoFormats job p x) (wordsOf (pseudoPairs job p x))
 pseudo-words job Nop x = alone (one (base-register (Func 0)))

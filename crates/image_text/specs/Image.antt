@@ -1,4 +1,4 @@
--- What `finish` prints (document 01, `finish`), in either sort of job (document 02, P5). Assumes nothing.
+-- What `finish` prints (document 01, `finish`), in each sort of job (document 02, P5). Assumes nothing.
 use Prim.Native.Nat.{ℕ, _+_}
 use mathlib.Core.List.{List, [], _∷_, _++_}
 use Rattle.io.specs.Digits.{digits}

@@ -1,19 +1,26 @@
 -- Laws of what a job changes. Assumes nothing.
 use Prim.Native.Nat.{_≤_, _<_}
 use native.Mathlib.Omega.{arith}
+use mathlib.Core.Bool.{Bool, true, false}
 use lib.Dec.{lit<}
 use Rattle.instructions.specs.declared.Size.{Size}
 use Rattle.instructions.specs.declared.Size.the-variants.{Single, Double, Word}
 use Rattle.jobs.specs.declared.Job.{Job}
-use Rattle.jobs.specs.declared.Job.the-variants.{Commit, Manual}
 use Rattle.jobs.specs.declared.Format.{Format}
-use Rattle.jobs.specs.Jobs.{codeOf, sizeCode, mostBack, mostAhead}
+use Rattle.jobs.specs.Jobs.{byManual, codeOf, sizeCode, mostBack, mostAhead}
+
+-- what is so of the manual's and of the commit's value is so of each job's
+pub by-either : {A : Type 0} (P : A → Type 0) {manual commit : A} → P manual → P commit → (job : Job) → P (elim (byManual job) [ true ↦ manual | false ↦ commit ])
+by-either P {manual} {commit} m c job = go (byManual job)
+  where
+    go : (b : Bool) → P (elim b [ true ↦ manual | false ↦ commit ])
+    go true = m
+    go false = c
 
 code-lt : (job : Job) (size : Size) → codeOf job size < 32
 code-lt job Single = lit< tt
 code-lt job Double = lit< tt
-code-lt Commit Word = lit< tt
-code-lt Manual Word = lit< tt
+code-lt job Word = by-either (λ n. n < 32) (lit< tt) (lit< tt) job
 
 -- a float format's code fits a field of five bits
 pub size-lt : (fmt : Format) → sizeCode fmt < 32
@@ -21,9 +28,7 @@ size-lt fmt = code-lt (fmt .job) (fmt .size)
 
 -- no branch reaches farther than 17 signed bits
 pub back-le : (job : Job) → mostBack job ≤ 0x10000
-back-le Commit = omega arith
-back-le Manual = omega arith
+back-le = by-either (λ n. n ≤ 0x10000) (omega arith) (omega arith)
 
 pub ahead-le : (job : Job) → mostAhead job ≤ 0xFFFF
-ahead-le Commit = omega arith
-ahead-le Manual = omega arith
+ahead-le = by-either (λ n. n ≤ 0xFFFF) (omega arith) (omega arith)

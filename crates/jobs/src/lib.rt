@@ -1,18 +1,40 @@
-// The sorts of job, and what a sort changes (document 02, P5).
+// The sorts of job, and what a sort changes (document 02, P5 and P9).
 ghost use mathlib.Core.Path.{_≡_};
-ghost use Rattle.jobs.specs.Jobs.{sizeCode, mostBack, mostAhead, shiftWithin, codeWithin};
+ghost use Rattle.jobs.specs.Jobs.{byManual, isRelease6, sizeCode, mostBack, mostAhead, shiftWithin, codeWithin, isFunction, sourceOpcode, isDropped};
+use instructions::Opcode;
 use instructions::Size;
 
-// As the commit has it, or by the manual.
+// As the commit has it, by the manual, or by the manual for Release 6 boards.
 pub enum Job {
     Commit,
     Manual,
+    Release6,
 }
 
 // A float format in a job.
 pub struct Format {
     pub job: Job,
     pub size: Size,
+}
+
+pub fn by_manual(job: Job) -> bool
+    ensures { λ r. ⌜ r ≡ byManual job ⌝ }
+{
+    match job {
+        Job::Commit => false,
+        Job::Manual => true,
+        Job::Release6 => true,
+    }
+}
+
+fn is_release_6(job: Job) -> bool
+    ensures { λ r. ⌜ r ≡ isRelease6 job ⌝ }
+{
+    match job {
+        Job::Commit => false,
+        Job::Manual => false,
+        Job::Release6 => true,
+    }
 }
 
 // The code of a float format, as the field fmt holds it.
@@ -24,10 +46,7 @@ pub fn size_code(fmt: Format) -> u32
     match size {
         Size::Single => 16,
         Size::Double => 17,
-        Size::Word => match job {
-            Job::Commit => 18,
-            Job::Manual => 20,
-        },
+        Size::Word => { if by_manual(job) { 20 } else { 18 } }
     }
 }
 
@@ -35,38 +54,62 @@ pub fn size_code(fmt: Format) -> u32
 pub fn most_back(job: Job) -> u32
     ensures { λ r. ⌜ r ≡ mostBack job ⌝ }
 {
-    match job {
-        Job::Commit => 0x1_0000,
-        Job::Manual => 32768,
-    }
+    if by_manual(job) { 32768 } else { 0x1_0000 }
 }
 
 // How many words a branch reaches ahead.
 pub fn most_ahead(job: Job) -> u32
     ensures { λ r. ⌜ r ≡ mostAhead job ⌝ }
 {
-    match job {
-        Job::Commit => 0xFFFF,
-        Job::Manual => 32767,
-    }
+    if by_manual(job) { 32767 } else { 0xFFFF }
 }
 
 // Whether a job takes a shift amount.
 pub fn shift_within(job: Job, amount: u64) -> bool
     ensures { λ r. ⌜ r ≡ shiftWithin job amount ⌝ }
 {
-    match job {
-        Job::Commit => true,
-        Job::Manual => amount <= 31,
-    }
+    if by_manual(job) { amount <= 31 } else { true }
 }
 
 // Whether a job takes a condition code.
 pub fn code_within(job: Job, code: u64) -> bool
     ensures { λ r. ⌜ r ≡ codeWithin job code ⌝ }
 {
-    match job {
-        Job::Commit => true,
-        Job::Manual => code <= 7,
+    if by_manual(job) { code <= 7 } else { true }
+}
+
+fn is_function(function: u8, op: Opcode) -> bool
+    ensures { λ r. ⌜ r ≡ isFunction function op ⌝ }
+{
+    match op {
+        Opcode::Func(key) => key % 64 == function,
+        Opcode::Op(_) => false,
+        Opcode::Special(_) => false,
+        Opcode::Algebra(_) => false,
+        Opcode::Cop1(_) => false,
+        Opcode::Cop1I(_) => false,
+    }
+}
+
+// The opcode of a word under the encoding Source: Release 6 has jr with function 9.
+pub fn source_opcode(job: Job, op: Opcode) -> Opcode
+    ensures { λ r. ⌜ r ≡ sourceOpcode job op ⌝ }
+{
+    if is_release_6(job) {
+        if is_function(8, op) {
+            return Opcode::Func(9);
+        }
+    }
+    op
+}
+
+// Whether a job drops a line: `third` is whether it has the third operand of Inputs.
+pub fn is_dropped(job: Job, third: bool, op: Opcode) -> bool
+    ensures { λ r. ⌜ r ≡ isDropped job third op ⌝ }
+{
+    if is_release_6(job) {
+        if third { true } else { is_function(18, op) }
+    } else {
+        false
     }
 }

@@ -4,7 +4,7 @@ use Prim.Native.Nat.{ℕ}
 use mathlib.Core.List.{List, [], _∷_, _++_}
 use lib.ListN.{getD}
 use Rattle.jobs.specs.declared.Job.{Job}
-use Rattle.jobs.specs.declared.Job.the-variants.{Commit, Manual}
+use Rattle.jobs.specs.declared.Job.the-variants.{Commit, Manual, Release6}
 use Rattle.record.specs.Bytes.{byteAt}
 use Rattle.pseudo_names.specs.PseudoNames.{bytesOf}
 use Rattle.refusal.specs.Numbers.{numbered}
@@ -79,10 +79,10 @@ callText job s lent =
 unfoldable pub jobText : Job → List ℕ → List ℕ
 jobText job s = callText job s (lentOf (held (listOf 3 s)) (held (listOf 4 s)) (held (listOf 5 s)))
 
--- ---- the job of an input (document 02, P5)
+-- ---- the job of an input (document 02, P5 and P9)
 -- the jobs in the order of their bytes
 abbrev pub jobNumbered : ℕ → JobAsked
-jobNumbered n = getD (Of Commit ∷ Of Manual ∷ []) n NoSuch
+jobNumbered n = getD (Of Commit ∷ Of Manual ∷ Of Release6 ∷ []) n NoSuch
 
 -- the byte behind the address, 0 where it is missing
 abbrev pub jobIn : List ℕ → JobAsked

@@ -114,6 +114,7 @@ fn job_in(input: &[u8]) -> JobAsked
     match input::byte_or_zero(input::behind_lists(input, 6), 22) {
         0 => JobAsked::Of(Job::Commit),
         1 => JobAsked::Of(Job::Manual),
+        2 => JobAsked::Of(Job::Release6),
         _ => JobAsked::NoSuch,
     }
 }

@@ -10,6 +10,7 @@ use Rattle.registers.specs.declared.RegisterSlot.{RegisterSlot}
 use Rattle.registers.specs.Numbers.{registerNumber}
 use Rattle.instructions.specs.declared.Alternative.{Alternative}
 use Rattle.instructions.specs.declared.Alternative.the-variants.{Nothing, Some}
+use Rattle.instructions.specs.declared.Opcode.{Opcode}
 use Rattle.instructions.specs.declared.Encoding.{Encoding}
 use Rattle.instructions.specs.declared.Encoding.the-variants.{Register, RegisterShift, Source, Destination, Inputs, Sham, SpecialBranch, Immediate, LoadImmediate, Jump, Branch, BranchZero, Parameterless, Offset, FPOffset, FP3Register, FP2Register, FPMove, FPCond, FPCrossMove, FPBranch}
 use Rattle.pseudo_names.specs.declared.Pseudo.{Pseudo}
@@ -36,8 +37,8 @@ use Rattle.emit_pairs.specs.Pairs.{labelForm, isImmediate, immediateRange, imme
 use Rattle.emit_pairs.specs.Values.{valueForm, maybeForm, offsetForm}
 use Rattle.emit_dispatch.specs.declared.LineAnswer.the-variants.{Made}
 use Rattle.emit_dispatch.specs.Wants.{encodingWants, pseudoWants}
-use Rattle.emit_dispatch.specs.LinesLaws.{within-made}
-use Rattle.emit_dispatch.specs.Lines.{encodingRange, encodingPairs, encodingForm, pseudoPairs, pseudoForm, lineBy, encodingLine, pseudoLine}
+use Rattle.emit_dispatch.specs.LinesLaws.{within-made, then-within}
+use Rattle.emit_dispatch.specs.Lines.{keptRange, encodingRange, encodingPairs, encodingForm, pseudoPairs, pseudoForm, lineBy, encodingLine, pseudoLine}
 use Rattle.formats.specs.Formats.{Format}
 use Rattle.formats.specs.LineLoads.{LoadedConstant, intoAt, valueLoads, maybeLoads, immediateLoads, labelLoads, offsetLoads, encodingLoads, pseudoLoads}
 use Rattle.formats.specs.Operations.{Operation, encoded, pseudo, wantsOf, lineOf}
@@ -79,28 +80,28 @@ immediate-form Nothing c h = go (isImmediate c) h
 
 -- ---- by line
 
-encoding-form : (job : Job) (e : Encoding) (x : AskedAll (encodingWants e)) → encodingRange job e x ≡ Within → encodingForm e x ≡ formFrom (encodingLoads e x)
-encoding-form job Register x h = value-form (x .2)
-encoding-form job RegisterShift x h = refl
-encoding-form job Source x h = refl
-encoding-form job Destination x h = refl
-encoding-form job Inputs x h = maybe-form (x .2)
-encoding-form job Sham x h = refl
-encoding-form job SpecialBranch x h = refl
-encoding-form job (Immediate alt) x h = immediate-form alt (x .2) h
-encoding-form job LoadImmediate x h = refl
-encoding-form job Jump x h = refl
-encoding-form job Branch x h = value-form (x .1)
-encoding-form job BranchZero x h = refl
-encoding-form job Parameterless x h = refl
-encoding-form job Offset x h = offset-form (x .1)
-encoding-form job FPOffset x h = offset-form (x .1)
-encoding-form job (FP3Register fmt) x h = refl
-encoding-form job (FP2Register fmt) x h = refl
-encoding-form job (FPMove fmt flag) x h = refl
-encoding-form job (FPCond fmt) x h = refl
-encoding-form job (FPCrossMove flag) x h = refl
-encoding-form job (FPBranch flag) x h = refl
+encoding-form : (job : Job) (e : Encoding) (op : Opcode) (x : AskedAll (encodingWants e)) → encodingRange job e op x ≡ Within → encodingForm e x ≡ formFrom (encodingLoads e x)
+encoding-form job Register op x h = value-form (x .2)
+encoding-form job RegisterShift op x h = refl
+encoding-form job Source op x h = refl
+encoding-form job Destination op x h = refl
+encoding-form job Inputs op x h = maybe-form (x .2)
+encoding-form job Sham op x h = refl
+encoding-form job SpecialBranch op x h = refl
+encoding-form job (Immediate alt) op x h = immediate-form alt (x .2) (then-within (keptRange job false op) (immediateRange alt (x .2)) h .1)
+encoding-form job LoadImmediate op x h = refl
+encoding-form job Jump op x h = refl
+encoding-form job Branch op x h = value-form (x .1)
+encoding-form job BranchZero op x h = refl
+encoding-form job Parameterless op x h = refl
+encoding-form job Offset op x h = offset-form (x .1)
+encoding-form job FPOffset op x h = offset-form (x .1)
+encoding-form job (FP3Register fmt) op x h = refl
+encoding-form job (FP2Register fmt) op x h = refl
+encoding-form job (FPMove fmt flag) op x h = refl
+encoding-form job (FPCond fmt) op x h = refl
+encoding-form job (FPCrossMove flag) op x h = refl
+encoding-form job (FPBranch flag) op x h = refl
 
 pseudo-form : (p : Pseudo) (x : AskedAll (pseudoWants p)) → pseudoForm p x ≡ formFrom (pseudoLoads p x)
 pseudo-form Nop x = refl
@@ -131,7 +132,7 @@ pub line-form : (job : Job) (o : Operation) (ts : List Token) (i : ℕ) → line
 unfolding encodingLine pseudoLine
 line-form job (encoded e op) ts i h =
     let read = readOperands (encodingWants e) ts i in
-    made-form (encoded e op) (read .index) (encodingRange job e) (encodingPairs job e op) (encodingForm e) (encoding-form job e) (read .answer) h
+    made-form (encoded e op) (read .index) (encodingRange job e op) (encodingPairs job e op) (encodingForm e) (encoding-form job e op) (read .answer) h
 line-form job (pseudo p) ts i h =
     let read = readOperands (pseudoWants p) ts i in
     made-form (pseudo p) (read .index) (λ x. Within) (pseudoPairs job p) (pseudoForm p) (λ x w. pseudo-form p x) (read .answer) h

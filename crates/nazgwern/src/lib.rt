@@ -244,6 +244,50 @@ pub extern "C" fn nazgwern_do_manual_instruction(
     )
 }
 
+// The same in a job for a Release 6 board.
+#[no_mangle]
+pub extern "C" fn nazgwern_do_release_6_instruction(
+    tokens: &[u8],
+    mnemonic: &[u8],
+    descriptors: &[u8],
+    data: &mut [u8],
+    pending: &mut [u8],
+    breakpoints: &mut [u8],
+    counts: &mut [u8],
+    position: u32,
+    region: u16,
+    address: u32,
+    answer: &mut [u8],
+) -> u32
+    ensures { λ r. ⌜ linkedLineBy Job.Release6 (now (tokens .entry)) (now (mnemonic .entry)) (now (descriptors .entry))
+        (lentOf (now («data» .entry)) (now (pending .entry)) (now (breakpoints .entry))) (now (counts .entry))
+        (record { position = position; region = region; address = address }) (now (answer .entry))
+        ≡ (record {
+          result = r;
+          lent = lentOf (now («data» .exit)) (now (pending .exit)) (now (breakpoints .exit));
+          counts = now (counts .exit);
+          answer = now (answer .exit);
+        }) ⌝ }
+{
+    let place = LinePlace {
+        position,
+        region,
+        address,
+    };
+    link_line(
+        Job::Release6,
+        tokens,
+        mnemonic,
+        descriptors,
+        data,
+        pending,
+        breakpoints,
+        counts,
+        place,
+        answer,
+    )
+}
+
 fn store_form_counts(counts: &mut [u8], counted: FormCounts)
     requires { ⌜ formCountBytes ≤ length (now counts) ⌝ }
     ensures { λ _. ⌜ now (counts .exit) ≡ append (now (counts .entry)) 0 (formCounts counted) ⌝ }

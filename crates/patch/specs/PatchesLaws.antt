@@ -4,11 +4,11 @@ use Prim.Native.Nat.{ℕ, _+_, _-_, _*_, _/_, _%_, _^_, _<_, _≤_}
 use native.Mathlib.Omega.{arith}
 use mathlib.Core.List.{List}
 use mathlib.Core.Bool.{Bool, true, false, and-eq-true-iff}
-use mathlib.Core.Path.{_≡_, refl, sym, ap, _∙_}
+use mathlib.Core.Path.{_≡_, refl, sym, ap, subst, _∙_}
 use lib.Dec.{leb}
 use borrow.Author.Tests.{eqb-true, leb-true, leb-false, le-leb, lt-leb}
 use Rattle.jobs.specs.declared.Job.{Job}
-use Rattle.jobs.specs.declared.Job.the-variants.{Manual}
+use Rattle.jobs.specs.Jobs.{byManual, mostBack, mostAhead}
 use Rattle.field.specs.Field.{getField, setField}
 use Rattle.field.specs.FieldLaws.{get-set-same}
 use Rattle.record.specs.Bytes.{part}
@@ -68,12 +68,16 @@ pub jump-page : (job : Job) (pc dest : ℕ) → inRange job Jump pc dest ≡ tru
 unfolding inRange jumpInRange
 jump-page job pc dest e = eqb-true (dest / 2 ^ 28) (after pc / 2 ^ 28) e
 
--- a branch that a manual job takes is within 16 signed bits
-pub manual-near : (pc dest : ℕ) → inRange Manual Branch pc dest ≡ true → (after pc / 4 ≤ dest / 4 + 32768) × (dest / 4 ≤ after pc / 4 + 32767)
+-- a branch that a job by the manual takes is within 16 signed bits
+pub manual-near : (job : Job) → byManual job ≡ true → (pc dest : ℕ) → inRange job Branch pc dest ≡ true → (after pc / 4 ≤ dest / 4 + 32768) × (dest / 4 ≤ after pc / 4 + 32767)
 unfolding inRange branchInRange
-manual-near pc dest e =
-    let b = and-eq-true-iff (leb (after pc / 4) (dest / 4 + 32768)) (leb (dest / 4) (after pc / 4 + 32767)) .0 e in
-    (leb-true (after pc / 4) (dest / 4 + 32768) (b .0), leb-true (dest / 4) (after pc / 4 + 32767) (b .1))
+manual-near job m pc dest e =
+    let b = and-eq-true-iff (leb (after pc / 4) (dest / 4 + mostBack job)) (leb (dest / 4) (after pc / 4 + mostAhead job)) .0 e in
+    let back : mostBack job ≡ 32768 = ap (λ (x : Bool). elim x [ true ↦ 32768 | false ↦ 0x10000 ]) m in
+    let ahead : mostAhead job ≡ 32767 = ap (λ (x : Bool). elim x [ true ↦ 32767 | false ↦ 0xFFFF ]) m in (
+      subst (λ (n : ℕ). after pc / 4 ≤ dest / 4 + n) back (leb-true (after pc / 4) (dest / 4 + mostBack job) (b .0)),
+      subst (λ (n : ℕ). dest / 4 ≤ after pc / 4 + n) ahead (leb-true (dest / 4) (after pc / 4 + mostAhead job) (b .1)),
+    )
 
 -- ---- a destination, by its label
 

@@ -6,7 +6,7 @@ use mathlib.Core.Path.{_≡_, refl}
 use lib.ListN.{take}
 use lib.Dec.{leb, ltb, eqb}
 use Rattle.jobs.specs.declared.Job.{Job}
-use Rattle.jobs.specs.declared.Job.the-variants.{Commit, Manual}
+use Rattle.jobs.specs.declared.Job.the-variants.{Commit, Manual, Release6}
 use Rattle.field.specs.Field.{setField}
 use Rattle.record.specs.Bytes.{byteAt, all, sameBytes}
 use Rattle.record.specs.Records.{placesF, placesFrom, places, firstBad, firstBadOf, withinLimit}
@@ -50,17 +50,18 @@ fits labels Full p = true
 
 -- ---- by computation
 
--- of either sort of job
-abbrev pub InBoth : (Job → Type 0) → Type 0
-InBoth P = P Commit × P Manual
+-- of each sort of job
+abbrev pub InAll : (Job → Type 0) → Type 0
+InAll P = P Commit × P Manual × P Release6
 
-pub in-each : (P : Job → Type 0) → InBoth P → (job : Job) → P job
+pub in-each : (P : Job → Type 0) → InAll P → (job : Job) → P job
 in-each P b Commit = b .0
 in-each P b Manual = b .1
+in-each P b Release6 = b .2
 
 -- of a label table: its build is accepted, the tests hold
 pub record Computed (labels : List ℕ) : Type 0 where
-  pub accepted : InBoth (λ job. buildVerdict job labels entry regions pending ≡ Pass)
+  pub accepted : InAll (λ job. buildVerdict job labels entry regions pending ≡ Pass)
   pub fit : all (λ (p : ℕ). fits labels (pendingAt pending p .kind) p) (places pending) ≡ true
   pub bytes-fit : all (λ (b : ℕ). ltb b 256) labels ≡ true
 
@@ -74,8 +75,8 @@ pub record Evaluated : Type 0 where
   pub first : Computed labels₁
   pub second : Computed labels₂
   pub third : Computed labels₃
-  pub first-outcome : InBoth (λ job. buildOutcome job labels₁ entry regions pending ≡ outcome)
-  pub second-outcome : InBoth (λ job. buildOutcome job labels₂ entry regions pending ≡ outcome)
+  pub first-outcome : InAll (λ job. buildOutcome job labels₁ entry regions pending ≡ outcome)
+  pub second-outcome : InAll (λ job. buildOutcome job labels₂ entry regions pending ≡ outcome)
   pub destined : destinations labels₁ pending ≡ Known 0x0040C008 ∷ Known 0x00400008 ∷ Known 0x12345678 ∷ Known 0x0040C008 ∷ Known 0x00400004 ∷ Known 0x003E0010 ∷ []
   pub places-are : places pending ≡ 0 ∷ 40 ∷ 80 ∷ 116 ∷ 156 ∷ 196 ∷ []
   pub aligned : all (λ (p : ℕ). eqb (pcAt regions pending p % 4) 0) (places pending) ≡ true
@@ -93,11 +94,11 @@ pub evaluated : Evaluated
 unfolding labels₁ labels₂ labels₃ entry regions pending finished exampleRegions examplePending exampleFinished destinations readings imageOf readBy signedBytes buildOutcome buildVerdict layoutVerdicts writePatches writePending pendingVerdict reachVerdict orderFrom keep append inRange jumpInRange branchInRange fieldValue fieldWidth destination kindFrom pendingLayout pendingOk entryLayout entryOk addressLabelOk regionLayout regionRecords regionOk resolve labelLayout labelOk firstRepeat firstLater firstNamed firstStop withinLimit firstBadOf firstBad places placesFrom placesF all sameBytes setField
 evaluated =
     record {
-      first = record { accepted = (refl, refl); fit = refl; bytes-fit = refl };
-      second = record { accepted = (refl, refl); fit = refl; bytes-fit = refl };
-      third = record { accepted = (refl, refl); fit = refl; bytes-fit = refl };
-      first-outcome = (refl, refl);
-      second-outcome = (refl, refl);
+      first = record { accepted = (refl, refl, refl); fit = refl; bytes-fit = refl };
+      second = record { accepted = (refl, refl, refl); fit = refl; bytes-fit = refl };
+      third = record { accepted = (refl, refl, refl); fit = refl; bytes-fit = refl };
+      first-outcome = (refl, refl, refl);
+      second-outcome = (refl, refl, refl);
       destined = refl;
       places-are = refl;
       aligned = refl;

@@ -4,11 +4,12 @@ use Prim.Native.Nat.{ℕ, _+_, _-_, _*_, _/_, _%_, _^_, _≤_}
 use native.Mathlib.Omega.{arith}
 use mathlib.Core.List.{List}
 use mathlib.Core.Bool.{Bool, true, false}
-use mathlib.Core.Path.{_≡_, refl, sym, ap, ap₂, subst, _∙_}
+use mathlib.Core.Path.{_≡_, refl, sym, ap, ap₂, _∙_}
 use lib.Dec.{eqb}
 use borrow.Author.Tests.{eqb-true, eqb-false}
 use Rattle.jobs.specs.declared.Job.{Job}
-use Rattle.jobs.specs.declared.Job.the-variants.{Commit, Manual}
+use Rattle.jobs.specs.declared.Job.the-variants.{Commit, Manual, Release6}
+use Rattle.jobs.specs.Jobs.{byManual}
 use Rattle.record.specs.Bytes.{byteAt, le32, le64, part}
 use Rattle.record.specs.Records.{bodyLen, next, places}
 use Rattle.labels.specs.declared.Address.the-variants.{Known}
@@ -87,20 +88,23 @@ module _ (job : Job) (labels entry regions pending : List ℕ) (premises : Premi
       ∙ finished-field (kindOf pending p) (pcAt regions pending p) (destinationAt labels pending p) (le32 regions (slotAt regions pending p))
       (dest-lt job labels entry regions pending (premises .accepted) p m)
 
-  -- the distance of each branch: by the premise, or since the manual's build took it
+  -- the distance of each branch: by the premise, or since a build by the manual took it
   near : (p : ℕ) → In pending p → pendingAt pending p .kind ≡ Branch
       → (after (pcAt regions pending p) / 4 ≤ destinationAt labels pending p / 4 + 32768)
       × (destinationAt labels pending p / 4 ≤ after (pcAt regions pending p) / 4 + 32767)
   near p m e = go job refl
     where
+      taken : byManual job ≡ true
+          → (after (pcAt regions pending p) / 4 ≤ destinationAt labels pending p / 4 + 32768)
+          × (destinationAt labels pending p / 4 ≤ after (pcAt regions pending p) / 4 + 32767)
+      taken b = manual-near job b (pcAt regions pending p) (destinationAt labels pending p) (rw e at (in-range job labels entry regions pending (premises .accepted) p m))
+
       go : (j : Job) → job ≡ j
           → (after (pcAt regions pending p) / 4 ≤ destinationAt labels pending p / 4 + 32768)
           × (destinationAt labels pending p / 4 ≤ after (pcAt regions pending p) / 4 + 32767)
       go Commit q = premises .near q p m e
-      go Manual q =
-          let r : inRange job Branch (pcAt regions pending p) (destinationAt labels pending p) ≡ true = rw e at (in-range job labels entry regions pending (premises .accepted) p m) in
-          manual-near (pcAt regions pending p) (destinationAt labels pending p)
-          (subst (λ (j : Job). inRange j Branch (pcAt regions pending p) (destinationAt labels pending p) ≡ true) q r)
+      go Manual q = taken (ap byManual q)
+      go Release6 q = taken (ap byManual q)
 
   branch-back : (p : ℕ) → In pending p → pendingAt pending p .kind ≡ Branch
       → readBy Branch (imageOf (patchedRegions labels regions pending)) (pendingAt pending p) ≡ destinationAt labels pending p

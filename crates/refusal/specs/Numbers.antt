@@ -4,7 +4,7 @@ use lib.IntN.{pos, negsuc}
 use Rattle.record.specs.declared.Location.{Location}
 use Rattle.refusal.specs.declared.Numbered.{Numbered}
 use Rattle.refusal.specs.declared.Refusal.{Refusal}
-use Rattle.refusal.specs.declared.Refusal.the-variants.{BadLayout, DuplicateName, UnknownInstruction, EndOfFile, ExpectedRegister, ExpectedConstant, ExpectedLabel, ExpectedRightBrace, ConstantOutOfRange, MissingRegion, OverwriteEdge, NoSpace, UnknownEntry, PatchPastEnd, UnknownLabel, JumpOutOfRange, ShiftOutOfRange, CodeOutOfRange, BadByte, BadToken, NoTokenSpace, BadStart, StartPastEnd}
+use Rattle.refusal.specs.declared.Refusal.the-variants.{BadLayout, DuplicateName, UnknownInstruction, EndOfFile, ExpectedRegister, ExpectedConstant, ExpectedLabel, ExpectedRightBrace, ConstantOutOfRange, MissingRegion, OverwriteEdge, NoSpace, UnknownEntry, PatchPastEnd, UnknownLabel, JumpOutOfRange, ShiftOutOfRange, CodeOutOfRange, DroppedInstruction, BadByte, BadToken, NoTokenSpace, BadStart, StartPastEnd}
 
 abbrev pub zeroLocation : Location
 zeroLocation = record { source = 0; index = 0 }
@@ -34,6 +34,8 @@ numbered (JumpOutOfRange l destination pc) = refusal 16 l destination pc
 -- document 02, P5: "19, a shift amount outside 0 to 31; 20, a condition code outside 0 to 7"
 numbered (ShiftOutOfRange l) = refusal 19 l 0 0
 numbered (CodeOutOfRange l) = refusal 20 l 0 0
+-- document 02, P9: "27, an Inputs line with a third operand or a Func 18 line in a Release 6 job"
+numbered (DroppedInstruction l) = refusal 27 l 0 0
 -- document 02, P7: "at its location", that of the faulty token
 numbered (BadByte l) = refusal 21 l 0 0
 numbered (BadToken l) = refusal 22 l 0 0

@@ -32,6 +32,8 @@ pub enum Refusal {
     // of a line that is made by the manual
     ShiftOutOfRange(Location),
     CodeOutOfRange(Location),
+    // of a line for a Release 6 board
+    DroppedInstruction(Location),
     // a text's token that cannot be read, or is none that a record may hold, or has no room
     BadByte(Location),
     BadToken(Location),
@@ -94,6 +96,7 @@ pub fn numbers(refusal: Refusal) -> Numbered
         Refusal::JumpOutOfRange(l, a, b) => with(16, l, Values { a, b }),
         Refusal::ShiftOutOfRange(l) => with(19, l, none),
         Refusal::CodeOutOfRange(l) => with(20, l, none),
+        Refusal::DroppedInstruction(l) => with(27, l, none),
         Refusal::BadByte(l) => with(21, l, none),
         Refusal::BadToken(l) => with(22, l, none),
         Refusal::NoTokenSpace(l) => with(23, l, none),

@@ -23,7 +23,7 @@ use Rattle.descriptors.specs.Mnemonics.{mnemonicLayout}
 use Rattle.lexer.specs.Tokens.{tokenLayout}
 use Rattle.breakpoints.specs.Breakpoints.{dataBufferLayout, pendingBufferLayout, breakpointBufferLayout}
 use Rattle.emit_pairs.specs.declared.Fault.{Fault}
-use Rattle.emit_pairs.specs.declared.Fault.the-variants.{Immediate, ShiftAmount, ConditionCode}
+use Rattle.emit_pairs.specs.declared.Fault.the-variants.{Immediate, ShiftAmount, ConditionCode, Dropped}
 use Rattle.emit_pairs.specs.declared.InstructionPair.{InstructionPair}
 use Rattle.emit_outcome.specs.Call.{Lent}
 use Rattle.emit_outcome.specs.Checks.{layoutStop, listStop, missRefusal}
@@ -77,6 +77,7 @@ pub fault-other : (line : Location) (fault : Fault) → Other (Stop (faultRefusa
 fault-other line Immediate = λ l a e. unlike cc
 fault-other line ShiftAmount = λ l a e. unlike cc
 fault-other line ConditionCode = λ l a e. unlike cc
+fault-other line Dropped = λ l a e. unlike cc
 
 region-other : (line : Location) (region : ℕ) → Other (regionStop line region)
 region-other line region = go (eqb region noRegion)

@@ -209,7 +209,7 @@ module _ (job : Job) (c : Call) where
   meaning-waits (Table p) =
       let x = instructionAt (c .descriptors) p in
       let read = readOperands (encodingWants (x .encoding)) (tokens (c .token-list)) (startOf c) in
-      line-waits (read .answer) (read .index) (encodingRange job (x .encoding)) (encodingPairs job (x .encoding) (x .opcode)) (encodingForm (x .encoding))
+      line-waits (read .answer) (read .index) (encodingRange job (x .encoding) (x .opcode)) (encodingPairs job (x .encoding) (x .opcode)) (encodingForm (x .encoding))
       (encoding-waits job (x .encoding) (x .opcode))
   meaning-waits (Builtin p) =
       let read = readOperands (pseudoWants p) (tokens (c .token-list)) (startOf c) in

@@ -42,8 +42,8 @@ use Rattle.emit_integer.specs.IntegerWords.{inputsPairs}
 use Rattle.emit_pseudo.specs.PseudoWords.{turned}
 use Rattle.emit_dispatch.specs.Wants.{encodingWants, pseudoWants}
 use Rattle.loading.specs.declared.LoadForm.{LoadForm}
-use Rattle.emit_dispatch.specs.LinesLaws.{within-made}
-use Rattle.emit_dispatch.specs.Lines.{encodingPairs, pseudoPairs, encodingForm, pseudoForm, encodingRange, lineBy, encodingLine, pseudoLine}
+use Rattle.emit_dispatch.specs.LinesLaws.{within-made, then-within}
+use Rattle.emit_dispatch.specs.Lines.{encodingPairs, pseudoPairs, encodingForm, pseudoForm, encodingRange, keptRange, lineBy, encodingLine, pseudoLine}
 use Rattle.emit_dispatch.specs.declared.LineAnswer.the-variants.{Made}
 use Rattle.routine.specs.TokenLaws.{TokenFits}
 use Rattle.routine.specs.ReadLaws.{Of, OffsetFits, AllFit, operands-fit}
@@ -140,7 +140,7 @@ module _ (names : List ℕ) where
   maybe-words op first second none = single tt
   maybe-words op first second (some v) = widened (omega arith) (omega arith) (then-words (value-words v) (one-more tt (one-word tt)))
 
-  encoding-words : (job : Job) (e : Encoding) (op : Opcode) (x : AskedAll (encodingWants e)) → AllFit names (encodingWants e) x → encodingRange job e x ≡ Within → Words 1 5 (encodingPairs job e op x)
+  encoding-words : (job : Job) (e : Encoding) (op : Opcode) (x : AskedAll (encodingWants e)) → AllFit names (encodingWants e) x → encodingRange job e op x ≡ Within → Words 1 5 (encodingPairs job e op x)
   encoding-words job Register op x h r = widened (omega arith) (omega arith) (then-words (value-words (x .2)) (one-word tt))
   encoding-words job RegisterShift op x h r = single tt
   encoding-words job Source op x h r = single tt
@@ -148,7 +148,7 @@ module _ (names : List ℕ) where
   encoding-words job Inputs op x h r = maybe-words op (x .0) (x .1) (x .2)
   encoding-words job Sham op x h r = single tt
   encoding-words job SpecialBranch op x h r = single (h .1)
-  encoding-words job (Immediate alt) op x h r = widened (omega arith) (omega arith) (immediate-words op alt (registerNumber (x .0)) (registerNumber (x .1)) (x .2) r)
+  encoding-words job (Immediate alt) op x h r = widened (omega arith) (omega arith) (immediate-words op alt (registerNumber (x .0)) (registerNumber (x .1)) (x .2) (then-within (keptRange job false op) (immediateRange alt (x .2)) r .1))
   encoding-words job LoadImmediate op x h r = single tt
   encoding-words job Jump op x h r = single (h .0)
   encoding-words job Branch op x h r = widened (omega arith) (omega arith) (then-words (value-words (x .1)) (one-word (h .2)))
@@ -200,7 +200,7 @@ module _ (names : List ℕ) (ts : List Token) (fit : (i : ℕ) → TokenFits nam
   pub encoding-made : (job : Job) (e : Encoding) (op : Opcode) (i : ℕ) → encodingLine job e op ts i .answer ≡ Made → Words names 1 5 (encodingLine job e op ts i .pairs)
   unfolding encodingLine
   encoding-made job e op i =
-      line-words names (AllFit names (encodingWants e)) (encodingRange job e) (encodingPairs job e op) (encodingForm e) (encoding-words names job e op)
+      line-words names (AllFit names (encodingWants e)) (encodingRange job e op) (encodingPairs job e op) (encodingForm e) (encoding-words names job e op)
       (readOperands (encodingWants e) ts i .answer) (readOperands (encodingWants e) ts i .index) (operands-fit names ts fit (encodingWants e) i)
 
   pub pseudo-made : (job : Job) (p : Pseudo) (i : ℕ) → pseudoLine job p ts i .answer ≡ Made → Words names 1 5 (pseudoLine job p ts i .pairs)

@@ -22,10 +22,17 @@ returns-2 c =
     let d = c .before .before .before .before .before .before in
     as-job (d .before .before .before .before .enum-told2 .given .1) (d .do-manual-instruction .ensures)
 
+returns-3 : tie.Need-returns-3
+returns-3 c =
+    let d = c .before .before .before .before .before .before in
+    as-job (d .before .before .before .before .enum-told3 .given .1) (d .do-release-6-instruction .ensures)
+
 pub do-job-line-spec : {M : Type 1} → statement M
 do-job-line-spec =
     tie.close
     (tie.spec
+    (λ c. search needs)
+    (λ c κs. search needs)
     (λ c. search needs)
     (λ c κs. search needs)
     (λ c. search needs)
@@ -37,4 +44,8 @@ do-job-line-spec =
     (λ c. search needs)
     (λ c. search needs)
     (λ c. search needs)
-    returns-2)
+    returns-2
+    (λ c. search needs)
+    (λ c. search needs)
+    (λ c. search needs)
+    returns-3)

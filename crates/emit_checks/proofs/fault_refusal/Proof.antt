@@ -14,5 +14,8 @@ returns-2 c = sym (ap (faultRefusal (c .before .before .args .line)) (c .enum-to
 returns-3 : tie.Need-returns-3
 returns-3 c = sym (ap (faultRefusal (c .before .before .args .line)) (c .enum-told3 .given .1))
 
+returns-4 : tie.Need-returns-4
+returns-4 c = sym (ap (faultRefusal (c .before .before .args .line)) (c .enum-told4 .given .1))
+
 pub fault-refusal-spec : {M : Type 1} → statement M
-fault-refusal-spec = tie.close (tie.spec (λ c. search needs) (λ c. search needs) (λ c. search needs) returns returns-2 returns-3)
+fault-refusal-spec = tie.close (tie.spec (λ c. search needs) (λ c. search needs) (λ c. search needs) (λ c. search needs) returns returns-2 returns-3 returns-4)

@@ -17,7 +17,7 @@ returns c =
     let a = b .before .before .before .args in
     let w = encodingWants (a .encoding) in
     line-missed w (readOperands w (tokens (a .list .now)) (a .from .index)) (asked-as (a .from .index) (b .before .encoding-wants .ensures) (b .read-operands .ensures))
-    (encodingRange (a .job) (a .encoding)) (encodingPairs (a .job) (a .encoding) (a .op)) (encodingForm (a .encoding)) _ (c .before .before .given .given .1) refl (c .none .ensures)
+    (encodingRange (a .job) (a .encoding) (a .op)) (encodingPairs (a .job) (a .encoding) (a .op)) (encodingForm (a .encoding)) _ (c .before .before .given .given .1) refl (c .none .ensures)
 
 returns-2 : tie.Need-returns-2
 unfolding encodingLine
@@ -26,7 +26,7 @@ returns-2 c =
     let a = b .before .before .before .args in
     let w = encodingWants (a .encoding) in
     line-read w (readOperands w (tokens (a .list .now)) (a .from .index)) (asked-as (a .from .index) (b .before .encoding-wants .ensures) (b .read-operands .ensures))
-    (encodingRange (a .job) (a .encoding)) (encodingPairs (a .job) (a .encoding) (a .op)) (encodingForm (a .encoding)) _ (c .before .before .before .before .given2 .given .1)
+    (encodingRange (a .job) (a .encoding) (a .op)) (encodingPairs (a .job) (a .encoding) (a .op)) (encodingForm (a .encoding)) _ (c .before .before .before .before .given2 .given .1)
     (c .before .range-answer .ensures ∙ ap rangeAnswer (c .before .before .encoding-range .ensures)) (c .encoding-pairs .ensures)
 
 pub dispatch-encoding-spec : {M : Type 1} → statement M

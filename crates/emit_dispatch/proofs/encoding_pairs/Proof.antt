@@ -13,7 +13,7 @@ returns-2 : tie.Need-returns-2
 returns-2 c = encoding-as (c .before .before .before .args .job) (c .before .before .before .args .op) (c .before .before .before .args .operands) (c .before .enum-told2 .given .1) (c .do-register-shift-instruction .ensures)
 
 returns-3 : tie.Need-returns-3
-returns-3 c = encoding-as (c .before .before .before .args .job) (c .before .before .before .args .op) (c .before .before .before .args .operands) (c .before .enum-told3 .given .1) (c .do-source-instruction .ensures)
+returns-3 c = encoding-as (c .before .before .before .before .args .job) (c .before .before .before .before .args .op) (c .before .before .before .before .args .operands) (c .before .before .enum-told3 .given .1) (rw (c .before .source-opcode .ensures) at (c .do-source-instruction .ensures))
 
 returns-4 : tie.Need-returns-4
 returns-4 c = encoding-as (c .before .before .before .args .job) (c .before .before .before .args .op) (c .before .before .before .args .operands) (c .before .enum-told4 .given .1) (c .do-destination-instruction .ensures)
@@ -81,6 +81,7 @@ encoding-pairs-spec =
     (λ c. search needs)
     (λ c κs. search needs)
     (λ c. search needs)
+    (λ c κs. search needs)
     (λ c κs. search needs)
     (λ c. search needs)
     (λ c κs. search needs)

@@ -1,10 +1,8 @@
 -- `abs_first_word` meets its contract: by the job, its chain of methods or `sham_word` lays the word out. Assumes nothing.
-use mathlib.Core.Path.{sym, ap, _∙_}
+use mathlib.Core.Path.{sym, _∙_}
 use Rattle.instructions.specs.declared.Opcode.the-variants.{Func}
 use Rattle.registers.specs.Numbers.{registerNumber}
 use Rattle.registers.specs.declared.RegisterSlot.the-variants.{AssemblerTemporary}
-use Rattle.jobs.specs.declared.Job.{Job}
-use Rattle.jobs.specs.Jobs.{absFirstWord}
 use Rattle.emit_words.specs.WordsLaws.{base, with-dest, with-temp, is-immediate, abs-commit, abs-manual}
 use borrow.Author.Needs.{needs}
 use Rattle.emit_words.proofs.abs_first_word.Statement.{statement}
@@ -12,31 +10,26 @@ use Rattle.emit_words.proofs.abs_first_word.Tie as tie
 
 returns : tie.Need-returns
 returns c =
-    let d = c .before .before .before .before .before in
-    let a = d .before .before .args in
-    is-immediate (with-temp (with-dest (base (Func 3)) AssemblerTemporary) (a .source)) 31 (cc)
-    ∙ abs-commit (registerNumber (a .source))
-    ∙ sym (ap (λ (j : Job). absFirstWord j (registerNumber (a .source))) (d .enum-told .given .1))
+    let d = c .before .before in
+    rw (sym (d .by-manual .ensures) ∙ c .before .if1 .taken) (c .sham-word .ensures ∙ abs-manual (registerNumber (d .before .args .source)))
 
 returns-2 : tie.Need-returns-2
 returns-2 c =
-    let d = c .before in
-    let a = d .before .before .args in
-    c .sham-word .ensures
-    ∙ abs-manual (registerNumber (a .source))
-    ∙ sym (ap (λ (j : Job). absFirstWord j (registerNumber (a .source))) (d .enum-told2 .given .1))
+    let d = c .before .before .before .before .before .before in
+    let source = d .before .args .source in
+    rw (sym (d .by-manual .ensures) ∙ c .before .before .before .before .before .if1 .left)
+    (is-immediate (with-temp (with-dest (base (Func 3)) AssemblerTemporary) source) 31 (cc) ∙ abs-commit (registerNumber source))
 
 pub abs-first-word-spec : {M : Type 1} → statement M
 abs-first-word-spec =
     tie.close
     (tie.spec
-    (λ c. search needs)
     (λ c κs. search needs)
     (λ c κs. search needs)
     (λ c κs. search needs)
     (λ c κs. search needs)
     (λ c κs. search needs)
-    (λ c. search needs)
+    (λ c κs. search needs)
     (λ c κs. search needs)
     returns
     returns-2)

@@ -1,10 +1,11 @@
 -- `code_within` meets its contract: by the job. Assumes nothing.
+use mathlib.Core.Path.{sym, _∙_}
 use borrow.Author.Needs.{needs}
 use Rattle.jobs.proofs.code_within.Statement.{statement}
 use Rattle.jobs.proofs.code_within.Tie as tie
 
-returns-2 : tie.Need-returns-2
-returns-2 c = rw (c .enum-told2 .given .1)
+returns : tie.Need-returns
+returns c = rw (sym (c .before .by-manual .ensures) ∙ c .if1 .taken)
 
 pub code-within-spec : {M : Type 1} → statement M
-code-within-spec = tie.close (tie.spec (λ c. search needs) (λ c. search needs) (λ c. search needs) returns-2)
+code-within-spec = tie.close (tie.spec (λ c κs. search needs) returns (λ c. search needs))

@@ -3,7 +3,7 @@ use Prim.Native.Nat.{ℕ}
 use mathlib.Core.List.{List, [], _∷_}
 use mathlib.Core.Path.{_≡_, sym, ap, _∙_}
 use borrow.Author.Needs.{needs}
-use Rattle.jobs.specs.declared.Job.the-variants.{Commit, Manual}
+use Rattle.jobs.specs.declared.Job.the-variants.{Commit, Manual, Release6}
 use Rattle.record.specs.Bytes.{byteAt}
 use Rattle.registers.specs.PastLaws.{past-end}
 use Rattle.input.specs.Input.{behindLists}
@@ -22,7 +22,10 @@ returns-2 : tie.Need-returns-2
 returns-2 c = ap jobNumbered (sym (c .match .keys2) ∙ byte-is (c .before))
 
 returns-3 : tie.Need-returns-3
-returns-3 c = sym (past-end (Of Commit ∷ Of Manual ∷ []) NoSuch _ (c .match .rest)) ∙ ap jobNumbered (byte-is (c .before))
+returns-3 c = ap jobNumbered (sym (c .match .keys3) ∙ byte-is (c .before))
+
+returns-4 : tie.Need-returns-4
+returns-4 c = sym (past-end (Of Commit ∷ Of Manual ∷ Of Release6 ∷ []) NoSuch _ (c .match .rest)) ∙ ap jobNumbered (byte-is (c .before))
 
 pub job-in-spec : {M : Type 1} → statement M
 job-in-spec =
@@ -32,4 +35,5 @@ job-in-spec =
     (λ c κs. search needs)
     returns
     returns-2
-    returns-3)
+    returns-3
+    returns-4)
