@@ -10,12 +10,14 @@
      32        mnemonic    location, 0 to 16 bytes
      33        descriptor  opcode class, key, encoding, size, flag, alternative present, its class,
                            its key (1 each), name of 1 to 16
-     34        label       address (4), name of 1 to 64
+     34        label       address (4), name of 1 to 64: the label for all files
      35        region      address (4), data
      36        pending     region (2), offset (4), location, patch kind (1), form (1), value or
                            added offset (8), the name's location, name of 1 to 64
      37        breakpoint  location, 1 to 5 pcs (4 each), one a word
      38        entry       form (1), value or added offset (8), the name's location, name of 1 to 64
+     41        label       address (4), owner (4, below 0xFFFFFFFF), name of 1 to 64: the label of
+                           one file, the source that is its owner
 
    token         0 Comment, 1 Directive, 2 Parameter, 7 StringLiteral: a text of 0 to 64 bytes
                  3 Register, 4 FPRegister: one byte, 0 to 31
@@ -60,7 +62,8 @@
       1  A record breaks the layout or sits in the wrong list, a buffer is over 65,536 bytes, a fill
          count is over its buffer's length, or the region's number is none (a: buffer in argument
          order from 0, b: the byte place in it).
-      2  Two descriptors or two labels share a name (a: buffer, b: place of the later).
+      2  Two descriptors share a name, or two labels a name and an owner, or a name and kind 34
+         (a: buffer, b: place of the later).
       3  Neither descriptor nor pseudo-instruction has the mnemonic.
       4  The tokens end before an operand does.
       5  A register was due (a: kind of the token that was met).
@@ -179,7 +182,8 @@ uint32_t nazgwern_do_release_6_instruction(
     uint8_t *answer, size_t answer_length);
 
 /* Builds: patches the region list in place.
-   labels       kind 34
+   labels       kinds 34 and 41, in any order. A name stands for the label whose owner is the source
+                in the name's location; if there is none, for the label of kind 34
    entry        at most one record of kind 38; without one the entry is 0x00400000
    regions      1 to 16 records of kind 35, numbered from 0
    pending      kind 36, the filled part only

@@ -6,7 +6,8 @@ use crate::job::Job;
 use crate::judge_build;
 use crate::options::Options;
 use crate::other::{library, Other};
-use crate::records::{addressed, entry, kind, write, Pending, Reference};
+use crate::random::Random;
+use crate::records::{addressed, entry, kind, write, Label, Pending, Reference};
 use crate::run_build;
 use crate::second_build;
 use std::hint::black_box;
@@ -17,11 +18,42 @@ const ROUNDS: usize = 201;
 /// Where the timed routines begin; their entry records name the label there.
 const ENTRY: u32 = 0x0040_0000;
 
-/// Labels, pendings, bytes of a name, builds in one timed batch. A pending with a name of four
-/// bytes takes 40, so that 1,638 are the most beside 2,000 labels. Batches are small, so that
-/// what was prepared for them is still in the processor's caches.
-const SIZES: [(usize, usize, usize, usize); 3] =
-    [(10, 10, 12, 64), (100, 100, 12, 16), (2000, 1638, 4, 2)];
+/// Labels, pendings, how a label is named by its number, builds in one timed batch. Batches are
+/// small, so that what was prepared for them is still in the processor's caches.
+type Size = (usize, usize, fn(usize) -> Vec<u8>, usize);
+
+/// First as many pendings as labels, then as many as a list of 65,536 bytes holds: with a name of
+/// twelve bytes a pending takes 48, with one of four 40, with one of two 38. The last has the most
+/// labels that a list holds, with all names of one byte.
+const SIZES: [Size; 6] = [
+    (10, 10, |number| digits(number, 12), 64),
+    (100, 100, |number| digits(number, 12), 16),
+    (10, 1365, |number| digits(number, 12), 2),
+    (100, 1365, |number| digits(number, 12), 2),
+    (2000, 1638, |number| digits(number, 4), 2),
+    (6563, 1724, shortest, 1),
+];
+
+/// How a list stands: in an order drawn at random, or rising by names.
+#[derive(Clone, Copy, PartialEq)]
+enum Order {
+    Random,
+    Rising,
+}
+
+fn digits(number: usize, length: usize) -> Vec<u8> {
+    format!("{number:0length$}").into_bytes()
+}
+
+/// The 95 names of one byte, then names of two.
+fn shortest(number: usize) -> Vec<u8> {
+    let byte = |number: usize| b' ' + number as u8;
+
+    match number {
+        0..95 => vec![byte(number)],
+        _ => vec![byte(number / 95 - 1), byte(number % 95)],
+    }
+}
 
 pub fn run(options: &Options) -> bool {
     println!("whole builds, nanoseconds each: the median of {ROUNDS} batches, the sides in turn");
@@ -35,54 +67,63 @@ pub fn run(options: &Options) -> bool {
         "HashMap, from the same four lists; 'other' is {}, from the lists.",
         options.other.name()
     );
+    println!(
+        "The pendings name all labels in an order drawn at random; 'order' is that of the label"
+    );
+    println!("list.");
     println!();
     println!(
-        "{:>6} {:>8} {:>12} {:>12} {:>12} {:>14} {:>14}",
-        "labels", "pendings", "Rust, build", "Rust, whole", "other", "other/build", "other/whole"
+        "{:>6} {:>8} {:>6} {:>12} {:>12} {:>12} {:>14} {:>14}",
+        "labels",
+        "pendings",
+        "order",
+        "Rust, build",
+        "Rust, whole",
+        "other",
+        "other/build",
+        "other/whole"
     );
 
-    for (labels, pendings, length, batch) in SIZES {
-        let input = input(labels, pendings, length);
-        if run_build::agreed(options, &input).map(|(answer, _)| answer)
-            != Some(Answer::accepted(ENTRY))
-        {
-            println!("the sides differ on {labels} labels");
-            return false;
-        }
+    SIZES.iter().all(|size| {
+        row(options, *size, Order::Random, "random") && row(options, *size, Order::Rising, "rising")
+    })
+}
 
-        let mut build = vec![];
-        let mut whole = vec![];
-        let mut other = vec![];
-
-        for _ in 0..ROUNDS {
-            build.push(time(
-                batch,
-                || judge_build::builder(&input),
-                |builder| builder.build(),
-            ));
-            whole.push(time(
-                batch,
-                || (),
-                |()| judge_build::builder(&input).build(),
-            ));
-            other.push(match options.other {
-                Other::Library => time(batch, || input.clone(), call_library),
-                Other::Second => time(
-                    batch,
-                    || input.clone(),
-                    |input| second_build::build(Job::Commit, &input),
-                ),
-            });
-        }
-
-        let [build, whole, other] = [build, whole, other].map(median);
-
-        println!(
-            "{labels:>6} {pendings:>8} {build:>12.0} {whole:>12.0} {other:>12.0} {:>14.2} {:>14.2}",
-            other / build,
-            other / whole
-        );
+/// One row of the table; false where the sides differ.
+fn row(options: &Options, size: Size, order: Order, shown: &str) -> bool {
+    let input = input(size, order);
+    let (labels, pendings, _, batch) = size;
+    if run_build::agreed(options, &input).map(|(answer, _)| answer) != Some(Answer::accepted(ENTRY))
+    {
+        println!("the sides differ on {labels} labels");
+        return false;
     }
+    let second = |input: BuildInput| second_build::build(Job::Commit, &input);
+    let [mut build, mut whole, mut other] = [(); 3].map(|()| vec![]);
+
+    for _ in 0..ROUNDS {
+        build.push(time(
+            batch,
+            || judge_build::builder(&input),
+            |builder| builder.build(),
+        ));
+        whole.push(time(
+            batch,
+            || (),
+            |()| judge_build::builder(&input).build(),
+        ));
+        other.push(match options.other {
+            Other::Library => time(batch, || input.clone(), call_library),
+            Other::Second => time(batch, || input.clone(), second),
+        });
+    }
+
+    let [build, whole, other] = [build, whole, other].map(median);
+    let [by_build, by_whole] = [other / build, other / whole];
+    println!(
+        "{labels:>6} {pendings:>8} {shown:>6} {build:>12.0} {whole:>12.0} {other:>12.0} \
+         {by_build:>14.2} {by_whole:>14.2}"
+    );
 
     true
 }
@@ -115,20 +156,34 @@ pub fn median(mut times: Vec<f64>) -> f64 {
     times[times.len() / 2]
 }
 
+/// The numbers below `count`, in an order drawn at random.
+fn shuffled(random: &mut Random, count: usize) -> Vec<usize> {
+    let mut numbers: Vec<usize> = (0..count).collect();
+
+    for left in (1..count).rev() {
+        numbers.swap(left, random.below(left + 1));
+    }
+
+    numbers
+}
+
 /// A routine with a label on every so many words and a patch in each word, of each kind in
 /// turn, that names them all over the table.
-fn input(labels: usize, pendings: usize, length: usize) -> BuildInput {
-    let name = |number: usize| format!("{number:0length$}").into_bytes();
-
-    // 7907 shares no factor with a size: the table has every name once, in no order.
-    let labels: Vec<_> = (0..labels)
-        .map(|place| {
-            let number = place * 7907 % labels;
-            let word = number * pendings / labels;
-            addressed(kind::LABEL, ENTRY + 4 * word as u32, &name(number))
+fn input((labels, pendings, name, _): Size, order: Order) -> BuildInput {
+    let mut random = Random::of(labels as u64, pendings as u64);
+    let mut table: Vec<Label> = shuffled(&mut random, labels)
+        .into_iter()
+        .map(|number| Label {
+            address: ENTRY + 4 * (number * pendings / labels) as u32,
+            owner: None,
+            name: name(number),
         })
         .collect();
+    if order == Order::Rising {
+        table.sort_by(|one, other| one.name.cmp(&other.name));
+    }
 
+    let used = shuffled(&mut random, labels);
     let pending: Vec<_> = (0..pendings)
         .map(|place| {
             Pending {
@@ -137,30 +192,26 @@ fn input(labels: usize, pendings: usize, length: usize) -> BuildInput {
                 source: 0,
                 index: 20 * place as u32,
                 patch: (place % 5) as u8,
-                reference: Reference {
-                    form: 1,
-                    value: 4,
-                    source: 0,
-                    index: 20 * place as u32 + 8,
-                    name: name(place * 6007 % labels.len()),
-                },
+                reference: reference(20 * place as u32 + 8, 4, name(used[place % labels])),
             }
             .record()
         })
         .collect();
 
-    let first = Reference {
-        form: 1,
-        value: 0,
-        source: 0,
-        index: 0,
-        name: name(0),
-    };
-
     BuildInput {
-        labels: write(&labels),
-        entry: write(&[entry(&first)]),
+        labels: write(&table.iter().map(Label::record).collect::<Vec<_>>()),
+        entry: write(&[entry(&reference(0, 0, name(0)))]),
         regions: write(&[addressed(kind::REGION, ENTRY, &vec![0; 4 * pendings])]),
         pending: write(&pending),
+    }
+}
+
+fn reference(index: u32, added: u64, name: Vec<u8>) -> Reference {
+    Reference {
+        form: 1,
+        value: added,
+        source: 0,
+        index,
+        name,
     }
 }

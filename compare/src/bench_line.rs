@@ -34,42 +34,58 @@ pub fn run() -> bool {
     println!(
         "the map of instructions at hand; 'Rust, whole' makes both from the records for each line,"
     );
-    println!("which is what the library starts from.");
+    println!(
+        "which is what the library starts from. 'order' is that of the table: the Rust's own, or"
+    );
+    println!("rising by names.");
     println!();
     println!(
-        "{:>6} {:>12} {:>12} {:>12} {:>14} {:>14}",
-        "lines", "Rust, line", "Rust, whole", "nazgwern", "nazgwern/line", "nazgwern/whole"
+        "{:>6} {:>6} {:>12} {:>12} {:>12} {:>14} {:>14}",
+        "lines",
+        "order",
+        "Rust, line",
+        "Rust, whole",
+        "nazgwern",
+        "nazgwern/line",
+        "nazgwern/whole"
     );
+    let table = descriptors::table();
+    let mut rising = table.to_vec();
+    rising.sort_by(|one, other| one.body[8..].cmp(&other.body[8..]));
 
-    for lines in SIZES {
-        let input = routine(lines);
-        let tokens = tokens(&input);
-        let instructions = instructions(&input);
-        let map = map(&instructions);
-        let at_hand = Some((&tokens[..], &map));
-        if with_library(&input, lines) != with_rust(&input, lines, at_hand) {
-            println!("the sides differ on {lines} lines");
-            return false;
-        }
+    SIZES
+        .iter()
+        .all(|lines| row(*lines, table, "own") && row(*lines, &rising, "rising"))
+}
 
-        let mut line = vec![];
-        let mut whole = vec![];
-        let mut other = vec![];
-
-        for _ in 0..ROUNDS {
-            line.push(time(lines, || with_rust(&input, lines, at_hand)));
-            whole.push(time(lines, || with_rust(&input, lines, None)));
-            other.push(time(lines, || with_library(&input, lines)));
-        }
-
-        let [line, whole, other] = [line, whole, other].map(median);
-
-        println!(
-            "{lines:>6} {line:>12.0} {whole:>12.0} {other:>12.0} {:>14.2} {:>14.2}",
-            other / line,
-            other / whole
-        );
+/// One row of the table; false where the sides differ.
+fn row(lines: usize, table: &[Record], shown: &str) -> bool {
+    let input = routine(lines, table);
+    let tokens = tokens(&input);
+    let instructions = instructions(&input);
+    let map = map(&instructions);
+    let at_hand = Some((&tokens[..], &map));
+    if with_library(&input, lines) != with_rust(&input, lines, at_hand) {
+        println!("the sides differ on {lines} lines");
+        return false;
     }
+
+    let mut line = vec![];
+    let mut whole = vec![];
+    let mut other = vec![];
+
+    for _ in 0..ROUNDS {
+        line.push(time(lines, || with_rust(&input, lines, at_hand)));
+        whole.push(time(lines, || with_rust(&input, lines, None)));
+        other.push(time(lines, || with_library(&input, lines)));
+    }
+
+    let [line, whole, other] = [line, whole, other].map(median);
+    let [by_line, by_whole] = [other / line, other / whole];
+    println!(
+        "{lines:>6} {shown:>6} {line:>12.0} {whole:>12.0} {other:>12.0} \
+         {by_line:>14.2} {by_whole:>14.2}"
+    );
 
     true
 }
@@ -82,7 +98,7 @@ fn time(lines: usize, call: impl Fn() -> Vec<u8>) -> f64 {
     start.elapsed().as_nanos() as f64 / lines as f64
 }
 
-fn routine(lines: usize) -> LineInput {
+fn routine(lines: usize, table: &[Record]) -> LineInput {
     let token = |kind: u16, payload: &[u8]| Record {
         kind,
         body: [&[0; 8], payload].concat(),
@@ -99,7 +115,7 @@ fn routine(lines: usize) -> LineInput {
     LineInput {
         tokens: write(&tokens),
         mnemonic: write(&[token(kind::MNEMONIC, b"beq")]),
-        descriptors: write(descriptors::table()),
+        descriptors: write(table),
         data,
         pending,
         breakpoints,

@@ -126,7 +126,7 @@ pub fn dry_run(input: &RunInput) -> RunOutcome {
     let regions: Vec<Region> = list
         .records
         .iter()
-        .map(|(_, body)| Region {
+        .map(|(_, _, body)| Region {
             address: u32_at(body, 0),
             data: &body[4..],
         })

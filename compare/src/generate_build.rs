@@ -4,7 +4,7 @@ use crate::build_input::BuildInput;
 use crate::job::Job;
 use crate::names::{place, unknown_name};
 use crate::random::Random;
-use crate::records::{addressed, entry, kind, write, Pending, Record, Reference};
+use crate::records::{addressed, entry, kind, write, Label, Pending, Record, Reference};
 
 /// The four lists before they are written as bytes.
 pub struct BuildLists {
@@ -23,11 +23,6 @@ impl BuildLists {
             pending: write(&self.pending),
         }
     }
-}
-
-pub struct Label {
-    pub address: u32,
-    pub name: Vec<u8>,
 }
 
 pub struct Region {
@@ -105,10 +100,7 @@ pub fn well_formed(random: &mut Random, job: Job) -> BuildLists {
         plan == Plan::OneFault && faulty == count || plan == Plan::Free && random.one_in(8);
 
     BuildLists {
-        labels: labels
-            .iter()
-            .map(|label| addressed(kind::LABEL, label.address, &label.name))
-            .collect(),
+        labels: labels.iter().map(Label::record).collect(),
         entry: entry_of(random, entry_fault, &labels, &names),
         regions: regions
             .iter()
@@ -189,7 +181,11 @@ fn labels(random: &mut Random, regions: &[Region]) -> Vec<Label> {
                     .wrapping_add(random.below(region.data.len() + 8) as u32),
             };
 
-            Label { address, name }
+            Label {
+                address,
+                owner: None,
+                name,
+            }
         })
         .collect()
 }

@@ -15,7 +15,7 @@ pub fn full_list(random: &mut Random, mut lists: BuildLists) -> BuildLists {
 }
 
 /// A name of `length` bytes that no other number has.
-fn numbered(number: usize, length: usize) -> Vec<u8> {
+pub fn numbered(number: usize, length: usize) -> Vec<u8> {
     let mut name = format!("{number:05}").into_bytes();
     name.resize(length, b'.');
 
@@ -30,15 +30,20 @@ fn full_labels(random: &mut Random, lists: &mut BuildLists) {
             addressed(kind::LABEL, random.u32(), &name)
         })
         .collect();
-    // Names of the replaced labels are unknown now; these patches resolve.
+    patch_first_words(random, lists, 2, &numbered(910, 64));
+}
+
+/// One patch a region, of a name known to this source: the names of the replaced labels are
+/// unknown now.
+pub fn patch_first_words(random: &mut Random, lists: &mut BuildLists, source: u32, name: &[u8]) {
     lists.entry.clear();
     lists.pending.clear();
 
     for (place, region) in lists.regions.iter().enumerate() {
         if region.body.len() >= 8 {
-            lists
-                .pending
-                .push(full_patch(random, place as u16, 0, numbered(910, 64)).record());
+            let mut patch = full_patch(random, place as u16, 0, name.to_vec());
+            patch.reference.source = source;
+            lists.pending.push(patch.record());
         }
     }
 }

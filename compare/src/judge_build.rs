@@ -10,6 +10,7 @@ use crate::assembler::binary_builder::{
 use crate::assembler::lexer::Location;
 use crate::build_input::{BuildInput, BuildOutcome};
 use crate::model;
+use crate::owners;
 use crate::records::{bodies, u32_at, Pending, Reference};
 use std::panic::{catch_unwind, set_hook, take_hook, AssertUnwindSafe};
 use std::sync::atomic::{AtomicBool, Ordering};
@@ -27,15 +28,16 @@ pub fn keep_its_panics_quiet() {
     }));
 }
 
-/// What document 01 expects of a build call: refusals 1 and 2 by the model, the rest by the Rust.
+/// What documents 01 and 02 expect of a build call: refusals 1 and 2 by the model, the rest by the
+/// Rust, of labels with owners on names that need none.
 pub fn expected(input: &BuildInput) -> BuildOutcome {
     match model::refusal_of_lists(input) {
         Some(refusal) => input.refused(refusal),
-        None => judge(input),
+        None => judge(&owners::renamed(input)),
     }
 }
 
-/// The Rust's outcome for lists to which refusals 1 and 2 are not due.
+/// The Rust's outcome for lists to which refusals 1 and 2 are not due, all labels being for all.
 pub fn judge(input: &BuildInput) -> BuildOutcome {
     let builder = builder(input);
     let entry_is_unknown = match &builder.entry {
@@ -100,7 +102,7 @@ fn refusal(error: &AssemblerError, entry_is_unknown: bool) -> Answer {
     }
 }
 
-/// The builder that the four lists describe.
+/// The builder that the four lists describe, whose labels are for all.
 pub fn builder(input: &BuildInput) -> BinaryBuilder {
     let mut builder = BinaryBuilder::new();
 

@@ -1,6 +1,8 @@
 //! The judge of a job. "equality is with the Rust except for what is listed here": where a call
 //! has none of the points that document 02's P5 and P9 list, the Rust judges it. On the rest the
 //! second implementation does, and is itself held to the Rust's answer with those points put in.
+//! Likewise a build with labels of owners (P6): there the second implementation is held to the
+//! Rust's answer on names that need no owners.
 
 use crate::answer::{Answer, NO_ENTRY};
 use crate::assembler::assembler_util::{
@@ -13,6 +15,8 @@ use crate::job::Job;
 use crate::judge_build;
 use crate::judge_line::{self, token};
 use crate::line_input::{LineInput, LineOutcome};
+use crate::options::Options;
+use crate::owners;
 use crate::records::{bodies, u32_at, write, Pending, Record};
 use std::collections::HashMap;
 
@@ -22,7 +26,8 @@ pub enum Judge {
     /// Refusals 1 and 2, which the Rust does not have.
     Model,
     Rust,
-    /// The second implementation, and the Rust's answer with the listed points put in.
+    /// The second implementation, and the Rust's answer with the listed points put in or on other
+    /// names.
     Second,
 }
 
@@ -35,16 +40,18 @@ impl Judged {
         self.0[judge as usize] += 1;
     }
 
-    pub fn text(&self, job: Job) -> String {
+    pub fn text(&self, options: &Options) -> String {
         let [model, rust, second] = self.0;
-        let jobs = match job {
-            Job::Commit => return String::new(),
-            Job::Manual => "manual",
-            Job::Release6 => "Release 6",
+        let calls = match (options.job, options.owners) {
+            (Job::Commit, false) => return String::new(),
+            (Job::Commit, true) => "labels with owners",
+            (Job::Manual, false) => "manual jobs",
+            (Job::Manual, true) => "manual jobs, labels with owners",
+            (Job::Release6, _) => "Release 6 jobs",
         };
 
         format!(
-            "{jobs} jobs, judged by document 01's refusals 1 and 2 {model}, by the Rust {rust}, \
+            "{calls}, judged by document 01's refusals 1 and 2 {model}, by the Rust {rust}, \
              by the second implementation {second}\n"
         )
     }
@@ -210,15 +217,15 @@ pub fn build(job: Job, input: &BuildInput) -> (BuildOutcome, Judge) {
         return (rust, Judge::Model);
     }
 
-    match first_outside(input).filter(|_| job != Job::Commit) {
+    let renamed = owners::renamed(input);
+
+    match first_outside(&renamed).filter(|_| job != Job::Commit) {
+        None if owners::has(input) => (rust, Judge::Second),
         None => (rust, Judge::Rust),
         Some((before, refusal)) => {
             // The Rust judges the patches before it, then that branch is refused.
             let pending = write(&before);
-            let rust = judge_build::expected(&BuildInput {
-                pending,
-                ..input.clone()
-            });
+            let rust = judge_build::judge(&BuildInput { pending, ..renamed });
 
             match rust.answer.number {
                 0 => (input.refused(refusal), Judge::Second),
@@ -229,7 +236,7 @@ pub fn build(job: Job, input: &BuildInput) -> (BuildOutcome, Judge) {
 }
 
 /// The first branch, in patch order, whose distance lies outside -32,768 to 32,767: the patches
-/// before it, and its refusal.
+/// before it, and its refusal. All labels are for all.
 fn first_outside(input: &BuildInput) -> Option<(Vec<Record>, Answer)> {
     let labels: HashMap<&[u8], u32> = bodies(&input.labels)
         .map(|(_, _, body)| (&body[4..], u32_at(body, 0)))

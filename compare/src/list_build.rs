@@ -5,6 +5,7 @@ use crate::build_input::{BuildInput, BuildOutcome};
 use crate::job::Job;
 use crate::judge_build;
 use crate::list::{build_call, by_length, fault, fits, is_long, Call, Chosen, Class};
+use crate::owners;
 use crate::records::{bodies, u32_at, Pending, Reference};
 use crate::run_build::generated;
 
@@ -14,7 +15,7 @@ pub fn buffers(input: &BuildInput) -> [&Vec<u8>; 4] {
 
 /// The call of this index, where `replay` has room for it.
 pub fn listed(seed: u64, index: u64) -> Option<(BuildInput, Call)> {
-    let (_, input) = generated(seed, index, Job::Commit);
+    let (_, input) = generated(seed, index, Job::Commit, false);
     if !fits(&buffers(&input)) {
         return None;
     }
@@ -45,6 +46,7 @@ fn classes(input: &BuildInput, expected: &BuildOutcome) -> Vec<Class> {
         return vec![fault(answer, &buffers(input))];
     }
 
+    let input = &owners::renamed(input);
     let pending: Vec<Pending> = bodies(&input.pending)
         .map(|(_, _, body)| Pending::read(body))
         .collect();

@@ -22,6 +22,7 @@ mod count_forms;
 mod damage;
 mod damage_build;
 mod damage_line;
+mod damage_owners;
 mod descriptors;
 mod dry_run;
 mod dry_run_generate;
@@ -33,6 +34,7 @@ mod generate_full_build;
 mod generate_full_line;
 mod generate_job_line;
 mod generate_line;
+mod generate_owners;
 mod job;
 mod judge_build;
 mod judge_job;
@@ -48,6 +50,7 @@ mod names;
 mod operands;
 mod options;
 mod other;
+mod owners;
 mod random;
 mod records;
 mod run_build;
@@ -66,6 +69,7 @@ mod text_library;
 mod text_run;
 mod tokens;
 
+use other::Other;
 use std::process::ExitCode;
 
 fn main() -> ExitCode {
@@ -82,7 +86,11 @@ fn main() -> ExitCode {
     judge_build::keep_its_panics_quiet();
 
     let agreed = match options.mode.as_str() {
-        "bench" if has_build => bench::run(&options) && (!has_line || bench_line::run()),
+        "bench" if has_build => {
+            // Lines are timed with the library alone.
+            let lines = has_line && options.other == Other::Library;
+            bench::run(&options) && (!lines || bench_line::run())
+        }
         "build" if has_build => run_build::run(&options),
         "line" if has_line => run_line::run(&options),
         "list" if has_build && has_line => list::run(&options),

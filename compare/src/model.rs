@@ -1,5 +1,5 @@
-//! Refusals 1 and 2 of a build call and the place of refusal 14, from document 01 alone: the
-//! Rust takes no record lists and panics at 14, so it cannot judge these.
+//! Refusals 1 and 2 of a build call and the place of refusal 14, from document 01 and document
+//! 02's P6 alone: the Rust takes no record lists and panics at 14, so it cannot judge these.
 //!
 //! This side lists every fault of a call and takes the least.
 
@@ -25,9 +25,23 @@ fn refusal(number: u32, a: u32, b: u32) -> Answer {
     }
 }
 
-/// "Label: address (4), name of 1 to 64."
-fn is_label(body: &[u8]) -> bool {
-    body.len() > 4 && is_name(&body[4..], 1..=64)
+/// "Label: address (4), name of 1 to 64." "a new kind 41 has a 4-byte owner after its address, a
+/// source number below 0xFFFFFFFF"
+fn is_label(kind: u16, body: &[u8]) -> bool {
+    match kind {
+        34 => body.len() > 4 && is_name(&body[4..], 1..=64),
+        41 => body.len() > 8 && body[4..8] != [0xff; 4] && is_name(&body[8..], 1..=64),
+        _ => false,
+    }
+}
+
+/// What two labels may not share: "Two labels of one name get refusal 2 only with the same owner
+/// or none."
+fn owner_and_name(kind: u16, body: &[u8]) -> (Option<Vec<u8>>, Vec<u8>) {
+    match kind {
+        41 => (Some(body[4..8].to_vec()), body[8..].to_vec()),
+        _ => (None, body[4..].to_vec()),
+    }
 }
 
 /// "Region: address (4), data."
@@ -62,7 +76,7 @@ pub fn is_pending(body: &[u8], limit: usize) -> bool {
 pub fn refusal_of_lists(input: &BuildInput) -> Option<Answer> {
     let mut faults = Faults::new();
 
-    let labels = List::of(&input.labels, LABELS, 34, is_label, &mut faults);
+    let labels = List::of_kinds(&input.labels, LABELS, is_label, &mut faults);
     List::of(&input.entry, ENTRY, 38, is_reference, &mut faults).at_most(1, &mut faults);
     let regions = List::of(&input.regions, REGIONS, 35, is_region, &mut faults);
     regions.at_most(16, &mut faults);
@@ -88,7 +102,7 @@ pub fn refusal_of_lists(input: &BuildInput) -> Option<Answer> {
 
     // "Two descriptors or two labels share a name (a: buffer, b: place of the later; the least b)."
     labels
-        .least_repeat(|body| body[4..].to_vec())
+        .least_repeat(owner_and_name)
         .map(|place| refusal(2, LABELS, place))
 }
 
@@ -108,9 +122,9 @@ pub fn first_past_end(input: &BuildInput) -> Option<(u32, u32)> {
 
     let mut first: HashMap<u64, (u32, u32)> = HashMap::new();
 
-    for (_, body) in &pending.records {
+    for (_, _, body) in &pending.records {
         let region = number(&body[0..2]);
-        let data = regions.records[region as usize].1.len() as u64 - 4;
+        let data = regions.records[region as usize].2.len() as u64 - 4;
 
         if number(&body[2..6]) + 4 > data {
             let location = (number(&body[6..10]) as u32, number(&body[10..14]) as u32);

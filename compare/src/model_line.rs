@@ -154,7 +154,7 @@ pub fn refusal_of_lists(input: &LineInput) -> Option<Answer> {
     }
 
     descriptors
-        .least_repeat(|body| body[8..].to_vec())
+        .least_repeat(|_, body| body[8..].to_vec())
         .map(|place| refusal(2, DESCRIPTORS, place))
 }
 

@@ -1,6 +1,7 @@
 //! Record lists as refusal 1 sees them: which records of one buffer break the layout, and where.
 
 use std::collections::HashSet;
+use std::hash::Hash;
 use std::ops::RangeInclusive;
 
 /// "A lent buffer is at most 65,536 bytes."
@@ -27,7 +28,8 @@ impl Faults {
 /// The records of a list, as far as one can be told from the next.
 pub struct List<'a> {
     buffer: u32,
-    pub records: Vec<(usize, &'a [u8])>,
+    /// Each with its place and kind.
+    pub records: Vec<(usize, u16, &'a [u8])>,
 }
 
 impl<'a> List<'a> {
@@ -81,7 +83,7 @@ impl<'a> List<'a> {
                 faults.add(buffer, place);
             }
 
-            list.records.push((place, body));
+            list.records.push((place, met, body));
             rest = next;
         }
 
@@ -90,19 +92,19 @@ impl<'a> List<'a> {
 
     /// A record too many is a fault at its own place.
     pub fn at_most(&self, count: usize, faults: &mut Faults) {
-        if let Some((place, _)) = self.records.get(count) {
+        if let Some((place, ..)) = self.records.get(count) {
             faults.add(self.buffer, *place);
         }
     }
 
     /// The place of the first record whose name an earlier one has.
-    pub fn least_repeat(&self, name: impl Fn(&[u8]) -> Vec<u8>) -> Option<u32> {
+    pub fn least_repeat<N: Eq + Hash>(&self, name: impl Fn(u16, &[u8]) -> N) -> Option<u32> {
         let mut seen = HashSet::new();
 
         self.records
             .iter()
-            .find(|(_, body)| !seen.insert(name(body)))
-            .map(|(place, _)| *place as u32)
+            .find(|(_, kind, body)| !seen.insert(name(*kind, body)))
+            .map(|(place, ..)| *place as u32)
     }
 }
 

@@ -10,6 +10,8 @@ pub struct Options {
     pub seed: u64,
     pub other: Other,
     pub job: Job,
+    /// Whether the generated labels have owners.
+    pub owners: bool,
 }
 
 pub fn read() -> Result<Options, String> {
@@ -23,6 +25,7 @@ pub fn read() -> Result<Options, String> {
         seed: 1,
         other: Other::Library,
         job: Job::Commit,
+        owners: false,
     };
 
     while let Some(word) = words.next() {
@@ -37,10 +40,15 @@ pub fn read() -> Result<Options, String> {
             "--count" => options.count = number()?,
             "--seed" => options.seed = number()?,
             "--self" => options.other = Other::Second,
+            "--owners" => options.owners = true,
             "--manual" => options.job = Job::Manual,
             "--release6" => options.job = Job::Release6,
             _ => return Err(format!("unknown word {word}")),
         }
+    }
+
+    if options.owners && options.mode != "build" {
+        return Err("--owners goes with build".to_string());
     }
 
     match (options.job, options.mode.as_str()) {

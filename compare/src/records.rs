@@ -9,6 +9,7 @@ pub mod kind {
     pub const PENDING: u16 = 36;
     pub const BREAKPOINT: u16 = 37;
     pub const ENTRY: u16 = 38;
+    pub const OWNED_LABEL: u16 = 41;
 }
 
 #[derive(Clone, Debug)]
@@ -58,6 +59,39 @@ pub fn u32_at(bytes: &[u8], place: usize) -> u32 {
 
 pub fn u64_at(bytes: &[u8], place: usize) -> u64 {
     u64::from_le_bytes(bytes[place..place + 8].try_into().unwrap())
+}
+
+/// A label of one owner, or of none: the one for all files.
+#[derive(Clone, Debug)]
+pub struct Label {
+    pub address: u32,
+    pub owner: Option<u32>,
+    pub name: Vec<u8>,
+}
+
+impl Label {
+    pub fn record(&self) -> Record {
+        match self.owner {
+            None => addressed(kind::LABEL, self.address, &self.name),
+            Some(owner) => {
+                let rest = [&owner.to_le_bytes(), &self.name[..]].concat();
+                addressed(kind::OWNED_LABEL, self.address, &rest)
+            }
+        }
+    }
+
+    pub fn read(kind: u16, body: &[u8]) -> Label {
+        let (owner, name) = match kind {
+            kind::OWNED_LABEL => (Some(u32_at(body, 4)), 8),
+            _ => (None, 4),
+        };
+
+        Label {
+            address: u32_at(body, 0),
+            owner,
+            name: body[name..].to_vec(),
+        }
+    }
 }
 
 /// Form, value, location and name, as pending and entry records have them.

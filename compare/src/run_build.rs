@@ -3,8 +3,10 @@
 use crate::answer::{Answer, Tally};
 use crate::build_input::BuildInput;
 use crate::damage_build::damaged;
+use crate::damage_owners::damage_labels;
 use crate::generate_build::well_formed;
 use crate::generate_full_build::full_list;
+use crate::generate_owners::{full_labels, put_owners};
 use crate::job::Job;
 use crate::judge_job::{self, Judge, Judged};
 use crate::model;
@@ -19,7 +21,7 @@ pub fn run(options: &Options) -> bool {
     let mut whole = 0u64;
 
     for index in 0..options.count {
-        let (well, input) = generated(options.seed, index, options.job);
+        let (well, input) = generated(options.seed, index, options.job, options.owners);
 
         if well {
             whole += 1;
@@ -45,7 +47,7 @@ pub fn run(options: &Options) -> bool {
     );
     println!("well-formed inputs {whole}");
     println!("damaged inputs {}", options.count - whole);
-    print!("{}", judged.text(options.job));
+    print!("{}", judged.text(options));
     print!("{}", tally.text());
     println!("0 differ");
 
@@ -53,13 +55,21 @@ pub fn run(options: &Options) -> bool {
 }
 
 /// A build call, and whether it was made well formed.
-pub fn generated(seed: u64, index: u64, job: Job) -> (bool, BuildInput) {
+pub fn generated(seed: u64, index: u64, job: Job, owners: bool) -> (bool, BuildInput) {
     let mut random = Random::of(seed, index);
     let well = random.one_in(2);
     let full = well && random.one_in(400);
-    let lists = well_formed(&mut random, job);
+    let mut lists = well_formed(&mut random, job);
+
+    if owners {
+        put_owners(&mut random, &mut lists);
+        if !well {
+            damage_labels(&mut random, &mut lists.labels);
+        }
+    }
 
     let input = match (well, full) {
+        (true, true) if owners && random.one_in(2) => full_labels(&mut random, lists).write(),
         (true, true) => full_list(&mut random, lists).write(),
         (true, false) => lists.write(),
         (false, _) => damaged(&mut random, lists),

@@ -54,7 +54,7 @@ pub fn run(options: &Options) -> bool {
     );
     println!("well-formed inputs {whole}");
     println!("damaged inputs {}", options.count - whole);
-    print!("{}", judged.text(options.job));
+    print!("{}", judged.text(options));
     print!("{}", tally.text());
     println!("accepted lines of each encoding, in order: {encodings:?}");
     println!("accepted lines of each pseudo-instruction, in the Rust's order: {pseudo:?}");

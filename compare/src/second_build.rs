@@ -1,5 +1,6 @@
-//! A second build, whole, written from document 01 and apart from the model and the Rust: the
-//! other side of a --self run. It walks the lists in order and stops at the first fault.
+//! A second build, whole, written from document 01, for labels with owners from document 02's P6,
+//! and apart from the model and the Rust: the other side of a --self run. It walks the lists in
+//! order and stops at the first fault.
 
 use crate::answer::{Answer, NO_ENTRY};
 use crate::build_input::{BuildInput, BuildOutcome};
@@ -31,8 +32,16 @@ struct Region {
     length: usize,
 }
 
-struct Lists {
-    labels: Vec<usize>,
+struct Label<'a> {
+    place: usize,
+    address: u32,
+    /// None for all files.
+    owner: Option<u32>,
+    name: &'a [u8],
+}
+
+struct Lists<'a> {
+    labels: Vec<Label<'a>>,
     entry: Option<usize>,
     regions: Vec<Region>,
     /// Places of the pending records in patch order.
@@ -62,13 +71,13 @@ fn check_and_patch(job: Job, input: &BuildInput) -> Result<BuildOutcome, Refused
     // Refusal 2.
     for (count, later) in lists.labels.iter().enumerate() {
         for earlier in &lists.labels[..count] {
-            if name_of(&input.labels, *earlier, 8) == name_of(&input.labels, *later, 8) {
+            if (earlier.owner, earlier.name) == (later.owner, later.name) {
                 return Err(Refused {
                     number: 2,
                     source: 0,
                     index: 0,
                     a: 0,
-                    b: *later as u32,
+                    b: later.place as u32,
                 });
             }
         }
@@ -76,7 +85,7 @@ fn check_and_patch(job: Job, input: &BuildInput) -> Result<BuildOutcome, Refused
 
     let entry = match lists.entry {
         None => 0x0040_0000,
-        Some(place) => destination(input, &lists, &input.entry, place + 4, 13)?,
+        Some(place) => destination(&lists, &input.entry, place + 4, 13)?,
     };
 
     let mut regions = input.regions.to_vec();
@@ -92,11 +101,8 @@ fn check_and_patch(job: Job, input: &BuildInput) -> Result<BuildOutcome, Refused
 }
 
 /// Refusal 1 over the four lists in argument order.
-fn read(input: &BuildInput) -> Result<Lists, Refused> {
-    let labels = walk(&input.labels, |place, length, kind| {
-        kind == 34 && length > 4 && length <= 68 && text_ok(&input.labels, place + 8, length - 4)
-    });
-    let labels = stop(0, labels)?;
+fn read(input: &BuildInput) -> Result<Lists<'_>, Refused> {
+    let labels = labels(&input.labels)?;
 
     let entry = walk(&input.entry, |place, length, kind| {
         place == 0 && kind == 38 && reference_size_ok(&input.entry, place + 4, length)
@@ -147,19 +153,35 @@ fn stop(buffer: u32, walk: Walk) -> Result<Vec<usize>, Refused> {
     }
 }
 
+fn labels(list: &[u8]) -> Result<Vec<Label<'_>>, Refused> {
+    let good = |place, length, kind| match kind {
+        34 => length > 4 && length <= 68 && text_ok(list, place + 8, length - 4),
+        41 if length > 8 && length <= 72 => {
+            list.number32(place + 8) < 0xffff_ffff && text_ok(list, place + 12, length - 8)
+        }
+        _ => false,
+    };
+    let label = |place: usize| {
+        let owned = list.number16(place + 2) == 41;
+
+        Label {
+            place,
+            address: list.number32(place + 4),
+            owner: owned.then(|| list.number32(place + 8)),
+            name: name_of(list, place, if owned { 12 } else { 8 }),
+        }
+    };
+
+    Ok(stop(0, walk(list, good))?.into_iter().map(label).collect())
+}
+
 fn name_of(list: &[u8], place: usize, skipped: usize) -> &[u8] {
     &list[place + skipped..place + 4 + list.number16(place) as usize]
 }
 
 /// "A destination is a constant's low 32 bits, or label address plus offset. The sum wraps at
 /// 2^32." `form` is the place of the form byte; an unknown name gets refusal `unknown`.
-fn destination(
-    input: &BuildInput,
-    lists: &Lists,
-    list: &[u8],
-    form: usize,
-    unknown: u32,
-) -> Result<u32, Refused> {
+fn destination(lists: &Lists, list: &[u8], form: usize, unknown: u32) -> Result<u32, Refused> {
     let low = list.number32(form + 1);
 
     if list[form] == 0 {
@@ -169,17 +191,21 @@ fn destination(
     // The record's end: an entry's form comes first in its body, a pending's behind 15 bytes.
     let start = if unknown == 13 { form - 4 } else { form - 19 };
     let name = name_of(list, start, form + 17 - start);
+    let source = list.number32(form + 9);
 
-    for label in &lists.labels {
-        if name_of(&input.labels, *label, 8) == name {
-            let address = input.labels.number32(label + 4);
-            return Ok(((address as u64 + low as u64) % (1 << 32)) as u32);
+    // "first to the label whose owner equals the source in the name's location, then to the one
+    // for all"
+    for owner in [Some(source), None] {
+        for label in &lists.labels {
+            if label.owner == owner && label.name == name {
+                return Ok(((label.address as u64 + low as u64) % (1 << 32)) as u32);
+            }
         }
     }
 
     Err(Refused {
         number: unknown,
-        source: list.number32(form + 9),
+        source,
         index: list.number32(form + 13),
         a: 0,
         b: 0,
@@ -208,7 +234,7 @@ fn patch(
         return Err(refused(14, 0, 0));
     }
 
-    let target = destination(input, lists, list, place + 19, 15)?;
+    let target = destination(lists, list, place + 19, 15)?;
     let pc = (region.address as u64 + offset as u64) % (1 << 32);
     let next = (pc + 4) % (1 << 32);
     let out = || refused(16, target, pc as u32);

@@ -10,6 +10,7 @@ use Rattle.instructions.specs.declared.Size.the-variants.{Single, Double, Word}
 use Rattle.instructions.specs.declared.Encoding.{Encoding}
 use Rattle.instructions.specs.declared.Encoding.the-variants.{Register, RegisterShift, Source, Destination, Inputs, Sham, SpecialBranch, Immediate, LoadImmediate, Jump, Branch, BranchZero, Parameterless, Offset, FPOffset, FP3Register, FP2Register, FPMove, FPCond, FPCrossMove, FPBranch}
 use Rattle.jobs.specs.declared.Job.the-variants.{Commit, Manual}
+use Rattle.labels.specs.Labels.{Table as LabelTable, tableOf}
 use Rattle.lexer.specs.Tokens.{tokens, payloadOf}
 use Rattle.operand.specs.Answers.{Answer, Got, Missed}
 use Rattle.operand_list.specs.OperandLists.{AskedAll, readOperands, readOperand}
@@ -31,7 +32,7 @@ use Rattle.finished_words.specs.InstanceTables.{labels₁, entry, regions, pend
 use Rattle.reading.specs.Premises.{Premises}
 use Rattle.reading.specs.Instance.{instance₁}
 use Rattle.example_lists.specs.Lists.{register, integer, comma, «sll», descriptor, line}
-use Rattle.names.specs.Names.{firstNamed}
+use Rattle.names.specs.Names.{firstWhere}
 use Rattle.record.specs.Bytes.{all, sameBytes}
 use Rattle.record.specs.Records.{places, placesFrom, placesF}
 use Rattle.operands.specs.Operands.{getRegister, getConstant, getInteger, signed}
@@ -108,7 +109,7 @@ range-same Upper pc dest h = refl
 range-same Full pc dest h = refl
 
 -- the whole outcome of a build: its answer and every byte of the region list
-pub build-as-commit : (labels regions pending : List ℕ) → UnlistedBuild labels regions pending → (entry : List ℕ)
+pub build-as-commit : (labels : LabelTable) (regions pending : List ℕ) → UnlistedBuild labels regions pending → (entry : List ℕ)
     → buildOutcome Manual labels entry regions pending ≡ buildOutcome Commit labels entry regions pending
 build-as-commit labels regions pending unlisted =
     build-same Manual Commit labels regions pending
@@ -117,7 +118,7 @@ build-as-commit labels regions pending unlisted =
     range-same (q .kind) (pcOf (regionFor regions q) q) dest (λ k. unlisted p dest m k e))
 
 -- builds that meet the tender's premises have no listed point
-pub premises-as-commit : (labels entry regions pending : List ℕ) → Premises Commit labels entry regions pending
+pub premises-as-commit : (labels : LabelTable) (entry regions pending : List ℕ) → Premises Commit labels entry regions pending
     → buildOutcome Manual labels entry regions pending ≡ buildOutcome Commit labels entry regions pending
 premises-as-commit labels entry regions pending pr =
     build-as-commit labels regions pending
@@ -126,12 +127,12 @@ premises-as-commit labels entry regions pending pr =
 
 -- ---- such a build, and such a line: sll $t0,$t1,31 (Func 0)
 
-pub met-build : buildOutcome Manual labels₁ entry regions pending ≡ buildOutcome Commit labels₁ entry regions pending
-met-build = premises-as-commit labels₁ entry regions pending (instance₁ Commit)
+pub met-build : buildOutcome Manual (tableOf labels₁) entry regions pending ≡ buildOutcome Commit (tableOf labels₁) entry regions pending
+met-build = premises-as-commit (tableOf labels₁) entry regions pending (instance₁ Commit)
 
 abbrev pub sll31 : Call
 sll31 = line «sll» (descriptor 1 0 5 «sll») (register 8 ++ comma ++ register 9 ++ comma ++ integer 31)
 
 pub met-line : emitOutcome Manual sll31 ≡ emitOutcome Commit sll31
-unfolding meaning mnemonicName firstNamed all sameBytes places placesFrom placesF tokens payloadOf readOperands readOperand getRegister getConstant getInteger signed passed peek step nextAdjacent peekAdjacent pseudoIn
+unfolding meaning mnemonicName firstWhere all sameBytes places placesFrom placesF tokens payloadOf readOperands readOperand getRegister getConstant getInteger signed passed peek step nextAdjacent peekAdjacent pseudoIn
 met-line = line-as-commit sll31 (omega arith)

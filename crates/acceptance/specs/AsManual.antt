@@ -22,6 +22,7 @@ use Rattle.operand.specs.Answers.{Answer, Got, Missed}
 use Rattle.operand_list.specs.OperandLists.{AskedAll, readOperand, readOperands}
 use Rattle.descriptors.specs.Descriptors.{fieldsOk, descriptorOk, descriptorLayout, instructionAt}
 use Rattle.descriptors.specs.Mnemonics.{mnemonicOk, oneMnemonic, mnemonicLayout, mnemonicName, mnemonicLocation}
+use Rattle.labels.specs.Labels.{Table as LabelTable}
 use Rattle.pending.specs.declared.InstructionLabelKind.{InstructionLabelKind}
 use Rattle.pending.specs.declared.InstructionLabelKind.the-variants.{Branch as BranchKind, Jump as JumpKind, Lower, Upper, Full}
 use Rattle.pending.specs.Pendings.{pendingAt}
@@ -45,7 +46,7 @@ use Rattle.emit_outcome.specs.declared.Meaning.the-variants.{Table, Builtin, Ne
 use Rattle.registers.specs.declared.RegisterSlot.the-variants.{Temporary0}
 use Rattle.record.specs.Bytes.{all, sameBytes}
 use Rattle.record.specs.Records.{placesF, placesFrom, places, firstBad, firstBadOf, withinLimit}
-use Rattle.names.specs.Names.{firstNamed, firstLater, firstRepeat}
+use Rattle.names.specs.Names.{firstWhere, firstLater}
 use Rattle.pseudo_names.specs.PseudoNames.{pseudoIn}
 use Rattle.pending.specs.Pendings.{pendingOk}
 use Rattle.cursor.specs.Cursors.{passed, peek, step, nextAdjacent, peekAdjacent}
@@ -233,7 +234,7 @@ range-same Lower pc dest = refl
 range-same Upper pc dest = refl
 range-same Full pc dest = refl
 
-pub build-as-manual : (labels entry regions pending : List ℕ) → buildOutcome Release6 labels entry regions pending ≡ buildOutcome Manual labels entry regions pending
+pub build-as-manual : (labels : LabelTable) (entry regions pending : List ℕ) → buildOutcome Release6 labels entry regions pending ≡ buildOutcome Manual labels entry regions pending
 build-as-manual labels entry regions pending =
     build-same Release6 Manual labels regions pending
     (λ p dest m e. let q = pendingAt pending p in range-same (q .kind) (pcOf (regionFor regions q) q) dest)
@@ -242,7 +243,7 @@ build-as-manual labels entry regions pending =
 -- ---- such lines: sll $t0,$t1,31 (Func 0), jr $ra (Func 8) and mflo $t0 (Func 18)
 
 pub met-line : emitOutcome Release6 sll31 ≡ emitOutcome Manual sll31
-unfolding meaning mnemonicName firstNamed all sameBytes places placesFrom placesF tokens payloadOf readOperands readOperand getRegister getConstant getInteger signed passed peek step nextAdjacent peekAdjacent pseudoIn
+unfolding meaning mnemonicName firstWhere all sameBytes places placesFrom placesF tokens payloadOf readOperands readOperand getRegister getConstant getInteger signed passed peek step nextAdjacent peekAdjacent pseudoIn
 met-line = line-as-manual sll31 (refl, λ e. refl)
 
 abbrev jrRa : Call
@@ -252,9 +253,9 @@ abbrev mfloT0 : Call
 mfloT0 = line «mflo» (descriptor 1 18 3 «mflo») (register 8)
 
 pub met-jr : emitOutcome Release6 jrRa ≡ callLine jrRa (encodingLine Manual Source (Func 9) (tokens (jrRa .token-list)) (startOf jrRa))
-unfolding listStop layoutStop meaning mnemonicName mnemonicOk oneMnemonic mnemonicLayout fieldsOk descriptorOk descriptorLayout breakpointOk filledLayout pendingBufferLayout breakpointBufferLayout dataBufferLayout pendingOk payloadOk tokenOk tokenLayout firstNamed firstLater firstRepeat firstBad firstBadOf withinLimit all sameBytes places placesFrom placesF payloadOf tokens pseudoIn
+unfolding listStop layoutStop meaning mnemonicName mnemonicOk oneMnemonic mnemonicLayout fieldsOk descriptorOk descriptorLayout breakpointOk filledLayout pendingBufferLayout breakpointBufferLayout dataBufferLayout pendingOk payloadOk tokenOk tokenLayout firstWhere firstLater firstBad firstBadOf withinLimit all sameBytes places placesFrom placesF payloadOf tokens pseudoIn
 met-jr = jr-line jrRa 0 (record { lists-pass = refl; found = refl }) refl refl
 
 pub met-dropped : emitOutcome Release6 mfloT0 ≡ refuse (mfloT0 .numbers .counts) (mfloT0 .lent) 1 (DroppedInstruction (mnemonicLocation (mfloT0 .mnemonic)))
-unfolding listStop layoutStop meaning mnemonicName mnemonicOk oneMnemonic mnemonicLayout fieldsOk descriptorOk descriptorLayout breakpointOk filledLayout pendingBufferLayout breakpointBufferLayout dataBufferLayout pendingOk payloadOk tokenOk tokenLayout firstNamed firstLater firstRepeat firstBad firstBadOf withinLimit all sameBytes places placesFrom placesF payloadOf tokens pseudoIn readOperands readOperand getRegister passed peek step
+unfolding listStop layoutStop meaning mnemonicName mnemonicOk oneMnemonic mnemonicLayout fieldsOk descriptorOk descriptorLayout breakpointOk filledLayout pendingBufferLayout breakpointBufferLayout dataBufferLayout pendingOk payloadOk tokenOk tokenLayout firstWhere firstLater firstBad firstBadOf withinLimit all sameBytes places placesFrom placesF payloadOf tokens pseudoIn readOperands readOperand getRegister passed peek step
 met-dropped = dropped-line mfloT0 0 (record { lists-pass = refl; found = refl }) (Temporary0, tt, tt) refl refl

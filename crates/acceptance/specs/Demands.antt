@@ -6,6 +6,7 @@ use mathlib.Core.List.{List}
 use mathlib.Core.Option.{some}
 use lib.ListN.{length}
 use Rattle.jobs.specs.declared.Job.{Job}
+use Rattle.labels.specs.Labels.{Table, tableOf}
 use Rattle.refusal.specs.declared.Refusal.{Refusal}
 use Rattle.refusal.specs.declared.Verdict.{Verdict}
 use Rattle.refusal.specs.declared.Verdict.the-variants.{Pass, Stop}
@@ -45,7 +46,7 @@ listsOf c = listStop (c .token-list) (c .mnemonic) (c .descriptors) (c .lent) (c
 pub record Demand1 : Type 0 where
   pub line-lists : (job : Job) (c : Call) (r : Refusal) → listsOf c ≡ Stop r → emitOutcome job c ≡ refuse (c .numbers .counts) (c .lent) (c .numbers .place .position) r
   pub line-refused : (job : Job) (c : Call) (r : Refusal) (p : ℕ) → emitOutcome job c .answer ≡ LineRefused r p → emitOutcome job c ≡ refuse (c .numbers .counts) (c .lent) p r
-  pub build-refused : (job : Job) (labels entry regions pending : List ℕ) (r : Refusal) → buildVerdict job labels entry regions pending ≡ Stop r
+  pub build-refused : (job : Job) (labels : Table) (entry regions pending : List ℕ) (r : Refusal) → buildVerdict job labels entry regions pending ≡ Stop r
       → buildOutcome job labels entry regions pending ≡ record { answer = BuildRefused r; regions = regions }
 
 -- 2. "refusal, position, words, pending patches, breakpoints, image and entry equal the Rust's, shown by differential runs and proved against the
@@ -54,19 +55,19 @@ pub record Demand2 : Type 1 where
   pub table : MarkedTable
   pub words : (job : Job) (o : Operation) (ts : List Token) (i : ℕ) → lineOf job o ts i .answer ≡ Made
       → LineWords job o (readOperands (wantsOf o) ts i .answer) (wordsOf (lineOf job o ts i .pairs))
-  pub patched : (job : Job) (labels entry regions pending : List ℕ) → buildVerdict job labels entry regions pending ≡ Pass
+  pub patched : (job : Job) (labels : Table) (entry regions pending : List ℕ) → buildVerdict job labels entry regions pending ≡ Pass
       → Finished labels regions pending (buildOutcome job labels entry regions pending .regions)
 
 -- 3. "document 01's MIPS32 reading of each patch in the finished words, by its kind, equals its destination, and two label tables that differ in a
 -- used address never share an image with its entry"; "the words emitted to load the constant .. leave its low 32 bits in the chosen register,
 -- unless that is $zero, and alter no other."
 pub record Demand3 : Type 0 where
-  pub read-back : (job : Job) (labels entry regions pending : List ℕ) → Premises job labels entry regions pending
+  pub read-back : (job : Job) (labels : Table) (entry regions pending : List ℕ) → Premises job labels entry regions pending
       → readings (imageOf (buildOutcome job labels entry regions pending .regions)) pending ≡ destinations labels pending
   pub apart : (job : Job) (labels₁ labels₂ entry regions pending : List ℕ) → Bytes labels₁ → Bytes labels₂
-      → Premises job labels₁ entry regions pending → Premises job labels₂ entry regions pending → (SameUsed labels₁ labels₂ entry pending → ⊥)
-      → imageOf (buildOutcome job labels₁ entry regions pending .regions) ≡ imageOf (buildOutcome job labels₂ entry regions pending .regions)
-      → buildOutcome job labels₁ entry regions pending .answer ≡ buildOutcome job labels₂ entry regions pending .answer → ⊥
+      → Premises job (tableOf labels₁) entry regions pending → Premises job (tableOf labels₂) entry regions pending → (SameUsed (tableOf labels₁) (tableOf labels₂) entry pending → ⊥)
+      → imageOf (buildOutcome job (tableOf labels₁) entry regions pending .regions) ≡ imageOf (buildOutcome job (tableOf labels₂) entry regions pending .regions)
+      → buildOutcome job (tableOf labels₁) entry regions pending .answer ≡ buildOutcome job (tableOf labels₂) entry regions pending .answer → ⊥
   pub constants : (c t : ℕ) (g : Registers) → t < 32 → length g ≡ 32 → Loads c t g
   pub lines : (job : Job) (c : Call) (position : ℕ) (loaded : LoadForm) → emitOutcome job c .answer ≡ Done position loaded → (l : LoadedConstant) → callLoads c ≡ some l → ConstantAppended job c l
 

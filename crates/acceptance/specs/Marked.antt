@@ -12,11 +12,11 @@ use Rattle.record.specs.Bytes.{all, sameBytes}
 use Rattle.record.specs.Records.{placesF, placesFrom, places, firstBad, firstBadOf, withinLimit}
 use Rattle.refusal.specs.Numbers.{zeroLocation}
 use Rattle.refusal.specs.Verdicts.{firstStop}
-use Rattle.names.specs.Names.{firstNamed, firstLater, firstRepeat}
+use Rattle.names.specs.Names.{firstWhere, firstLater}
 use Rattle.loading.specs.declared.LoadForm.the-variants.{Nothing as Unloaded, Addiu, Ori, Lui, BothHalves}
 use Rattle.loading.specs.Load.{isSmall, formOf, loadWords}
 use Rattle.lexer.specs.Tokens.{payloadOf, payloadOk, tokenOk, tokenLayout, tokens}
-use Rattle.labels.specs.Labels.{labelOk, labelLayout, resolve}
+use Rattle.labels.specs.Labels.{labelOk, labelLayout, resolve, tableOf}
 use Rattle.regions.specs.Regions.{regionOk, regionRecords, regionLayout}
 use Rattle.address_label.specs.AddressLabels.{addressLabelOk}
 use Rattle.address_label.specs.Entries.{entryOk, entryLayout}
@@ -54,8 +54,8 @@ pub record LineRefuses (job : Job) (call : Call) (number : ℕ) (a : ℤ) (b pos
   pub lent-stays : emitOutcome job call .lent ≡ call .lent
 
 pub record BuildRefuses (job : Job) (regions pending : List ℕ) (number : ℕ) (a : ℤ) (b : ℕ) : Type 0 where
-  pub returned-is : buildReturned (buildOutcome job [] [] regions pending .answer) ≡ record { number = number; location = zeroLocation; a = a; b = b; entry = 0 }
-  pub regions-stay : buildOutcome job [] [] regions pending .regions ≡ regions
+  pub returned-is : buildReturned (buildOutcome job (tableOf []) [] regions pending .answer) ≡ record { number = number; location = zeroLocation; a = a; b = b; entry = 0 }
+  pub regions-stay : buildOutcome job (tableOf []) [] regions pending .regions ≡ regions
 
 -- an accepted build without an entry record
 abbrev pub builds : (regions : List ℕ) → BuildOutcome
@@ -84,11 +84,11 @@ pub record ManualRows : Type 0 where
   -- bc1t 8: the label is missed first, refusal 4
   pub code-alone : LineRefuses Manual (line «bc1t» (floatDescriptor 5 8 20 0 1 «bc1t») (integer 8)) 4 (pos 0) 0 1
   -- b, pc 00400000 to 00420000
-  pub b-forward : buildOutcome Manual [] [] (region 0x00400000 0x10000000) (patch 0 0x00420000) ≡ builds (region 0x00400000 0x10007fff)
+  pub b-forward : buildOutcome Manual (tableOf []) [] (region 0x00400000 0x10000000) (patch 0 0x00420000) ≡ builds (region 0x00400000 0x10007fff)
   -- b, pc 00400000 to 00420004: refusal 16
   pub b-too-far : BuildRefuses Manual (region 0x00400000 0x10000000) (patch 0 0x00420004) 16 (pos 0x00420004) 0x00400000
   -- b, pc 00400000 to 003e0004
-  pub b-back : buildOutcome Manual [] [] (region 0x00400000 0x10000000) (patch 0 0x003e0004) ≡ builds (region 0x00400000 0x10008000)
+  pub b-back : buildOutcome Manual (tableOf []) [] (region 0x00400000 0x10000000) (patch 0 0x003e0004) ≡ builds (region 0x00400000 0x10008000)
   -- b, pc 00400000 to 003e0000: refusal 16
   pub b-too-far-back : BuildRefuses Manual (region 0x00400000 0x10000000) (patch 0 0x003e0000) 16 (pos 0x003e0000) 0x00400000
 
@@ -138,15 +138,15 @@ pub record MarkedTable : Type 0 where
   -- sll $t0,$t1,33 (Func 0)
   pub sll : emitOutcome Commit (line «sll» (descriptor 1 0 5 «sll») (register 8 ++ comma ++ register 9 ++ comma ++ integer 33)) ≡ emits 5 Unloaded (0x00094840 ∷ [])
   -- b, pc 00400000 to 00440000
-  pub b-forward : buildOutcome Commit [] [] (region 0x00400000 0x10000000) (patch 0 0x00440000) ≡ builds (region 0x00400000 0x1000ffff)
+  pub b-forward : buildOutcome Commit (tableOf []) [] (region 0x00400000 0x10000000) (patch 0 0x00440000) ≡ builds (region 0x00400000 0x1000ffff)
   -- b, pc 00400000 to 00440004: refusal 16
   pub b-too-far : BuildRefuses Commit (region 0x00400000 0x10000000) (patch 0 0x00440004) 16 (pos 0x00440004) 0x00400000
   -- b, pc 00400000 to 003c0004
-  pub b-back : buildOutcome Commit [] [] (region 0x00400000 0x10000000) (patch 0 0x003c0004) ≡ builds (region 0x00400000 0x10000000)
+  pub b-back : buildOutcome Commit (tableOf []) [] (region 0x00400000 0x10000000) (patch 0 0x003c0004) ≡ builds (region 0x00400000 0x10000000)
   -- b, pc 00400000 to 003c0000: refusal 16
   pub b-too-far-back : BuildRefuses Commit (region 0x00400000 0x10000000) (patch 0 0x003c0000) 16 (pos 0x003c0000) 0x00400000
   -- j (Op 2), pc 0ffffffc to 10000000
-  pub j-next-page : buildOutcome Commit [] [] (region 0x0ffffffc 0x08000000) (patch 1 0x10000000) ≡ builds (region 0x0ffffffc 0x08000000)
+  pub j-next-page : buildOutcome Commit (tableOf []) [] (region 0x0ffffffc 0x08000000) (patch 1 0x10000000) ≡ builds (region 0x0ffffffc 0x08000000)
   -- j (Op 2), pc 0ffffffc to 0ffffff8: refusal 16
   pub j-other-page : BuildRefuses Commit (region 0x0ffffffc 0x08000000) (patch 1 0x0ffffff8) 16 (pos 0x0ffffff8) 0x0ffffffc
   -- and those of jobs by the manual and for Release 6 boards
@@ -154,7 +154,7 @@ pub record MarkedTable : Type 0 where
   pub release-6 : Release6Rows
 
 pub marked : MarkedTable
-unfolding emitOutcome lineOutcome tableLine listStop layoutStop roomStop edgeStop meaning wordBytes pendingsBytes pcsBytes append pseudoIn pseudoLine encodingLine loadPairs labelPairs isImmediate immediatePairs breakpointOk filledLayout pendingBufferLayout breakpointBufferLayout dataBufferLayout fieldsOk descriptorOk descriptorLayout mnemonicOk oneMnemonic mnemonicLayout mnemonicName readOperand readOperands symbolLabel toLabel getLabel braced afterLabel getOffsetOrLabel getRegister getFPRegister getCc signed getInteger getConstant getValue passed peek step nextAdjacent peekAdjacent pendingOk addressLabelOk payloadOf payloadOk tokenOk tokenLayout tokens isSmall formOf loadWords firstNamed firstLater firstRepeat firstStop placesF placesFrom places firstBad firstBadOf withinLimit all sameBytes asBytes pcsFrom buildOutcome buildVerdict layoutVerdicts writePatches writePending pendingVerdict reachVerdict orderFrom keep inRange jumpInRange branchInRange fieldValue fieldWidth destination kindFrom pendingLayout entryLayout entryOk regionLayout regionRecords regionOk resolve labelLayout labelOk setField
+unfolding emitOutcome lineOutcome tableLine listStop layoutStop roomStop edgeStop meaning wordBytes pendingsBytes pcsBytes append pseudoIn pseudoLine encodingLine loadPairs labelPairs isImmediate immediatePairs breakpointOk filledLayout pendingBufferLayout breakpointBufferLayout dataBufferLayout fieldsOk descriptorOk descriptorLayout mnemonicOk oneMnemonic mnemonicLayout mnemonicName readOperand readOperands symbolLabel toLabel getLabel braced afterLabel getOffsetOrLabel getRegister getFPRegister getCc signed getInteger getConstant getValue passed peek step nextAdjacent peekAdjacent pendingOk addressLabelOk payloadOf payloadOk tokenOk tokenLayout tokens isSmall formOf loadWords firstWhere firstLater firstStop placesF placesFrom places firstBad firstBadOf withinLimit all sameBytes asBytes pcsFrom buildOutcome buildVerdict layoutVerdicts writePatches writePending pendingVerdict reachVerdict orderFrom keep inRange jumpInRange branchInRange fieldValue fieldWidth destination kindFrom pendingLayout entryLayout entryOk regionLayout regionRecords regionOk resolve labelLayout labelOk setField
 marked = record {
   addu = refl;
   li-least = refl;

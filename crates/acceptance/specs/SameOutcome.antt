@@ -15,6 +15,7 @@ use Rattle.refusal.specs.Verdicts.{andThen, firstStop}
 use Rattle.refusal.specs.declared.Refusal.the-variants.{PatchPastEnd}
 use Rattle.refusal.specs.declared.Verdict.{Verdict}
 use Rattle.refusal.specs.declared.Verdict.the-variants.{Pass, Stop}
+use Rattle.labels.specs.Labels.{Table as LabelTable}
 use Rattle.labels.specs.declared.Address.{Address}
 use Rattle.labels.specs.declared.Address.the-variants.{Known, Unknown}
 use Rattle.lexer.specs.declared.Token.{Token}
@@ -117,12 +118,12 @@ module _ (j k : Job) where
 
   -- ---- builds
 
-  abbrev pub SamePatches : (labels regions pending : List ℕ) → Type 0
+  abbrev pub SamePatches : (labels : LabelTable) (regions pending : List ℕ) → Type 0
   SamePatches labels regions pending = (p dest : ℕ) → In pending p → destination labels pending (pendingAt pending p .label) ≡ Known dest
       → let pc = pcOf (regionFor regions (pendingAt pending p)) (pendingAt pending p) in
       inRange j (pendingAt pending p .kind) pc dest ≡ inRange k (pendingAt pending p .kind) pc dest
 
-  module _ (labels regions pending : List ℕ) (same : SamePatches labels regions pending) where
+  module _ (labels : LabelTable) (regions pending : List ℕ) (same : SamePatches labels regions pending) where
     patch-same : (p : ℕ) → In pending p → patchVerdict j labels regions pending p ≡ patchVerdict k labels regions pending p
     unfolding pendingVerdict reachVerdict
     patch-same p m =

@@ -14,6 +14,7 @@ use Rattle.operand.specs.Answers.{Answer, Got, Missed}
 use Rattle.operand_list.specs.OperandLists.{AskedAll, readOperands}
 use Rattle.descriptors.specs.Descriptors.{instructionAt}
 use Rattle.descriptors.specs.Mnemonics.{mnemonicName}
+use Rattle.labels.specs.Labels.{Table as LabelTable}
 use Rattle.pending.specs.declared.InstructionLabelKind.the-variants.{Branch as BranchKind}
 use Rattle.pending.specs.Pendings.{pendingAt}
 use Rattle.patch.specs.Patches.{after, destination, pcOf, regionFor}
@@ -70,7 +71,7 @@ UnlistedCall c = UnlistedMeaning c (meaning (c .descriptors) (mnemonicName (c .m
 
 -- ---- of a build: "a branch distance outside -32,768 to 32,767"
 
-abbrev pub UnlistedBuild : (labels regions pending : List ℕ) → Type 0
+abbrev pub UnlistedBuild : (labels : LabelTable) (regions pending : List ℕ) → Type 0
 UnlistedBuild labels regions pending = (p dest : ℕ) → In pending p → pendingAt pending p .kind ≡ BranchKind → destination labels pending (pendingAt pending p .label) ≡ Known dest
     → let pc = pcOf (regionFor regions (pendingAt pending p)) (pendingAt pending p) in
     (after pc / 4 ≤ dest / 4 + 32768) × (dest / 4 ≤ after pc / 4 + 32767)

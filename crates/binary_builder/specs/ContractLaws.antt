@@ -13,7 +13,7 @@ use Rattle.refusal.specs.declared.Refusal.{Refusal}
 use Rattle.refusal.specs.declared.Refusal.the-variants.{UnknownEntry}
 use Rattle.refusal.specs.declared.Verdict.{Verdict}
 use Rattle.refusal.specs.declared.Verdict.the-variants.{Pass, Stop}
-use Rattle.labels.specs.Labels.{labelRepeat}
+use Rattle.labels.specs.Labels.{labelRepeat, Table, tableOf}
 use Rattle.labels.specs.declared.Address.{Address}
 use Rattle.labels.specs.declared.Address.the-variants.{Known, Unknown}
 use Rattle.address_label.specs.declared.AddressLabel.{AddressLabel}
@@ -46,7 +46,7 @@ entry-name s l g e = go (places s) (entry-good s g .1) e
         let k : addressLabelAt s (p + 4) (next s p) ≡ l = cc in
         rw k at (label-end s (p + 4) (next s p) (omega arith) (i .body))
 
-module _ (labels entry : List ℕ) where
+module _ (labels : Table) (entry : List ℕ) where
   reached-known : (l : AddressLabel) (x : Address) (a : ℕ) → reachedEntry l x ≡ BuiltEntry a → (reachEntry l x ≡ Pass) × (addressOr 0 x ≡ a)
   reached-known l (Known y) a e = (refl, cc)
   reached-known l Unknown a e = let z : _≡_ {A = ℕ} 0 1 = cc in absurd (omega arith)
@@ -65,30 +65,30 @@ module _ (labels entry : List ℕ) where
 
 -- ---- the build
 module _ (job : Job) (labels entry regions pending : List ℕ) where
-  pub verdict-is : (a b c d : Verdict) → layoutVerdicts labels entry regions pending ≡ a → nameVerdict 0 (labelRepeat labels) ≡ b
-      → entryVerdict labels entry (entryOf entry (places entry)) ≡ c
-      → firstStop (patchVerdict job labels regions pending) (patchOrder regions pending) ≡ d
-      → buildVerdict job labels entry regions pending ≡ andThen a (andThen b (andThen c d))
+  pub verdict-is : (a b c d : Verdict) → layoutVerdicts (tableOf labels) entry regions pending ≡ a → nameVerdict 0 (labelRepeat labels) ≡ b
+      → entryVerdict (tableOf labels) entry (entryOf entry (places entry)) ≡ c
+      → firstStop (patchVerdict job (tableOf labels) regions pending) (patchOrder regions pending) ≡ d
+      → buildVerdict job (tableOf labels) entry regions pending ≡ andThen a (andThen b (andThen c d))
   unfolding buildVerdict
   verdict-is a b c d ha hb hc hd = rw (ha, hb, hc, hd)
 
-  build-is : (answer : Built) (exit : List ℕ) → answer ≡ buildOutcome job labels entry regions pending .answer → exit ≡ buildOutcome job labels entry regions pending .regions
+  build-is : (answer : Built) (exit : List ℕ) → answer ≡ buildOutcome job (tableOf labels) entry regions pending .answer → exit ≡ buildOutcome job (tableOf labels) entry regions pending .regions
       → BuildBy job labels entry regions pending answer exit
   build-is answer exit a b =
       record {
         answer-is = a;
         returned-is = ap returned a;
         bytes-are = b;
-        reads-back = λ pr. ap (λ (r : List ℕ). readings (imageOf r) pending) b ∙ reads-back job labels entry regions pending pr;
+        reads-back = λ pr. ap (λ (r : List ℕ). readings (imageOf r) pending) b ∙ reads-back job (tableOf labels) entry regions pending pr;
       }
 
-  pub refused-is : (r : Refusal) → buildVerdict job labels entry regions pending ≡ Stop r → BuildBy job labels entry regions pending (Refused r) regions
+  pub refused-is : (r : Refusal) → buildVerdict job (tableOf labels) entry regions pending ≡ Stop r → BuildBy job labels entry regions pending (Refused r) regions
   refused-is r e =
-      let o = outcome-refused job labels entry regions pending r e in
+      let o = outcome-refused job (tableOf labels) entry regions pending r e in
       build-is (Refused r) regions (sym (o .0)) (sym (o .1))
 
-  pub accepted-is : (a : ℕ) (exit : List ℕ) → buildVerdict job labels entry regions pending ≡ Pass → entryAddress labels entry (entryOf entry (places entry)) ≡ a
-      → exit ≡ patchedRegions labels regions pending → BuildBy job labels entry regions pending (BuiltEntry a) exit
+  pub accepted-is : (a : ℕ) (exit : List ℕ) → buildVerdict job (tableOf labels) entry regions pending ≡ Pass → entryAddress (tableOf labels) entry (entryOf entry (places entry)) ≡ a
+      → exit ≡ patchedRegions (tableOf labels) regions pending → BuildBy job labels entry regions pending (BuiltEntry a) exit
   accepted-is a exit e h k =
-      let o = outcome-accepted job labels entry regions pending e in
+      let o = outcome-accepted job (tableOf labels) entry regions pending e in
       build-is (BuiltEntry a) exit (cc) (k ∙ sym (o .1))

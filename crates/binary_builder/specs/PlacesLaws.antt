@@ -10,8 +10,9 @@ use Rattle.record.specs.declared.Layout.the-variants.{Good, Bad}
 use Rattle.refusal.specs.Verdicts.{andThen, layoutVerdict}
 use Rattle.refusal.specs.VerdictsLaws.{both-pass, layout-pass}
 use Rattle.refusal.specs.declared.Verdict.the-variants.{Pass}
-use Rattle.labels.specs.Labels.{labelOk, labelLayout, labelRepeat}
+use Rattle.labels.specs.Labels.{labelOk, labelLayout, labelRepeat, tableOf}
 use Rattle.names.specs.NamesLaws.{later-place}
+use Rattle.names.specs.Owners.{sameOwned}
 use Rattle.names.specs.declared.Repeat.the-variants.{Later}
 use Rattle.regions.specs.Regions.{regionLayout, regionCount}
 use Rattle.address_label.specs.Entries.{entryOk, entryLayout}
@@ -32,12 +33,12 @@ pending-place count s p e = first-limit (pendingOk count s) s p e
 
 pub repeat-place : (s : List ℕ) (p : ℕ) → labelLayout s ≡ Good → labelRepeat s ≡ Later p → p ≤ limit
 unfolding labelLayout
-repeat-place s p g e = omega (arith, limit-good s (firstBad (labelOk s) (places s)) g .0, later-place 4 s p e)
+repeat-place s p g e = omega (arith, limit-good s (firstBad (labelOk s) (places s)) g .0, later-place (sameOwned 4 s) s p e)
 
 -- ---- the layouts one after the other
 module _ (labels entry regions pending : List ℕ) where
   pub layouts-are : (a b c d : Layout) → labelLayout labels ≡ a → entryLayout entry ≡ b → regionLayout regions ≡ c → pendingLayout (regionCount regions) pending ≡ d
-      → layoutVerdicts labels entry regions pending ≡ andThen (layoutVerdict 0 a) (andThen (layoutVerdict 1 b) (andThen (layoutVerdict 2 c) (layoutVerdict 3 d)))
+      → layoutVerdicts (tableOf labels) entry regions pending ≡ andThen (layoutVerdict 0 a) (andThen (layoutVerdict 1 b) (andThen (layoutVerdict 2 c) (layoutVerdict 3 d)))
   unfolding layoutVerdicts
   layouts-are a b c d ha hb hc hd = rw (ha, hb, hc, hd)
 
@@ -47,7 +48,7 @@ module _ (labels entry regions pending : List ℕ) where
     pub regions-good : regionLayout regions ≡ Good
     pub pending-good : pendingLayout (regionCount regions) pending ≡ Good
 
-  pub layouts-good : layoutVerdicts labels entry regions pending ≡ Pass → Layouts
+  pub layouts-good : layoutVerdicts (tableOf labels) entry regions pending ≡ Pass → Layouts
   unfolding layoutVerdicts
   layouts-good e =
       let l₁ = both-pass (layoutVerdict 0 (labelLayout labels)) _ e in

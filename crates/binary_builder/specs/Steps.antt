@@ -11,6 +11,7 @@ use Rattle.refusal.specs.declared.Verdict.{Verdict}
 use Rattle.refusal.specs.declared.Verdict.the-variants.{Pass}
 use Rattle.labels.specs.declared.Address.{Address}
 use Rattle.labels.specs.declared.Address.the-variants.{Known, Unknown}
+use Rattle.labels.specs.Labels.{Table}
 use Rattle.regions.specs.declared.Region.{Region}
 use Rattle.address_label.specs.declared.AddressLabel.{AddressLabel}
 use Rattle.address_label.specs.declared.Entry.{Entry}
@@ -26,7 +27,7 @@ abbrev pub reachedEntry : AddressLabel → Address → Built
 reachedEntry label (Known address) = BuiltEntry address
 reachedEntry label Unknown = Refused (UnknownEntry (nameLocation label))
 
-abbrev pub entryAnswer : (labels entry : List ℕ) → Entry → Built
+abbrev pub entryAnswer : (labels : Table) (entry : List ℕ) → Entry → Built
 entryAnswer labels entry Default = BuiltEntry 0x00400000
 entryAnswer labels entry (Stated label) = reachedEntry label (destination labels entry label)
 
@@ -36,10 +37,10 @@ pub record PendingList (pending : List ℕ) : Type 0 where
   pub kept : pendingLayout regions pending ≡ Good
 
 -- the checks of the patches of one region, in list order
-abbrev pub regionVerdict : Job → (labels pending : List ℕ) → Region → ℕ → Verdict
+abbrev pub regionVerdict : Job → (labels : Table) (pending : List ℕ) → Region → ℕ → Verdict
 regionVerdict job labels pending region at = pendingVerdict job labels pending region (pendingAt pending at)
 
-abbrev pub regionChecks : Job → (labels pending : List ℕ) → Region → ℕ → Verdict
+abbrev pub regionChecks : Job → (labels : Table) (pending : List ℕ) → Region → ℕ → Verdict
 regionChecks job labels pending region number = firstStop (regionVerdict job labels pending region) (keep pending number (places pending))
 
 -- patches at these places have passed their checks, in whichever job
@@ -47,17 +48,17 @@ pub record Passes (check : Job → ℕ → Verdict) (ps : List ℕ) : Type 0 whe
   pub job : Job
   pub pass : firstStop (check job) ps ≡ Pass
 
-abbrev pub RegionPasses : (labels pending : List ℕ) → Region → List ℕ → Type 0
+abbrev pub RegionPasses : (labels : Table) (pending : List ℕ) → Region → List ℕ → Type 0
 RegionPasses labels pending region ps = Passes (λ job. regionVerdict job labels pending region) ps
 
-abbrev pub PatchesPass : (labels regions pending ps : List ℕ) → Type 0
+abbrev pub PatchesPass : (labels : Table) (regions pending ps : List ℕ) → Type 0
 PatchesPass labels regions pending ps = Passes (λ job. patchVerdict job labels regions pending) ps
 
 -- the patches of one region written, in order
-unfoldable pub writeRegion : (labels pending : List ℕ) → Region → List ℕ → List ℕ → List ℕ
+unfoldable pub writeRegion : (labels : Table) (pending : List ℕ) → Region → List ℕ → List ℕ → List ℕ
 unfolding writePending
 writeRegion labels pending region [] d = d
 writeRegion labels pending region (p ∷ ps) d = writeRegion labels pending region ps (writePending labels pending region (pendingAt pending p) d)
 
-abbrev pub regionWritten : (labels pending : List ℕ) → Region → ℕ → List ℕ → List ℕ
+abbrev pub regionWritten : (labels : Table) (pending : List ℕ) → Region → ℕ → List ℕ → List ℕ
 regionWritten labels pending region number d = writeRegion labels pending region (keep pending number (places pending)) d

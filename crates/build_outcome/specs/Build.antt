@@ -1,4 +1,5 @@
--- A whole build: its answer and every byte of the region list, from the four lists (document 01, 'Where the work stops'). Assumes nothing.
+-- A whole build: its answer and every byte of the region list, from a table of labels and three lists (document 01, 'Where the work stops').
+-- Assumes nothing.
 use Prim.Native.Nat.{ℕ, zero, suc, _+_}
 use mathlib.Core.List.{List, [], _∷_, _++_}
 use mathlib.Core.Bool.{true, false}
@@ -9,7 +10,7 @@ use Rattle.refusal.specs.Verdicts.{andThen, firstStop, layoutVerdict, nameVerdi
 use Rattle.refusal.specs.declared.Refusal.the-variants.{UnknownEntry}
 use Rattle.refusal.specs.declared.Verdict.{Verdict}
 use Rattle.refusal.specs.declared.Verdict.the-variants.{Pass, Stop}
-use Rattle.labels.specs.Labels.{labelLayout, labelRepeat}
+use Rattle.labels.specs.Labels.{Table}
 use Rattle.labels.specs.declared.Address.{Address}
 use Rattle.labels.specs.declared.Address.the-variants.{Known, Unknown}
 use Rattle.regions.specs.Regions.{regionLayout, regionCount}
@@ -40,11 +41,11 @@ patchOrder regions pending = orderFrom (regionCount regions) pending 0
 
 -- ---- the checks of the patch at a place: 14, 15, 16
 
-abbrev pub patchVerdict : Job → (labels regions pending : List ℕ) → ℕ → Verdict
+abbrev pub patchVerdict : Job → (labels : Table) (regions pending : List ℕ) → ℕ → Verdict
 patchVerdict job labels regions pending at = pendingVerdict job labels pending (regionFor regions (pendingAt pending at)) (pendingAt pending at)
 
 -- "14 to 16 patch by patch", in patch order
-abbrev pub patchesVerdict : Job → (labels regions pending : List ℕ) → Verdict
+abbrev pub patchesVerdict : Job → (labels : Table) (regions pending : List ℕ) → Verdict
 patchesVerdict job labels regions pending = firstStop (patchVerdict job labels regions pending) (patchOrder regions pending)
 
 -- ---- the entry: 13
@@ -53,43 +54,43 @@ abbrev pub reachEntry : AddressLabel → Address → Verdict
 reachEntry label (Known address) = Pass
 reachEntry label Unknown = Stop (UnknownEntry (nameLocation label))
 
-abbrev pub entryVerdict : List ℕ → List ℕ → Entry → Verdict
+abbrev pub entryVerdict : Table → List ℕ → Entry → Verdict
 entryVerdict labels entry Default = Pass
 entryVerdict labels entry (Stated label) = reachEntry label (destination labels entry label)
 
 -- "its destination is the build's entry, default 0x00400000"
-abbrev pub entryAddress : List ℕ → List ℕ → Entry → ℕ
+abbrev pub entryAddress : Table → List ℕ → Entry → ℕ
 entryAddress labels entry Default = 0x00400000
 entryAddress labels entry (Stated label) = addressOr 0 (destination labels entry label)
 
 -- ---- the checks in order: 1 for each buffer, 2, 13, then patch by patch
 
-unfoldable pub layoutVerdicts : (labels entry regions pending : List ℕ) → Verdict
-unfolding labelLayout entryLayout regionLayout pendingLayout
+unfoldable pub layoutVerdicts : (labels : Table) (entry regions pending : List ℕ) → Verdict
+unfolding entryLayout regionLayout pendingLayout
 layoutVerdicts labels entry regions pending =
-    andThen (layoutVerdict 0 (labelLayout labels))
+    andThen (layoutVerdict 0 (labels .layout))
     (andThen (layoutVerdict 1 (entryLayout entry))
     (andThen (layoutVerdict 2 (regionLayout regions)) (layoutVerdict 3 (pendingLayout (regionCount regions) pending))))
 
-unfoldable pub buildVerdict : Job → (labels entry regions pending : List ℕ) → Verdict
+unfoldable pub buildVerdict : Job → (labels : Table) (entry regions pending : List ℕ) → Verdict
 unfolding layoutVerdicts places firstStop pendingVerdict orderFrom
 buildVerdict job labels entry regions pending =
     andThen (layoutVerdicts labels entry regions pending)
-    (andThen (nameVerdict 0 (labelRepeat labels))
+    (andThen (nameVerdict 0 (labels .repeat))
     (andThen (entryVerdict labels entry (entryOf entry (places entry)))
     (patchesVerdict job labels regions pending)))
 
 -- ---- the patches written
 
 -- the region list with the patches at the places written, in order
-unfoldable pub writePatches : (labels regions pending : List ℕ) → List ℕ → List ℕ → List ℕ
+unfoldable pub writePatches : (labels : Table) (regions pending : List ℕ) → List ℕ → List ℕ → List ℕ
 unfolding writePending
 writePatches labels regions pending [] d = d
 writePatches labels regions pending (p ∷ ps) d =
     writePatches labels regions pending ps (writePending labels pending (regionFor regions (pendingAt pending p)) (pendingAt pending p) d)
 
 -- the region list with every patch written, in patch order
-abbrev pub patchedRegions : (labels regions pending : List ℕ) → List ℕ
+abbrev pub patchedRegions : (labels : Table) (regions pending : List ℕ) → List ℕ
 patchedRegions labels regions pending = writePatches labels regions pending (patchOrder regions pending) regions
 
 -- ---- the whole build
@@ -103,7 +104,7 @@ abbrev pub outcomeBy : Verdict → ℕ → (patched regions : List ℕ) → Buil
 outcomeBy Pass entry patched regions = record { answer = BuiltEntry entry; regions = patched }
 outcomeBy (Stop refusal) entry patched regions = record { answer = Refused refusal; regions = regions }
 
-unfoldable pub buildOutcome : Job → (labels entry regions pending : List ℕ) → BuildOutcome
+unfoldable pub buildOutcome : Job → (labels : Table) (entry regions pending : List ℕ) → BuildOutcome
 unfolding buildVerdict writePatches places orderFrom
 buildOutcome job labels entry regions pending =
     outcomeBy (buildVerdict job labels entry regions pending) (entryAddress labels entry (entryOf entry (places entry)))

@@ -16,7 +16,7 @@ use Rattle.refusal.specs.declared.Verdict.{Verdict}
 use Rattle.refusal.specs.declared.Verdict.the-variants.{Pass, Stop}
 use Rattle.refusal.specs.declared.Refusal.{Refusal}
 use Rattle.names.specs.declared.Repeat.the-variants.{None}
-use Rattle.labels.specs.Labels.{labelLayout, labelRepeat}
+use Rattle.labels.specs.Labels.{Table}
 use Rattle.regions.specs.Regions.{regionLayout, regionCount}
 use Rattle.address_label.specs.Entries.{entryLayout, entryOf}
 use Rattle.pending.specs.Pendings.{regionOf, pendingLayout}
@@ -77,30 +77,30 @@ pub in-order : (regions pending : List ℕ) (p : ℕ) → regionOf pending p < r
 in-order regions pending p h m = order-mem (regionCount regions) pending 0 p (omega arith) (omega arith) m
 
 -- ---- an accepted build
-pub record Accepted (job : Job) (labels entry regions pending : List ℕ) : Type 0 where
-  pub labels-good : labelLayout labels ≡ Good
+pub record Accepted (job : Job) (labels : Table) (entry regions pending : List ℕ) : Type 0 where
+  pub labels-good : labels .layout ≡ Good
   pub entry-good : entryLayout entry ≡ Good
   pub regions-good : regionLayout regions ≡ Good
   pub pending-good : pendingLayout (regionCount regions) pending ≡ Good
-  pub names-good : labelRepeat labels ≡ None
+  pub names-good : labels .repeat ≡ None
   pub entry-passes : entryVerdict labels entry (entryOf entry (places entry)) ≡ Pass
   pub patches-pass : firstStop (patchVerdict job labels regions pending) (patchOrder regions pending) ≡ Pass
 
-pub accepted-is : (job : Job) (labels entry regions pending : List ℕ) → buildVerdict job labels entry regions pending ≡ Pass → Accepted job labels entry regions pending
+pub accepted-is : (job : Job) (labels : Table) (entry regions pending : List ℕ) → buildVerdict job labels entry regions pending ≡ Pass → Accepted job labels entry regions pending
 unfolding buildVerdict layoutVerdicts
 accepted-is job labels entry regions pending e =
     let b₁ = both-pass (layoutVerdicts labels entry regions pending) _ e in
-    let b₂ = both-pass (nameVerdict 0 (labelRepeat labels)) _ (b₁ .1) in
+    let b₂ = both-pass (nameVerdict 0 (labels .repeat)) _ (b₁ .1) in
     let b₃ = both-pass (entryVerdict labels entry (entryOf entry (places entry))) _ (b₂ .1) in
-    let l₁ = both-pass (layoutVerdict 0 (labelLayout labels)) _ (b₁ .0) in
+    let l₁ = both-pass (layoutVerdict 0 (labels .layout)) _ (b₁ .0) in
     let l₂ = both-pass (layoutVerdict 1 (entryLayout entry)) _ (l₁ .1) in
     let l₃ = both-pass (layoutVerdict 2 (regionLayout regions)) _ (l₂ .1) in
     record {
-      labels-good = layout-pass 0 (labelLayout labels) (l₁ .0);
+      labels-good = layout-pass 0 (labels .layout) (l₁ .0);
       entry-good = layout-pass 1 (entryLayout entry) (l₂ .0);
       regions-good = layout-pass 2 (regionLayout regions) (l₃ .0);
       pending-good = layout-pass 3 (pendingLayout (regionCount regions) pending) (l₃ .1);
-      names-good = name-pass 0 (labelRepeat labels) (b₂ .0);
+      names-good = name-pass 0 (labels .repeat) (b₂ .0);
       entry-passes = b₃ .0;
       patches-pass = b₃ .1;
     }
@@ -133,13 +133,13 @@ pub ordered-in : (regions pending : List ℕ) (p : ℕ) → List·Memᴰ p (patc
 ordered-in regions pending p m = order-in (regionCount regions) pending 0 p m
 
 -- ---- the outcome
-pub outcome-accepted : (job : Job) (labels entry regions pending : List ℕ) → buildVerdict job labels entry regions pending ≡ Pass
+pub outcome-accepted : (job : Job) (labels : Table) (entry regions pending : List ℕ) → buildVerdict job labels entry regions pending ≡ Pass
     → (buildOutcome job labels entry regions pending .answer ≡ BuiltEntry (entryAddress labels entry (entryOf entry (places entry))))
     × (buildOutcome job labels entry regions pending .regions ≡ patchedRegions labels regions pending)
 unfolding buildOutcome
 outcome-accepted job labels entry regions pending e = (rw e, rw e)
 
-pub outcome-refused : (job : Job) (labels entry regions pending : List ℕ) (r : Refusal) → buildVerdict job labels entry regions pending ≡ Stop r
+pub outcome-refused : (job : Job) (labels : Table) (entry regions pending : List ℕ) (r : Refusal) → buildVerdict job labels entry regions pending ≡ Stop r
     → (buildOutcome job labels entry regions pending .answer ≡ Refused r) × (buildOutcome job labels entry regions pending .regions ≡ regions)
 unfolding buildOutcome
 outcome-refused job labels entry regions pending r e = (rw e, rw e)

@@ -1,4 +1,5 @@
 pub mod Build
 pub mod Returned
+pub mod Straight
 pub mod BuildLaws
 pub mod KeptLaws

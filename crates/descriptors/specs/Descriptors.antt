@@ -80,7 +80,7 @@ descriptorRepeat s = firstRepeat 8 s
 
 -- the place of the descriptor of a name
 abbrev pub findDescriptor : List ℕ → List ℕ → Named
-findDescriptor s name = firstNamed 8 s name (places s)
+findDescriptor s name = firstNamed 8 s name
 
 -- ---- a descriptor taken apart
 abbrev pub opcodeFrom : ℕ → ℕ → Opcode

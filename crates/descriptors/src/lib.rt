@@ -228,7 +228,7 @@ pub fn find(list: &[u8], name: &[u8]) -> Named
     requires { ⌜ descriptorLayout (now list) ≡ Layout.Good ⌝ }
     ensures { λ r. ⌜ r ≡ findDescriptor (now (list .entry)) (now (name .entry)) ⌝ }
 {
-    names::find_named(list, 8, name)
+    names::find_named(list, 8, names::FOR_ALL, name)
 }
 
 fn opcode_from(class: u8, key: u8) -> Opcode

@@ -10,6 +10,7 @@ use Rattle.record.specs.Records.{places, firstBad, firstBadOf, limit}
 use Rattle.record.specs.RecordsLaws.{first-place, of-place, limit-bad, limit-good, first-limit}
 use Rattle.record.specs.declared.Layout.{Layout}
 use Rattle.record.specs.declared.Layout.the-variants.{Good, Bad}
+use Rattle.names.specs.Names.{sameNamed}
 use Rattle.names.specs.NamesLaws.{later-place}
 use Rattle.names.specs.declared.Repeat.the-variants.{Later}
 use Rattle.lexer.specs.Tokens.{tokenOk, tokenLayout}
@@ -66,4 +67,4 @@ module _ (fill : ℕ) (s : List ℕ) where
 
 pub repeat-place : (s : List ℕ) (p : ℕ) → descriptorLayout s ≡ Good → descriptorRepeat s ≡ Later p → p ≤ limit
 unfolding descriptorLayout
-repeat-place s p g e = omega (arith, limit-good s (firstBad (descriptorOk s) (places s)) g .0, later-place 8 s p e)
+repeat-place s p g e = omega (arith, limit-good s (firstBad (descriptorOk s) (places s)) g .0, later-place (sameNamed 8 s) s p e)

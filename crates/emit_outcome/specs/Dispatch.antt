@@ -5,7 +5,7 @@ use Rattle.jobs.specs.declared.Job.{Job}
 use Rattle.lexer.specs.declared.Token.{Token}
 use Rattle.names.specs.declared.Named.{Named}
 use Rattle.names.specs.declared.Named.the-variants.{At, Missing}
-use Rattle.names.specs.Names.{firstNamed}
+use Rattle.names.specs.Names.{firstWhere}
 use Rattle.descriptors.specs.Descriptors.{findDescriptor, instructionAt}
 use Rattle.emit_dispatch.specs.Lines.{Line}
 use Rattle.emit_dispatch.specs.Lines.{encodingLine}
@@ -25,7 +25,7 @@ orPseudo Missing name = orNeither (pseudoOf name)
 
 -- what a name is: a descriptor at a place, a pseudo-instruction, or neither
 unfoldable pub meaning : (descriptors name : List ℕ) → Meaning
-unfolding firstNamed pseudoIn
+unfolding firstWhere pseudoIn
 meaning descriptors name = orPseudo (findDescriptor descriptors name) name
 
 -- the line of the descriptor at p

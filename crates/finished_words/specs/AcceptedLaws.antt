@@ -15,6 +15,7 @@ use Rattle.record.specs.RecordsLaws.{first-good}
 use Rattle.record.specs.declared.Layout.the-variants.{Good}
 use Rattle.refusal.specs.declared.Verdict.the-variants.{Pass}
 use Rattle.labels.specs.declared.Address.the-variants.{Known}
+use Rattle.labels.specs.Labels.{Table}
 use Rattle.regions.specs.Regions.{regionCount, regionPlace}
 use Rattle.pending.specs.Pendings.{pendingOk, pendingAt}
 use Rattle.pending.specs.PendingsLaws.{pending-region, pending-good}
@@ -36,18 +37,18 @@ good-mem ok (q ∷ ps) g p m = go (first-good ok q ps g) (List·Memᴰ·cases-co
     go h (inr t) ih = ih (h .1) p t
 
 -- the region list with the patch of the record at p written
-abbrev pub written : (labels regions pending : List ℕ) → ℕ → List ℕ → List ℕ
+abbrev pub written : (labels : Table) (regions pending : List ℕ) → ℕ → List ℕ → List ℕ
 written labels regions pending p d = writePending labels pending (regionFor regions (pendingAt pending p)) (pendingAt pending p) d
 
 -- each patch of the list leaves P true
-abbrev Keeps : (labels regions pending : List ℕ) → (List ℕ → Type 0) → Type 0
+abbrev Keeps : (labels : Table) (regions pending : List ℕ) → (List ℕ → Type 0) → Type 0
 Keeps labels regions pending P = (q : ℕ) (d : List ℕ) → In pending q → Kept regions d → P d → P (written labels regions pending q d)
 
 -- each of the places is one of the list's
 abbrev Among : (pending ps : List ℕ) → Type 0
 Among pending ps = (q : ℕ) → List·Memᴰ q ps → In pending q
 
-module _ (job : Job) (labels entry regions pending : List ℕ) (pass : buildVerdict job labels entry regions pending ≡ Pass) where
+module _ (job : Job) (labels : Table) (entry regions pending : List ℕ) (pass : buildVerdict job labels entry regions pending ≡ Pass) where
   accepted : Accepted job labels entry regions pending
   accepted = accepted-is job labels entry regions pending pass
 

@@ -16,6 +16,7 @@ use Rattle.field.specs.FieldLaws.{get-set-above}
 use Rattle.record.specs.Bytes.{byteAt, le32}
 use Rattle.record.specs.Stores.{le32Bytes, append}
 use Rattle.refusal.specs.declared.Verdict.the-variants.{Pass}
+use Rattle.labels.specs.Labels.{Table}
 use Rattle.patch.specs.Patches.{fieldWidth, writePending}
 use Rattle.patch.specs.PatchesLaws.{value-fits}
 use Rattle.patch.specs.WordLaws.{byte-out, bytes-in}
@@ -91,7 +92,7 @@ module _ (d : List ℕ) (slot width v : ℕ) (room : slot + 4 ≤ length d) (fit
       go (inr k) (inl x) = absurd (omega (arith, k .0))
       go (inr k) (inr x) = rw (k .0) at (inside (i - slot) (k .1) (omega (arith, k .0)))
 
-module _ (job : Job) (labels entry regions pending : List ℕ) (pass : buildVerdict job labels entry regions pending ≡ Pass) where
+module _ (job : Job) (labels : Table) (entry regions pending : List ℕ) (pass : buildVerdict job labels entry regions pending ≡ Pass) where
   -- each bit outside every field is as at entry
   pub bits-same : Bytes regions → (i j : ℕ) → j < 8 → OutsideFields regions pending i j → bitAt (patchedRegions labels regions pending) i j ≡ bitAt regions i j
   unfolding writePending

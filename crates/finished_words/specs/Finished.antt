@@ -7,6 +7,7 @@ use lib.ListN.{length}
 use Rattle.jobs.specs.declared.Job.{Job}
 use Rattle.record.specs.Bytes.{byteAt}
 use Rattle.refusal.specs.declared.Verdict.the-variants.{Pass}
+use Rattle.labels.specs.Labels.{Table}
 use Rattle.build_outcome.specs.Build.{buildVerdict, buildOutcome}
 use Rattle.build_outcome.specs.BuildLaws.{outcome-accepted}
 use Rattle.finished_words.specs.Listed.{Apart, Bytes, OutsidePatches, OutsideFields, bitAt}
@@ -16,7 +17,7 @@ use Rattle.finished_words.specs.FinishedLaws.{bytes-same, words-finished
 use Rattle.finished_words.specs.BitsLaws.{bits-same}
 
 -- a region list at exit, heads and addresses included
-pub record Finished (labels regions pending exit : List ℕ) : Type 0 where
+pub record Finished (labels : Table) (regions pending exit : List ℕ) : Type 0 where
   pub length-same : length exit ≡ length regions
   -- each byte that is none of a patch's four is as at entry
   pub bytes-same : (i : ℕ) → OutsidePatches regions pending i → byteAt exit i ≡ byteAt regions i
@@ -26,7 +27,7 @@ pub record Finished (labels regions pending exit : List ℕ) : Type 0 where
   pub words-are : Apart pending → wordsIn exit regions pending ≡ finishedWords labels regions pending
 
 -- "An accepted build is one to which no refusal is due"
-pub finished : (job : Job) (labels entry regions pending : List ℕ) → buildVerdict job labels entry regions pending ≡ Pass
+pub finished : (job : Job) (labels : Table) (entry regions pending : List ℕ) → buildVerdict job labels entry regions pending ≡ Pass
     → Finished labels regions pending (buildOutcome job labels entry regions pending .regions)
 finished job labels entry regions pending pass =
     rw (outcome-accepted job labels entry regions pending pass .1)

@@ -10,6 +10,7 @@ use Rattle.jobs.specs.declared.Job.{Job}
 use Rattle.record.specs.Bytes.{byteAt, le32}
 use Rattle.record.specs.Records.{places}
 use Rattle.refusal.specs.declared.Verdict.the-variants.{Pass}
+use Rattle.labels.specs.Labels.{Table}
 use Rattle.patch.specs.Patches.{writePending}
 use Rattle.patch.specs.WordLaws.{byte-out, read-same, read-other}
 use Rattle.build_outcome.specs.KeptLaws.{Kept}
@@ -24,7 +25,7 @@ pub map-same : {A : Type 0} {f g : ℕ → A} (ps : List ℕ) → ((p : ℕ) →
 map-same [] h = refl
 map-same {A} (p ∷ ps) h = ap₂ (λ (x : A) (xs : List A). x ∷ xs) (h p (List·Memᴰ·head refl)) (map-same ps (λ q m. h q (List·Memᴰ·tail m)))
 
-module _ (job : Job) (labels entry regions pending : List ℕ) (pass : buildVerdict job labels entry regions pending ≡ Pass) where
+module _ (job : Job) (labels : Table) (entry regions pending : List ℕ) (pass : buildVerdict job labels entry regions pending ≡ Pass) where
   pub bytes-same : (i : ℕ) → OutsidePatches regions pending i → byteAt (patchedRegions labels regions pending) i ≡ byteAt regions i
   unfolding writePending
   bytes-same i out =

@@ -10,6 +10,7 @@ use borrow.Author.Tests.{leb-true, ltb-true, eq-eqb, ne-eqb}
 use Rattle.jobs.specs.declared.Job.the-variants.{Commit}
 use Rattle.record.specs.Bytes.{byteAt, all}
 use Rattle.record.specs.Records.{places}
+use Rattle.labels.specs.Labels.{tableOf}
 use Rattle.pending.specs.Pendings.{pendingAt}
 use Rattle.patch.specs.Patches.{fieldWidth}
 use Rattle.build_outcome.specs.Build.{buildOutcome}
@@ -59,19 +60,19 @@ bit-outside p m =
     (each (bitClear 11 4) (places pending) (evaluated .bit-clear) p m)
 
 -- ---- the theorem on the instance
-pub instance : Finished labels₁ regions pending (buildOutcome Commit labels₁ entry regions pending .regions)
-instance = finished Commit labels₁ entry regions pending (evaluated .accepted)
+pub instance : Finished (tableOf labels₁) regions pending (buildOutcome Commit (tableOf labels₁) entry regions pending .regions)
+instance = finished Commit (tableOf labels₁) entry regions pending (evaluated .accepted)
 
 -- the six words, in list order, at entry and at exit
 pub words-at-entry : wordsIn regions regions pending ≡ 0x34210000 ∷ 0x10000000 ∷ 0x00000000 ∷ 0x3C010000 ∷ 0x08000000 ∷ 0x15090000 ∷ []
 words-at-entry = evaluated .at-entry
 
-pub instance-words : wordsIn (buildOutcome Commit labels₁ entry regions pending .regions) regions pending
+pub instance-words : wordsIn (buildOutcome Commit (tableOf labels₁) entry regions pending .regions) regions pending
     ≡ 0x3421C008 ∷ 0x10000001 ∷ 0x12345678 ∷ 0x3C010040 ∷ 0x08100001 ∷ 0x15098000 ∷ []
 instance-words = instance .words-are apart ∙ evaluated .at-exit
 
-pub instance-byte : byteAt (buildOutcome Commit labels₁ entry regions pending .regions) 12 ≡ byteAt regions 12
+pub instance-byte : byteAt (buildOutcome Commit (tableOf labels₁) entry regions pending .regions) 12 ≡ byteAt regions 12
 instance-byte = instance .bytes-same 12 byte-outside
 
-pub instance-bit : bitAt (buildOutcome Commit labels₁ entry regions pending .regions) 11 4 ≡ 1
+pub instance-bit : bitAt (buildOutcome Commit (tableOf labels₁) entry regions pending .regions) 11 4 ≡ 1
 instance-bit = instance .bits-same (bytes regions (evaluated .bytes-fit)) 11 4 (omega arith) bit-outside ∙ evaluated .bit-is

@@ -10,8 +10,8 @@ use Rattle.record.specs.Bytes.{all, sameBytes}
 use Rattle.record.specs.Records.{placesF, placesFrom, places, firstBad, firstBadOf, withinLimit}
 use Rattle.refusal.specs.Verdicts.{firstStop}
 use Rattle.refusal.specs.declared.Verdict.the-variants.{Pass}
-use Rattle.names.specs.Names.{firstNamed, firstLater, firstRepeat}
-use Rattle.labels.specs.Labels.{labelOk, labelLayout, resolve}
+use Rattle.names.specs.Names.{firstWhere, firstLater}
+use Rattle.labels.specs.Labels.{labelOk, labelLayout, resolve, tableOf}
 use Rattle.regions.specs.Regions.{regionOk, regionRecords, regionLayout}
 use Rattle.address_label.specs.AddressLabels.{addressLabelOk}
 use Rattle.address_label.specs.Entries.{entryOk, entryLayout}
@@ -46,16 +46,16 @@ bitClear i j p = leb (suc (8 * i + j)) (8 * slotAt regions pending p) || leb (8 
 
 -- ---- by computation: byte 12 begins the word between the first branch and the jump, and bit 4 of byte 11 is in the branch's opcode
 pub record Evaluated : Type 0 where
-  pub accepted : buildVerdict Commit labels₁ entry regions pending ≡ Pass
+  pub accepted : buildVerdict Commit (tableOf labels₁) entry regions pending ≡ Pass
   pub bytes-fit : all (λ (b : ℕ). ltb b 256) regions ≡ true
   pub cleared : all (λ (p : ℕ). all (clear p) (places pending)) (places pending) ≡ true
   pub byte-clear : all (byteClear 12) (places pending) ≡ true
   pub bit-clear : all (bitClear 11 4) (places pending) ≡ true
   pub bit-is : bitAt regions 11 4 ≡ 1
   pub at-entry : wordsIn regions regions pending ≡ 0x34210000 ∷ 0x10000000 ∷ 0x00000000 ∷ 0x3C010000 ∷ 0x08000000 ∷ 0x15090000 ∷ []
-  pub at-exit : finishedWords labels₁ regions pending ≡ 0x3421C008 ∷ 0x10000001 ∷ 0x12345678 ∷ 0x3C010040 ∷ 0x08100001 ∷ 0x15098000 ∷ []
+  pub at-exit : finishedWords (tableOf labels₁) regions pending ≡ 0x3421C008 ∷ 0x10000001 ∷ 0x12345678 ∷ 0x3C010040 ∷ 0x08100001 ∷ 0x15098000 ∷ []
 
 pub evaluated : Evaluated
-unfolding labels₁ entry regions pending wordsIn finishedWords finishedWord buildVerdict layoutVerdicts pendingVerdict reachVerdict orderFrom keep inRange jumpInRange branchInRange fieldWidth destination kindFrom pendingLayout pendingOk entryLayout entryOk addressLabelOk regionLayout regionRecords regionOk resolve labelLayout labelOk firstRepeat firstLater firstNamed firstStop withinLimit firstBadOf firstBad places placesFrom placesF all sameBytes getField
+unfolding labels₁ entry regions pending wordsIn finishedWords finishedWord buildVerdict layoutVerdicts pendingVerdict reachVerdict orderFrom keep inRange jumpInRange branchInRange fieldWidth destination kindFrom pendingLayout pendingOk entryLayout entryOk addressLabelOk regionLayout regionRecords regionOk resolve labelLayout labelOk firstLater firstWhere firstStop withinLimit firstBadOf firstBad places placesFrom placesF all sameBytes getField
 evaluated =
     record { accepted = refl; bytes-fit = refl; cleared = refl; byte-clear = refl; bit-clear = refl; bit-is = refl; at-entry = refl; at-exit = refl }

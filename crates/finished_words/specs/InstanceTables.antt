@@ -19,14 +19,14 @@ kinded kind body = two (length body) ++ two kind ++ body
 abbrev label : ℕ → List ℕ → List ℕ
 label address name = kinded 34 (four address ++ name)
 
+abbrev owned : (address owner : ℕ) → List ℕ → List ℕ
+owned address owner name = kinded 41 (four address ++ four owner ++ name)
+
 abbrev region : ℕ → List ℕ → List ℕ
 region address words = kinded 35 (four address ++ words)
 
 abbrev pub loop : List ℕ
 loop = 0x6C ∷ 0x6F ∷ 0x6F ∷ 0x70 ∷ []
-
-abbrev pub idle : List ℕ
-idle = 0x69 ∷ 0x64 ∷ 0x6C ∷ 0x65 ∷ []
 
 -- form, value, location and name: a constant, or `loop` with an offset, its location 1, 2
 abbrev constant : ℕ → List ℕ
@@ -41,16 +41,19 @@ patch number offset kind target = kinded 36 (two number ++ four offset ++ four 1
 
 -- ---- the lists
 
--- the second table differs from the first in the address of `idle`, which neither a pending nor the entry names, and the third in that of
--- `loop`, which both name
+-- each table has a `loop` for all files and one of file 1; the second differs from the first in the one for all, to which neither a pending
+-- nor the entry resolves, and the third in that of file 1, to which both do
+abbrev loops : (forAll forFirst : ℕ) → List ℕ
+loops forAll forFirst = label forAll loop ++ owned forFirst 1 loop
+
 unfoldable pub labels₁ : List ℕ
-labels₁ = label 0x00400008 loop ++ label 0x00001000 idle
+labels₁ = loops 0x00001000 0x00400008
 
 unfoldable pub labels₂ : List ℕ
-labels₂ = label 0x00400008 loop ++ label 0x00002000 idle
+labels₂ = loops 0x00002000 0x00400008
 
 unfoldable pub labels₃ : List ℕ
-labels₃ = label 0x0040000C loop ++ label 0x00001000 idle
+labels₃ = loops 0x00001000 0x0040000C
 
 unfoldable pub entry : List ℕ
 entry = kinded 38 (loopPlus 0)

@@ -6,6 +6,7 @@ use mathlib.Core.Logic.{_⊎_}
 use Rattle.field.specs.Field.{getField}
 use Rattle.record.specs.Bytes.{byteAt}
 use Rattle.record.specs.Records.{places}
+use Rattle.labels.specs.Labels.{Table}
 use Rattle.pending.specs.declared.InstructionLabelKind.{InstructionLabelKind}
 use Rattle.pending.specs.Pendings.{pendingAt}
 use Rattle.patch.specs.Patches.{destination, pcOf, fieldWidth, regionFor, slotOf, addressOr}
@@ -21,7 +22,7 @@ kindOf pending p = pendingAt pending p .kind
 abbrev pub pcAt : (regions pending : List ℕ) → ℕ → ℕ
 pcAt regions pending p = pcOf (regionFor regions (pendingAt pending p)) (pendingAt pending p)
 
-abbrev pub destinationAt : (labels pending : List ℕ) → ℕ → ℕ
+abbrev pub destinationAt : (labels : Table) (pending : List ℕ) → ℕ → ℕ
 destinationAt labels pending p = addressOr 0 (destination labels pending (pendingAt pending p .label))
 
 -- where its four bytes stand in the region list

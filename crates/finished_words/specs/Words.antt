@@ -5,6 +5,7 @@ use Rattle.field.specs.Field.{getField}
 use Rattle.word.specs.Layout.{immediateLayout, jumpLayout}
 use Rattle.record.specs.Bytes.{le32}
 use Rattle.record.specs.Records.{places}
+use Rattle.labels.specs.Labels.{Table}
 use Rattle.pending.specs.declared.InstructionLabelKind.{InstructionLabelKind}
 use Rattle.pending.specs.declared.InstructionLabelKind.the-variants.{Branch, Jump, Lower, Upper, Full}
 use Rattle.patch.specs.Patches.{destination, distanceBits}
@@ -27,7 +28,7 @@ finishedWord Lower pc dest word = withImmediate word (dest % 65536)
 finishedWord Upper pc dest word = withImmediate word (dest / 65536)
 finishedWord Full pc dest word = dest
 
-abbrev pub finishedAt : (labels regions pending : List ℕ) → ℕ → ℕ
+abbrev pub finishedAt : (labels : Table) (regions pending : List ℕ) → ℕ → ℕ
 finishedAt labels regions pending p =
     finishedWord (kindOf pending p) (pcAt regions pending p) (destinationAt labels pending p) (le32 regions (slotAt regions pending p))
 
@@ -36,6 +37,6 @@ unfoldable pub wordsIn : (s regions pending : List ℕ) → List ℕ
 unfolding places
 wordsIn s regions pending = map (λ (p : ℕ). le32 s (slotAt regions pending p)) (places pending)
 
-unfoldable pub finishedWords : (labels regions pending : List ℕ) → List ℕ
+unfoldable pub finishedWords : (labels : Table) (regions pending : List ℕ) → List ℕ
 unfolding places finishedWord destination
 finishedWords labels regions pending = map (finishedAt labels regions pending) (places pending)

@@ -16,7 +16,7 @@ use Rattle.refusal.specs.VerdictsLaws.{both-pass}
 use Rattle.refusal.specs.declared.Refusal.{Refusal}
 use Rattle.refusal.specs.declared.Verdict.{Verdict}
 use Rattle.refusal.specs.declared.Verdict.the-variants.{Pass, Stop}
-use Rattle.labels.specs.Labels.{labelLayout}
+use Rattle.labels.specs.Labels.{labelLayout, Table}
 use Rattle.address_label.specs.Entries.{entryLayout}
 use Rattle.regions.specs.Regions.{regionLayout, regionCount}
 use Rattle.regions.specs.RegionsLaws.{layout-long}
@@ -29,7 +29,7 @@ use Rattle.binary_builder.specs.OrderLaws.{orderOn, order-all, regionNumbered, 
 use Rattle.binary_builder.specs.WritesLaws.{kept-region, writes-step, writes-end}
 use Rattle.image_text.specs.Image.{outcomeText, buildText}
 
-module _ (job : Job) (labels regions pending : List ℕ) where
+module _ (job : Job) (labels : Table) (regions pending : List ℕ) where
   -- the patches of the regions from r on leave the records as they are but for their data
   kept-from : (n r : ℕ) (d : List ℕ) → r + n ≡ regionCount regions → Kept regions d
       → firstStop (patchVerdict job labels regions pending) (orderOn regions pending r) ≡ Pass
@@ -43,7 +43,7 @@ module _ (job : Job) (labels regions pending : List ℕ) where
       rw (writes-step labels regions pending r g d w h refl refl)
       (kept-from n (r + 1) w (omega arith) (kept-region labels regions pending r h g (keep pending r (places pending)) d w refl k (record { job = job; pass = b .0 }) refl) (b .1))
 
-module _ (job : Job) (labels entry regions pending : List ℕ) where
+module _ (job : Job) (labels : Table) (entry regions pending : List ℕ) where
   finished : buildVerdict job labels entry regions pending ≡ Pass → Kept regions (patchedRegions labels regions pending)
   finished e =
       let a = accepted-is job labels entry regions pending e in

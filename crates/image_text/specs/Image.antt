@@ -6,6 +6,7 @@ use Rattle.jobs.specs.declared.Job.{Job}
 use Rattle.jobs.specs.declared.Job.the-variants.{Commit}
 use Rattle.record.specs.Bytes.{le32}
 use Rattle.pseudo_names.specs.PseudoNames.{bytesOf}
+use Rattle.labels.specs.Labels.{tableOf}
 use Rattle.refusal.specs.Numbers.{numbered}
 use Rattle.patch.specs.Patches.{wrap32}
 use Rattle.build_outcome.specs.declared.Built.{Built}
@@ -57,7 +58,7 @@ outcomeText (Entry entry) regions = imageText entry (imageOf regions)
 outcomeText (Refused r) regions = refusedLine (numbered r)
 
 abbrev pub buildText : Job → (labels entry regions pending : List ℕ) → List ℕ
-buildText job labels entry regions pending = let o = buildOutcome job labels entry regions pending in outcomeText (o .answer) (o .regions)
+buildText job labels entry regions pending = let o = buildOutcome job (tableOf labels) entry regions pending in outcomeText (o .answer) (o .regions)
 
 -- "reads the build's buffers from standard input in argument order: labels, entry, regions, pending"
 unfoldable pub finishTextBy : Job → List ℕ → List ℕ

@@ -1,2 +1,4 @@
 pub mod Labels
 pub mod LabelsLaws
+pub mod Straight
+pub mod StraightLaws

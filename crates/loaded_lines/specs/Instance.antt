@@ -4,7 +4,7 @@ use mathlib.Core.List.{[], _∷_, _++_}
 use Rattle.jobs.specs.declared.Job.the-variants.{Commit}
 use Rattle.registers.specs.declared.RegisterSlot.the-variants.{AssemblerTemporary}
 use Rattle.loading.specs.declared.LoadForm.the-variants.{Ori}
-use Rattle.names.specs.Names.{firstRepeat}
+use Rattle.names.specs.Names.{firstLater}
 use Rattle.emit_pairs.specs.Pairs.{labelPairs, immediatePairs}
 use Rattle.breakpoints.specs.BreakpointBytes.{pcsBytes}
 use Rattle.emit_outcome.specs.Call.{Call}
@@ -21,10 +21,10 @@ lw = line (108 ∷ 119 ∷ []) (descriptor 0 35 13 (108 ∷ 119 ∷ [])) (regist
 
 -- it loads 32768 into $at
 pub met : ConstantAppended Commit lw (record { constant = 32768; register = AssemblerTemporary })
-unfolding emitOutcome pcsBytes labelPairs immediatePairs firstRepeat
+unfolding emitOutcome pcsBytes labelPairs immediatePairs firstLater
 met = constant-appended Commit lw 6 Ori refl (record { constant = 32768; register = AssemblerTemporary }) refl
 
 -- and reports ori
 pub met-form : Reported Commit lw Ori
-unfolding emitOutcome pcsBytes labelPairs immediatePairs firstRepeat
+unfolding emitOutcome pcsBytes labelPairs immediatePairs firstLater
 met-form = reported Commit lw 6 Ori refl

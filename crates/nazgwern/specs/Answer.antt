@@ -10,6 +10,7 @@ use Rattle.record.specs.Stores.{append, le64Bytes}
 use Rattle.record.specs.Bytes.{le32}
 use Rattle.linked_answer.specs.Words.{answerBytes, tooShort, numberOf, wordsAsBytes}
 use Rattle.nazgwern.specs.Words.{builtWords, emittedWords, countedWords}
+use Rattle.labels.specs.Labels.{tableOf}
 use Rattle.build_outcome.specs.Build.{BuildOutcome, buildOutcome}
 use Rattle.emit_outcome.specs.declared.FillCounts.{FillCounts}
 use Rattle.emit_outcome.specs.declared.EmitAnswer.{EmitAnswer}
@@ -41,7 +42,7 @@ answered outcome answer =
 unfoldable pub linkedBuildBy : Job → (labels entry regions pending answer : List ℕ) → Linked
 linkedBuildBy job labels entry regions pending answer =
     elim (leb answerBytes (length answer)) [
-      | true ↦ answered (buildOutcome job labels entry regions pending) answer
+      | true ↦ answered (buildOutcome job (tableOf labels) entry regions pending) answer
       | false ↦ record { result = tooShort; regions = regions; answer = answer }
     ]
 

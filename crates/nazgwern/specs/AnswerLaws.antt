@@ -10,6 +10,7 @@ use Rattle.jobs.specs.declared.Job.{Job}
 use Rattle.record.specs.Stores.{append}
 use Rattle.linked_answer.specs.Words.{answerBytes, tooShort, numberOf, wordsAsBytes}
 use Rattle.nazgwern.specs.Words.{builtWords, emittedWords, countedWords}
+use Rattle.labels.specs.Labels.{tableOf}
 use Rattle.build_outcome.specs.declared.Built.{Built}
 use Rattle.build_outcome.specs.Build.{buildOutcome}
 use Rattle.emit_outcome.specs.declared.FillCounts.{FillCounts}
@@ -27,8 +28,8 @@ module _ (job : Job) (labels entry regions pending answer : List ℕ) where
   unfolding linkedBuildBy
   linked-short h = rw (lt-leb answerBytes (length answer) h, linkedBuildBy)
 
-  pub linked-answered : (built : Built) (words patched written : List ℕ) → answerBytes ≤ length answer → built ≡ buildOutcome job labels entry regions pending .answer
-      → patched ≡ buildOutcome job labels entry regions pending .regions → words ≡ builtWords built → written ≡ append answer 0 (wordsAsBytes words)
+  pub linked-answered : (built : Built) (words patched written : List ℕ) → answerBytes ≤ length answer → built ≡ buildOutcome job (tableOf labels) entry regions pending .answer
+      → patched ≡ buildOutcome job (tableOf labels) entry regions pending .regions → words ≡ builtWords built → written ≡ append answer 0 (wordsAsBytes words)
       → linkedBuildBy job labels entry regions pending answer ≡ (record { result = numberOf words; regions = patched; answer = written })
   unfolding linkedBuildBy
   linked-answered built words patched written h b p w e = rw (le-leb answerBytes (length answer) h, linkedBuildBy, e, w, p, b)

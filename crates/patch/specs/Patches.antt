@@ -14,7 +14,7 @@ use Rattle.refusal.specs.Numbers.{zeroLocation}
 use Rattle.refusal.specs.declared.Refusal.the-variants.{PatchPastEnd, UnknownLabel, JumpOutOfRange}
 use Rattle.refusal.specs.declared.Verdict.{Verdict}
 use Rattle.refusal.specs.declared.Verdict.the-variants.{Pass, Stop}
-use Rattle.labels.specs.Labels.{resolve}
+use Rattle.labels.specs.Labels.{Table}
 use Rattle.labels.specs.declared.Address.{Address}
 use Rattle.labels.specs.declared.Address.the-variants.{Known, Unknown}
 use Rattle.address_label.specs.declared.AddressLabel.{AddressLabel}
@@ -33,11 +33,11 @@ abbrev pub plusOffset : Address → ℕ → Address
 plusOffset (Known address) offset = Known (wrap32 (address + offset))
 plusOffset Unknown offset = Unknown
 
--- "A destination is a constant's low 32 bits, or label address plus offset." The name stands in the list s.
-unfoldable pub destination : (labels s : List ℕ) → AddressLabel → Address
-unfolding resolve
+-- "A destination is a constant's low 32 bits, or label address plus offset." The name stands in the list s, and resolves by "the source in
+-- the name's location" (document 02, P6).
+unfoldable pub destination : (labels : Table) (s : List ℕ) → AddressLabel → Address
 destination labels s (Constant value) = Known (wrap32 value)
-destination labels s (Label name) = plusOffset (resolve labels (part s (name .«name_at») (name .«name_len»))) (name .offset)
+destination labels s (Label name) = plusOffset (labels .address (name .location .source) (part s (name .«name_at») (name .«name_len»))) (name .offset)
 
 -- where the name ends in its list
 abbrev pub nameEnd : AddressLabel → ℕ
@@ -112,7 +112,7 @@ reachVerdict job p pc Unknown = Stop (UnknownLabel (nameLocation (p .label)))
 reachVerdict job p pc (Known dest) = elim (inRange job (p .kind) pc dest) [ true ↦ Pass | false ↦ Stop (JumpOutOfRange (p .location) dest pc) ]
 
 -- "14. A patch, taken in patch order, ends past its region's data"
-unfoldable pub pendingVerdict : Job → (labels pending : List ℕ) → Region → Pending → Verdict
+unfoldable pub pendingVerdict : Job → (labels : Table) (pending : List ℕ) → Region → Pending → Verdict
 unfolding reachVerdict destination
 pendingVerdict job labels pending region p =
     elim (leb (p .offset + 4) (region .size)) [
@@ -128,7 +128,7 @@ addressOr other (Known address) = address
 addressOr other Unknown = other
 
 -- the region list with the patch's word stored
-unfoldable pub writePending : (labels pending : List ℕ) → Region → Pending → List ℕ → List ℕ
+unfoldable pub writePending : (labels : Table) (pending : List ℕ) → Region → Pending → List ℕ → List ℕ
 unfolding append destination
 writePending labels pending region p d =
     append d (region .start + p .offset)

@@ -14,7 +14,7 @@ use Rattle.field.specs.FieldLaws.{get-set-same}
 use Rattle.record.specs.Bytes.{part}
 use Rattle.refusal.specs.declared.Refusal.the-variants.{PatchPastEnd, UnknownLabel, JumpOutOfRange}
 use Rattle.refusal.specs.declared.Verdict.the-variants.{Pass, Stop}
-use Rattle.labels.specs.Labels.{resolve}
+use Rattle.labels.specs.Labels.{Table}
 use Rattle.labels.specs.declared.Address.{Address}
 use Rattle.labels.specs.declared.Address.the-variants.{Known, Unknown}
 use Rattle.address_label.specs.declared.AddressLabel.{AddressLabel}
@@ -55,10 +55,10 @@ patched-field kind pc dest word hd =
     ∙ get-set-same word 0 (fieldWidth kind) (fieldValue kind pc dest) (value-fits kind pc dest hd)
 
 -- a destination is a number of 32 bits
-pub destination-lt : (labels s : List ℕ) (l : AddressLabel) (d : ℕ) → destination labels s l ≡ Known d → d < 2 ^ 32
+pub destination-lt : (labels : Table) (s : List ℕ) (l : AddressLabel) (d : ℕ) → destination labels s l ≡ Known d → d < 2 ^ 32
 unfolding destination
 destination-lt labels s (Constant v) d e = let z : v % 2 ^ 32 ≡ d = cc in omega arith
-destination-lt labels s (Label n) d e = go (resolve labels (part s (n .«name_at») (n .«name_len»))) e
+destination-lt labels s (Label n) d e = go (labels .address (n .location .source) (part s (n .«name_at») (n .«name_len»))) e
   where
     go : (a : Address) → plusOffset a (n .offset) ≡ Known d → d < 2 ^ 32
     go (Known a) k = let z : (a + n .offset) % 2 ^ 32 ≡ d = cc in omega arith
@@ -81,7 +81,7 @@ manual-near job m pc dest e =
 
 -- ---- a destination, by its label
 
-pub destination-constant : (labels s : List ℕ) (value : ℕ) → destination labels s (Constant value) ≡ Known (wrap32 value)
+pub destination-constant : (labels : Table) (s : List ℕ) (value : ℕ) → destination labels s (Constant value) ≡ Known (wrap32 value)
 unfolding destination
 destination-constant labels s value = refl
 
@@ -90,10 +90,10 @@ wrapped-offset : (a : Address) (offset : ℕ) → plusOffset a (wrap32 offset) �
 wrapped-offset (Known a) offset = ap Known (omega arith)
 wrapped-offset Unknown offset = refl
 
-pub destination-label : (labels s : List ℕ) (name : NamedLabel)
-    → destination labels s (Label name) ≡ plusOffset (resolve labels (part s (name .«name_at») (name .«name_len»))) (wrap32 (name .offset))
+pub destination-label : (labels : Table) (s : List ℕ) (name : NamedLabel)
+    → destination labels s (Label name) ≡ plusOffset (labels .address (name .location .source) (part s (name .«name_at») (name .«name_len»))) (wrap32 (name .offset))
 unfolding destination
-destination-label labels s name = sym (wrapped-offset (resolve labels (part s (name .«name_at») (name .«name_len»))) (name .offset))
+destination-label labels s name = sym (wrapped-offset (labels .address (name .location .source) (part s (name .«name_at») (name .«name_len»))) (name .offset))
 
 -- ---- the patched word, by the kind
 
@@ -121,14 +121,14 @@ module _ (pc dest word : ℕ) where
 -- ---- the checks
 
 -- what a patch that passes its checks says
-pub record Reached (job : Job) (labels pending : List ℕ) (g : Region) (p : Pending) : Type 0 where
+pub record Reached (job : Job) (labels : Table) (pending : List ℕ) (g : Region) (p : Pending) : Type 0 where
   pub dest : ℕ
   pub inside : p .offset + 4 ≤ g .size
   pub known : destination labels pending (p .label) ≡ Known dest
   pub range : inRange job (p .kind) (pcOf g p) dest ≡ true
 
 -- the four outcomes of a patch's checks
-module _ (job : Job) (labels pending : List ℕ) (g : Region) (p : Pending) where
+module _ (job : Job) (labels : Table) (pending : List ℕ) (g : Region) (p : Pending) where
   pub stops-past : g .size < p .offset + 4 → pendingVerdict job labels pending g p ≡ Stop (PatchPastEnd (p .location))
   unfolding pendingVerdict
   stops-past h = rw (lt-leb (p .offset + 4) (g .size) h, pendingVerdict)

@@ -2,7 +2,7 @@
 ghost use mathlib.Core.Path.{_≡_};
 ghost use Prim.Native.Nat.{_+_, _≤_, _<_, _^_};
 ghost use lib.ListN.{length};
-ghost use Rattle.labels.specs.Labels.{labelLayout};
+ghost use Rattle.labels.specs.Labels.{labelLayout, tableOf};
 ghost use mathlib.Core.Bool.{_&&_};
 ghost use lib.Dec.{leb};
 ghost use Rattle.jobs.specs.Jobs.{mostBack, mostAhead};
@@ -22,7 +22,7 @@ use regions::Region;
 pub fn get_address(label: AddressLabel, list: &[u8], labels: &[u8]) -> Address
     requires { ⌜ labelLayout (now labels) ≡ Layout.Good ⌝ }
     requires { ⌜ nameEnd label ≤ length (now list) ⌝ }
-    ensures { λ r. ⌜ r ≡ destination (now (labels .entry)) (now (list .entry)) label ⌝ }
+    ensures { λ r. ⌜ r ≡ destination (tableOf (now (labels .entry))) (now (list .entry)) label ⌝ }
 {
     match label {
         AddressLabel::Constant(value) => Address::Known((value % 0x1_0000_0000) as u32),
@@ -30,7 +30,10 @@ pub fn get_address(label: AddressLabel, list: &[u8], labels: &[u8]) -> Address
             let at = name.name_at;
             let end = at + name.name_len;
             let offset = (name.offset % 0x1_0000_0000) as u32;
-            plus_offset(labels::get(labels, &list[at..end]), offset)
+            plus_offset(
+                labels::get(labels, name.location.source, &list[at..end]),
+                offset,
+            )
         }
     }
 }
@@ -118,7 +121,7 @@ pub fn check_pending(
 ) -> Verdict
     requires { ⌜ labelLayout (now labels) ≡ Layout.Good ⌝ }
     requires { ⌜ nameEnd (patch .label) ≤ length (now pending) ⌝ }
-    ensures { λ r. ⌜ r ≡ pendingVerdict job (now (labels .entry)) (now (pending .entry)) region patch ⌝ }
+    ensures { λ r. ⌜ r ≡ pendingVerdict job (tableOf (now (labels .entry))) (now (pending .entry)) region patch ⌝ }
 {
     let location = patch.location;
     let label = patch.label;
@@ -160,7 +163,7 @@ pub fn write_pending(
     requires { ⌜ labelLayout (now labels) ≡ Layout.Good ⌝ }
     requires { ⌜ nameEnd (patch .label) ≤ length (now pending) ⌝ }
     requires { ⌜ region .start + patch .offset + 4 ≤ length (now regions) ⌝ }
-    ensures { λ _. ⌜ now (regions .exit) ≡ writePending (now (labels .entry)) (now (pending .entry)) region patch (now (regions .entry)) ⌝ }
+    ensures { λ _. ⌜ now (regions .exit) ≡ writePending (tableOf (now (labels .entry))) (now (pending .entry)) region patch (now (regions .entry)) ⌝ }
 {
     let label = patch.label;
     let kind = patch.kind;

@@ -12,8 +12,8 @@ use Rattle.record.specs.Bytes.{byteAt, all, sameBytes}
 use Rattle.record.specs.Records.{placesF, placesFrom, places, firstBad, firstBadOf, withinLimit}
 use Rattle.refusal.specs.Verdicts.{firstStop}
 use Rattle.refusal.specs.declared.Verdict.the-variants.{Pass}
-use Rattle.names.specs.Names.{firstNamed, firstLater, firstRepeat}
-use Rattle.labels.specs.Labels.{labelOk, labelLayout, resolve}
+use Rattle.names.specs.Names.{firstWhere, firstLater}
+use Rattle.labels.specs.Labels.{labelOk, labelLayout, resolve, Table, tableOf}
 use Rattle.labels.specs.declared.Address.the-variants.{Known}
 use Rattle.regions.specs.Regions.{regionOk, regionRecords, regionLayout}
 use Rattle.address_label.specs.AddressLabels.{addressLabelOk}
@@ -26,22 +26,22 @@ use Rattle.patch.specs.Patches.{after, destination, fieldWidth, fieldValue, bra
 use Rattle.build_outcome.specs.Build.{keep, orderFrom, patchOrder, layoutVerdicts, buildVerdict, writePatches, BuildOutcome, buildOutcome}
 use Rattle.build_outcome.specs.declared.Built.the-variants.{Entry}
 use Rattle.finished_words.specs.Listed.{pcAt, destinationAt}
-use Rattle.reading.specs.Used.{pendingName}
+use Rattle.reading.specs.Used.{pendingName, pendingSource}
 use Rattle.reading.specs.Reading.{imageOf, signedBytes, readBy, readings, destinations}
-use Rattle.finished_words.specs.InstanceTables.{loop, idle, labels₁, labels₂, labels₃, entry, regions, pending, finished, exampleRegions, examplePending, exampleFinished}
+use Rattle.finished_words.specs.InstanceTables.{loop, labels₁, labels₂, labels₃, entry, regions, pending, finished, exampleRegions, examplePending, exampleFinished}
 
 -- ---- tests that say a premise at one place
-abbrev pub onWord : List ℕ → ℕ → Bool
+abbrev pub onWord : Table → ℕ → Bool
 onWord labels p = eqb (destinationAt labels pending p % 4) 0
 
-abbrev pub notFarBack : List ℕ → ℕ → Bool
+abbrev pub notFarBack : Table → ℕ → Bool
 notFarBack labels p = leb (after (pcAt regions pending p) / 4) (destinationAt labels pending p / 4 + 32768)
 
-abbrev pub notFarOn : List ℕ → ℕ → Bool
+abbrev pub notFarOn : Table → ℕ → Bool
 notFarOn labels p = leb (destinationAt labels pending p / 4) (after (pcAt regions pending p) / 4 + 32767)
 
 -- the one Lower stands at 0, the one Upper at 116
-abbrev pub fits : List ℕ → InstructionLabelKind → ℕ → Bool
+abbrev pub fits : Table → InstructionLabelKind → ℕ → Bool
 fits labels Branch p = onWord labels p && (notFarBack labels p && notFarOn labels p)
 fits labels Jump p = onWord labels p
 fits labels Lower p = eqb p 0
@@ -61,8 +61,8 @@ in-each P b Release6 = b .2
 
 -- of a label table: its build is accepted, the tests hold
 pub record Computed (labels : List ℕ) : Type 0 where
-  pub accepted : InAll (λ job. buildVerdict job labels entry regions pending ≡ Pass)
-  pub fit : all (λ (p : ℕ). fits labels (pendingAt pending p .kind) p) (places pending) ≡ true
+  pub accepted : InAll (λ job. buildVerdict job (tableOf labels) entry regions pending ≡ Pass)
+  pub fit : all (λ (p : ℕ). fits (tableOf labels) (pendingAt pending p .kind) p) (places pending) ≡ true
   pub bytes-fit : all (λ (b : ℕ). ltb b 256) labels ≡ true
 
 -- what the builds of the first two tables leave
@@ -75,23 +75,23 @@ pub record Evaluated : Type 0 where
   pub first : Computed labels₁
   pub second : Computed labels₂
   pub third : Computed labels₃
-  pub first-outcome : InAll (λ job. buildOutcome job labels₁ entry regions pending ≡ outcome)
-  pub second-outcome : InAll (λ job. buildOutcome job labels₂ entry regions pending ≡ outcome)
-  pub destined : destinations labels₁ pending ≡ Known 0x0040C008 ∷ Known 0x00400008 ∷ Known 0x12345678 ∷ Known 0x0040C008 ∷ Known 0x00400004 ∷ Known 0x003E0010 ∷ []
+  pub first-outcome : InAll (λ job. buildOutcome job (tableOf labels₁) entry regions pending ≡ outcome)
+  pub second-outcome : InAll (λ job. buildOutcome job (tableOf labels₂) entry regions pending ≡ outcome)
+  pub destined : destinations (tableOf labels₁) pending ≡ Known 0x0040C008 ∷ Known 0x00400008 ∷ Known 0x12345678 ∷ Known 0x0040C008 ∷ Known 0x00400004 ∷ Known 0x003E0010 ∷ []
   pub places-are : places pending ≡ 0 ∷ 40 ∷ 80 ∷ 116 ∷ 156 ∷ 196 ∷ []
   pub aligned : all (λ (p : ℕ). eqb (pcAt regions pending p % 4) 0) (places pending) ≡ true
-  pub idle-addresses : (resolve labels₁ idle ≡ Known 0x00001000) × (resolve labels₂ idle ≡ Known 0x00002000)
-  pub loop-addresses : (resolve labels₁ loop ≡ Known 0x00400008) × (resolve labels₃ loop ≡ Known 0x0040000C)
-  pub loop-named : (byteAt pending 59 ≡ 1) × (pendingName pending 40 ≡ loop)
+  pub for-all-addresses : (resolve labels₁ 2 loop ≡ Known 0x00001000) × (resolve labels₂ 2 loop ≡ Known 0x00002000)
+  pub first-file-addresses : (resolve labels₁ 1 loop ≡ Known 0x00400008) × (resolve labels₃ 1 loop ≡ Known 0x0040000C)
+  pub loop-named : (byteAt pending 59 ≡ 1) × ((pendingSource pending 40 ≡ 1) × (pendingName pending 40 ≡ loop))
   pub unpatched : readings (imageOf regions) pending ≡ Known 0x00000000 ∷ Known 0x00400004 ∷ Known 0x00000000 ∷ Known 0x00000000 ∷ Known 0x00000000 ∷ Known 0x00400010 ∷ []
-  pub first-only : readings (imageOf (writePatches labels₁ regions pending (take 1 (patchOrder regions pending)) regions)) pending
+  pub first-only : readings (imageOf (writePatches (tableOf labels₁) regions pending (take 1 (patchOrder regions pending)) regions)) pending
       ≡ Known 0x00000000 ∷ Known 0x00400008 ∷ Known 0x00000000 ∷ Known 0x00000000 ∷ Known 0x00000000 ∷ Known 0x00400010 ∷ []
-  pub first-listed-only : readings (imageOf (writePatches labels₁ regions pending (take 1 (places pending)) regions)) pending
+  pub first-listed-only : readings (imageOf (writePatches (tableOf labels₁) regions pending (take 1 (places pending)) regions)) pending
       ≡ Known 0x0000C008 ∷ Known 0x00400004 ∷ Known 0x00000000 ∷ Known 0x0000C008 ∷ Known 0x00000000 ∷ Known 0x00400010 ∷ []
-  pub example : buildOutcome Commit [] [] exampleRegions examplePending ≡ record { answer = Entry 0x00400000; regions = exampleFinished }
+  pub example : buildOutcome Commit (tableOf []) [] exampleRegions examplePending ≡ record { answer = Entry 0x00400000; regions = exampleFinished }
 
 pub evaluated : Evaluated
-unfolding labels₁ labels₂ labels₃ entry regions pending finished exampleRegions examplePending exampleFinished destinations readings imageOf readBy signedBytes buildOutcome buildVerdict layoutVerdicts writePatches writePending pendingVerdict reachVerdict orderFrom keep append inRange jumpInRange branchInRange fieldValue fieldWidth destination kindFrom pendingLayout pendingOk entryLayout entryOk addressLabelOk regionLayout regionRecords regionOk resolve labelLayout labelOk firstRepeat firstLater firstNamed firstStop withinLimit firstBadOf firstBad places placesFrom placesF all sameBytes setField
+unfolding labels₁ labels₂ labels₃ entry regions pending finished exampleRegions examplePending exampleFinished destinations readings imageOf readBy signedBytes buildOutcome buildVerdict layoutVerdicts writePatches writePending pendingVerdict reachVerdict orderFrom keep append inRange jumpInRange branchInRange fieldValue fieldWidth destination kindFrom pendingLayout pendingOk entryLayout entryOk addressLabelOk regionLayout regionRecords regionOk resolve labelLayout labelOk firstLater firstWhere firstStop withinLimit firstBadOf firstBad places placesFrom placesF all sameBytes setField
 evaluated =
     record {
       first = record { accepted = (refl, refl, refl); fit = refl; bytes-fit = refl };
@@ -102,9 +102,9 @@ evaluated =
       destined = refl;
       places-are = refl;
       aligned = refl;
-      idle-addresses = (refl, refl);
-      loop-addresses = (refl, refl);
-      loop-named = (refl, refl);
+      for-all-addresses = (refl, refl);
+      first-file-addresses = (refl, refl);
+      loop-named = (refl, (refl, refl));
       unpatched = refl;
       first-only = refl;
       first-listed-only = refl;

@@ -4,19 +4,21 @@ use mathlib.Core.Path.{_≡_}
 use mathlib.Core.List.{List}
 use Rattle.jobs.specs.declared.Job.{Job}
 use Rattle.jobs.specs.declared.Job.the-variants.{Commit}
-use Rattle.record.specs.Bytes.{byteAt, le64, part}
+use Rattle.record.specs.Bytes.{byteAt, le32, le64, part}
 use Rattle.record.specs.Records.{bodyLen}
 use Rattle.refusal.specs.declared.Verdict.the-variants.{Pass}
+use Rattle.labels.specs.Labels.{Table}
 use Rattle.pending.specs.declared.InstructionLabelKind.the-variants.{Branch, Jump, Lower, Upper}
 use Rattle.pending.specs.Pendings.{pendingAt}
 use Rattle.patch.specs.Patches.{after}
 use Rattle.build_outcome.specs.Build.{buildVerdict}
 use Rattle.finished_words.specs.Listed.{In, pcAt, destinationAt, Apart}
 
--- "equal form, value and name"
+-- "equal form, value and name"; document 02, P6: "a pair's names share a source"
 pub record SameTarget (pending : List ℕ) (p q : ℕ) : Type 0 where
   pub form : byteAt pending (p + 19) ≡ byteAt pending (q + 19)
   pub value : le64 pending (p + 20) ≡ le64 pending (q + 20)
+  pub source : le32 pending (p + 28) ≡ le32 pending (q + 28)
   pub name : part pending (p + 36) (bodyLen pending p - 32) ≡ part pending (q + 36) (bodyLen pending q - 32)
 
 -- "A pair is an Upper and, four bytes later in the same region, a Lower with equal form, value and name", wherever the two stand in the list
@@ -30,7 +32,7 @@ pub record Pair (pending : List ℕ) (upper lower : ℕ) : Type 0 where
   pub target : SameTarget pending upper lower
 
 -- The tender's premises, for a label table, a region list, an entry record and a pending list in whatever order.
-pub record Premises (job : Job) (labels entry regions pending : List ℕ) : Type 0 where
+pub record Premises (job : Job) (labels : Table) (entry regions pending : List ℕ) : Type 0 where
   -- "An accepted build is one to which no refusal is due"
   pub accepted : buildVerdict job labels entry regions pending ≡ Pass
   -- "patch addresses multiples of four": "A patch's address is its pc"

@@ -18,7 +18,7 @@ use Rattle.address_label.specs.AddressLabelsLaws.{at-constant, at-named}
 use Rattle.pending.specs.declared.InstructionLabelKind.{InstructionLabelKind}
 use Rattle.pending.specs.declared.InstructionLabelKind.the-variants.{Branch, Jump, Lower, Upper, Full}
 use Rattle.pending.specs.Pendings.{pendingAt, labelOf}
-use Rattle.labels.specs.Labels.{resolve}
+use Rattle.labels.specs.Labels.{Table}
 use Rattle.patch.specs.Patches.{destination, plusOffset, wrap32, after, fieldWidth, fieldValue, inRange, addressOr}
 use Rattle.patch.specs.PatchesLaws.{jump-page, manual-near}
 use Rattle.build_outcome.specs.Build.{patchedRegions}
@@ -33,27 +33,28 @@ use Rattle.reading.specs.ArithmeticLaws.{branch-reads, jump-reads, halve
 use Rattle.reading.specs.ImageLaws.{image-word, image-pc}
 
 -- the destination of a record's label, by its form
-constant-is : (labels pending : List ℕ) (at : ℕ) → byteAt pending (at + 19) ≡ 0 → destination labels pending (labelOf pending at) ≡ Known (wrap32 (le64 pending (at + 20)))
+constant-is : (labels : Table) (pending : List ℕ) (at : ℕ) → byteAt pending (at + 19) ≡ 0 → destination labels pending (labelOf pending at) ≡ Known (wrap32 (le64 pending (at + 20)))
 unfolding destination
 constant-is labels pending at e =
     let v : at + 19 + 1 ≡ at + 20 = omega arith in
     ap (destination labels pending) (at-constant pending (at + 19) (next pending at) e) ∙ ap (λ (i : ℕ). Known (wrap32 (le64 pending i))) v
 
-pub label-is : (labels s : List ℕ) (i e from count value : ℕ) → (byteAt s i ≡ 0 → ⊥) → i + 17 ≡ from → e - (i + 17) ≡ count → i + 1 ≡ value
-    → destination labels s (addressLabelAt s i e) ≡ plusOffset (resolve labels (part s from count)) (le64 s value)
+pub label-is : (labels : Table) (s : List ℕ) (i e from count value source : ℕ) → (byteAt s i ≡ 0 → ⊥) → i + 17 ≡ from → e - (i + 17) ≡ count
+    → i + 1 ≡ value → i + 9 ≡ source
+    → destination labels s (addressLabelAt s i e) ≡ plusOffset (labels .address (le32 s source) (part s from count)) (le64 s value)
 unfolding destination
-label-is labels s i e from count value n f c v =
+label-is labels s i e from count value source n f c v l =
     ap (destination labels s) (at-named s i e n)
-    ∙ ap₂ (λ (j k : ℕ). plusOffset (resolve labels (part s j k)) (le64 s (i + 1))) f c
-    ∙ ap (λ (j : ℕ). plusOffset (resolve labels (part s from count)) (le64 s j)) v
+    ∙ ap₂ (λ (j k : ℕ). plusOffset (labels .address (le32 s (i + 9)) (part s j k)) (le64 s (i + 1))) f c
+    ∙ ap₂ (λ (j k : ℕ). plusOffset (labels .address (le32 s k) (part s from count)) (le64 s j)) v l
 
-pub named-is : (labels pending : List ℕ) (at : ℕ) → (byteAt pending (at + 19) ≡ 0 → ⊥)
-    → destination labels pending (labelOf pending at) ≡ plusOffset (resolve labels (part pending (at + 36) (bodyLen pending at - 32))) (le64 pending (at + 20))
+pub named-is : (labels : Table) (pending : List ℕ) (at : ℕ) → (byteAt pending (at + 19) ≡ 0 → ⊥)
+    → destination labels pending (labelOf pending at) ≡ plusOffset (labels .address (le32 pending (at + 28)) (part pending (at + 36) (bodyLen pending at - 32))) (le64 pending (at + 20))
 named-is labels pending at e =
-    label-is labels pending (at + 19) (next pending at) (at + 36) (bodyLen pending at - 32) (at + 20) e (omega arith) (omega arith) (omega arith)
+    label-is labels pending (at + 19) (next pending at) (at + 36) (bodyLen pending at - 32) (at + 20) (at + 28) e (omega arith) (omega arith) (omega arith) (omega arith)
 
--- equal form, value and name have one destination
-target-same : (labels pending : List ℕ) (p q : ℕ) → SameTarget pending p q → destinationAt labels pending p ≡ destinationAt labels pending q
+-- equal form, value, source and name have one destination
+target-same : (labels : Table) (pending : List ℕ) (p q : ℕ) → SameTarget pending p q → destinationAt labels pending p ≡ destinationAt labels pending q
 target-same labels pending p q t = ap (addressOr 0) (go (eqb (byteAt pending (p + 19)) 0) refl)
   where
     go : (b : Bool) → eqb (byteAt pending (p + 19)) 0 ≡ b → destination labels pending (labelOf pending p) ≡ destination labels pending (labelOf pending q)
@@ -62,10 +63,12 @@ target-same labels pending p q t = ap (addressOr 0) (go (eqb (byteAt pending (p 
         constant-is labels pending p z ∙ ap (λ (v : ℕ). Known (wrap32 v)) (t .value) ∙ sym (constant-is labels pending q (sym (t .form) ∙ z))
     go false e =
         let n : byteAt pending (p + 19) ≡ 0 → ⊥ = eqb-false (byteAt pending (p + 19)) 0 e in
-        named-is labels pending p n ∙ ap₂ (λ (l : List ℕ) (v : ℕ). plusOffset (resolve labels l) v) (t .name) (t .value)
+        named-is labels pending p n
+        ∙ ap (λ (s : ℕ). plusOffset (labels .address s (part pending (p + 36) (bodyLen pending p - 32))) (le64 pending (p + 20))) (t .source)
+        ∙ ap₂ (λ (l : List ℕ) (v : ℕ). plusOffset (labels .address (le32 pending (q + 28)) l) v) (t .name) (t .value)
         ∙ sym (named-is labels pending q (λ z. n (t .form ∙ z)))
 
-module _ (job : Job) (labels entry regions pending : List ℕ) (premises : Premises job labels entry regions pending) where
+module _ (job : Job) (labels : Table) (entry regions pending : List ℕ) (premises : Premises job labels entry regions pending) where
   -- the word of each patch in the image
   word-at : (p : ℕ) → In pending p
       → wordIn (imageOf (patchedRegions labels regions pending)) (pendingAt pending p .region) (pendingAt pending p .offset) ≡ finishedAt labels regions pending p

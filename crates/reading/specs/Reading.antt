@@ -6,6 +6,7 @@ use lib.ListN.{getD}
 use lib.Dec.{ltb}
 use Rattle.record.specs.Bytes.{le32, part}
 use Rattle.record.specs.Records.{bodyLen, places}
+use Rattle.labels.specs.Labels.{Table}
 use Rattle.labels.specs.declared.Address.{Address}
 use Rattle.labels.specs.declared.Address.the-variants.{Known}
 use Rattle.pending.specs.declared.InstructionLabelKind.{InstructionLabelKind}
@@ -69,6 +70,6 @@ unfoldable pub readings : Image → List ℕ → List Address
 unfolding places readBy
 readings image pending = map (λ (at : ℕ). Known (reading image (pendingAt pending at))) (places pending)
 
-unfoldable pub destinations : (labels pending : List ℕ) → List Address
+unfoldable pub destinations : (labels : Table) (pending : List ℕ) → List Address
 unfolding places destination
 destinations labels pending = map (λ (at : ℕ). destination labels pending (pendingAt pending at .label)) (places pending)

@@ -9,10 +9,9 @@ use lib.ListN.{length}
 use Rattle.jobs.specs.declared.Job.{Job}
 use Rattle.record.specs.Bytes.{byteAt, le32, le64}
 use Rattle.record.specs.Records.{bodyLen, next, places}
-use Rattle.names.specs.Names.{firstNamed}
 use Rattle.names.specs.declared.Named.{Named}
 use Rattle.names.specs.declared.Named.the-variants.{At, Missing}
-use Rattle.labels.specs.Labels.{addressOf, resolve}
+use Rattle.labels.specs.Labels.{labelled, addressOf, resolve, Table, tableOf}
 use Rattle.labels.specs.declared.Address.{Address}
 use Rattle.labels.specs.declared.Address.the-variants.{Known, Unknown}
 use Rattle.refusal.specs.declared.Verdict.the-variants.{Pass}
@@ -27,7 +26,7 @@ use Rattle.finished_words.specs.Listed.{In, Bytes}
 use Rattle.finished_words.specs.AcceptedLaws.{known}
 use Rattle.reading.specs.Reading.{imageOf, readings, destinations}
 use Rattle.reading.specs.Premises.{Premises}
-use Rattle.reading.specs.Used.{pendingName, entryName, SameUsed}
+use Rattle.reading.specs.Used.{pendingName, entryName, pendingSource, entrySource, usedBy, usedByEntry, SameUsed}
 use Rattle.reading.specs.ReadBackLaws.{label-is, named-is, read-back}
 
 -- equal lists of values have equal values
@@ -40,9 +39,9 @@ map-at f g (q ∷ ps) e p m = go (List·Memᴰ·cases-cons m) (map-at f g ps (cc
     go (inr t) ih = ih p t
 
 -- a label's address is a number of 32 bits
-resolve-lt : (labels name : List ℕ) (a : ℕ) → Bytes labels → resolve labels name ≡ Known a → a < 2 ^ 32
+resolve-lt : (labels : List ℕ) (source : ℕ) (name : List ℕ) (a : ℕ) → Bytes labels → resolve labels source name ≡ Known a → a < 2 ^ 32
 unfolding resolve
-resolve-lt labels name a b e = go (firstNamed 4 labels name (places labels)) e
+resolve-lt labels source name a b e = go (labelled labels source name) e
   where
     go : (n : Named) → addressOf labels n ≡ Known a → a < 2 ^ 32
     go (At p) k =
@@ -51,14 +50,16 @@ resolve-lt labels name a b e = go (firstNamed 4 labels name (places labels)) e
     go Missing k = let z : _≡_ {A = ℕ} 0 1 = cc in absurd (omega arith)
 
 -- an address with an offset, modulo 2^32, determines the address
-offset-same : (labels₁ labels₂ name : List ℕ) (v d : ℕ) → Bytes labels₁ → Bytes labels₂
-    → plusOffset (resolve labels₁ name) v ≡ Known d → plusOffset (resolve labels₂ name) v ≡ Known d → resolve labels₁ name ≡ resolve labels₂ name
-offset-same labels₁ labels₂ name v d b₁ b₂ e₁ e₂ = go (resolve labels₁ name) refl (resolve labels₂ name) refl
+offset-same : (labels₁ labels₂ : List ℕ) (source : ℕ) (name : List ℕ) (v d : ℕ) → Bytes labels₁ → Bytes labels₂
+    → plusOffset (resolve labels₁ source name) v ≡ Known d → plusOffset (resolve labels₂ source name) v ≡ Known d
+    → resolve labels₁ source name ≡ resolve labels₂ source name
+offset-same labels₁ labels₂ source name v d b₁ b₂ e₁ e₂ = go (resolve labels₁ source name) refl (resolve labels₂ source name) refl
   where
-    go : (x : Address) → resolve labels₁ name ≡ x → (y : Address) → resolve labels₂ name ≡ y → resolve labels₁ name ≡ resolve labels₂ name
+    go : (x : Address) → resolve labels₁ source name ≡ x → (y : Address) → resolve labels₂ source name ≡ y
+        → resolve labels₁ source name ≡ resolve labels₂ source name
     go (Known a) f (Known c) g =
-        let l₁ = resolve-lt labels₁ name a b₁ f in
-        let l₂ = resolve-lt labels₂ name c b₂ g in
+        let l₁ = resolve-lt labels₁ source name a b₁ f in
+        let l₂ = resolve-lt labels₂ source name c b₂ g in
         let z₁ : (a + v) % 2 ^ 32 ≡ d = cc in
         let z₂ : (c + v) % 2 ^ 32 ≡ d = cc in
         let s : a ≡ c = omega arith in
@@ -67,26 +68,26 @@ offset-same labels₁ labels₂ name v d b₁ b₂ e₁ e₂ = go (resolve label
     go Unknown f y g = let z : _≡_ {A = ℕ} 0 1 = cc in absurd (omega arith)
 
 module _ (job : Job) (labels₁ labels₂ entry regions pending : List ℕ) (b₁ : Bytes labels₁) (b₂ : Bytes labels₂)
-    (pr₁ : Premises job labels₁ entry regions pending) (pr₂ : Premises job labels₂ entry regions pending) where
+    (pr₁ : Premises job (tableOf labels₁) entry regions pending) (pr₂ : Premises job (tableOf labels₂) entry regions pending) where
   -- equal images have equal destinations
-  same-destinations : imageOf (patchedRegions labels₁ regions pending) ≡ imageOf (patchedRegions labels₂ regions pending)
-      → destinations labels₁ pending ≡ destinations labels₂ pending
+  same-destinations : imageOf (patchedRegions (tableOf labels₁) regions pending) ≡ imageOf (patchedRegions (tableOf labels₂) regions pending)
+      → destinations (tableOf labels₁) pending ≡ destinations (tableOf labels₂) pending
   same-destinations i =
-      sym (read-back job labels₁ entry regions pending pr₁) ∙ ap (λ (x : _). readings x pending) i ∙ read-back job labels₂ entry regions pending pr₂
+      sym (read-back job (tableOf labels₁) entry regions pending pr₁) ∙ ap (λ (x : _). readings x pending) i ∙ read-back job (tableOf labels₂) entry regions pending pr₂
 
-  pending-used : imageOf (patchedRegions labels₁ regions pending) ≡ imageOf (patchedRegions labels₂ regions pending)
-      → (p : ℕ) → In pending p → (byteAt pending (p + 19) ≡ 0 → ⊥) → resolve labels₁ (pendingName pending p) ≡ resolve labels₂ (pendingName pending p)
+  pending-used : imageOf (patchedRegions (tableOf labels₁) regions pending) ≡ imageOf (patchedRegions (tableOf labels₂) regions pending)
+      → (p : ℕ) → In pending p → (byteAt pending (p + 19) ≡ 0 → ⊥) → usedBy (tableOf labels₁) pending p ≡ usedBy (tableOf labels₂) pending p
   unfolding destinations
   pending-used i p m n =
-      let d : destination labels₁ pending (labelOf pending p) ≡ destination labels₂ pending (labelOf pending p) = map-at
-      (λ (at : ℕ). destination labels₁ pending (pendingAt pending at .label)) (λ (at : ℕ). destination labels₂ pending (pendingAt pending at .label))
+      let d : destination (tableOf labels₁) pending (labelOf pending p) ≡ destination (tableOf labels₂) pending (labelOf pending p) = map-at
+      (λ (at : ℕ). destination (tableOf labels₁) pending (pendingAt pending at .label)) (λ (at : ℕ). destination (tableOf labels₂) pending (pendingAt pending at .label))
       (places pending) (same-destinations i) p m in
-      let k = known job labels₁ entry regions pending (pr₁ .accepted) p m in
-      offset-same labels₁ labels₂ (pendingName pending p) (le64 pending (p + 20)) _ b₁ b₂
-      (sym (named-is labels₁ pending p n) ∙ k) (sym (named-is labels₂ pending p n) ∙ sym d ∙ k)
+      let k = known job (tableOf labels₁) entry regions pending (pr₁ .accepted) p m in
+      offset-same labels₁ labels₂ (pendingSource pending p) (pendingName pending p) (le64 pending (p + 20)) _ b₁ b₂
+      (sym (named-is (tableOf labels₁) pending p n) ∙ k) (sym (named-is (tableOf labels₂) pending p n) ∙ sym d ∙ k)
 
   -- the entry
-  entry-known : (labels : List ℕ) → Premises job labels entry regions pending → (p : ℕ) → places entry ≡ p ∷ []
+  entry-known : (labels : Table) → Premises job labels entry regions pending → (p : ℕ) → places entry ≡ p ∷ []
       → destination labels entry (addressLabelAt entry (p + 4) (next entry p)) ≡ Known (entryAddress labels entry (entryOf entry (places entry)))
   entry-known labels pr p e =
       go (destination labels entry (addressLabelAt entry (p + 4) (next entry p))) refl
@@ -102,26 +103,26 @@ module _ (job : Job) (labels₁ labels₂ entry regions pending : List ℕ) (b�
           let z : _≡_ {A = ℕ} 0 1 = cc in
           absurd (omega arith)
 
-  entry-used : entryAddress labels₁ entry (entryOf entry (places entry)) ≡ entryAddress labels₂ entry (entryOf entry (places entry))
-      → (p : ℕ) → In entry p → (byteAt entry (p + 4) ≡ 0 → ⊥) → resolve labels₁ (entryName entry p) ≡ resolve labels₂ (entryName entry p)
-  entry-used same p m n = alone (places entry) refl (entry-good entry (accepted-is job labels₁ entry regions pending (pr₁ .accepted) .entry-good) .2) m
+  entry-used : entryAddress (tableOf labels₁) entry (entryOf entry (places entry)) ≡ entryAddress (tableOf labels₂) entry (entryOf entry (places entry))
+      → (p : ℕ) → In entry p → (byteAt entry (p + 4) ≡ 0 → ⊥) → usedByEntry (tableOf labels₁) entry p ≡ usedByEntry (tableOf labels₂) entry p
+  entry-used same p m n = alone (places entry) refl (entry-good entry (accepted-is job (tableOf labels₁) entry regions pending (pr₁ .accepted) .entry-good) .2) m
     where
-      by-name : (labels : List ℕ) → destination labels entry (addressLabelAt entry (p + 4) (next entry p)) ≡ plusOffset (resolve labels (entryName entry p)) (le64 entry (p + 5))
-      by-name labels = label-is labels entry (p + 4) (next entry p) (p + 21) (bodyLen entry p - 17) (p + 5) n (omega arith) (omega arith) (omega arith)
+      by-name : (labels : Table) → destination labels entry (addressLabelAt entry (p + 4) (next entry p)) ≡ plusOffset (usedByEntry labels entry p) (le64 entry (p + 5))
+      by-name labels = label-is labels entry (p + 4) (next entry p) (p + 21) (bodyLen entry p - 17) (p + 5) (p + 13) n (omega arith) (omega arith) (omega arith) (omega arith)
 
-      first : places entry ≡ p ∷ [] → resolve labels₁ (entryName entry p) ≡ resolve labels₂ (entryName entry p)
+      first : places entry ≡ p ∷ [] → usedByEntry (tableOf labels₁) entry p ≡ usedByEntry (tableOf labels₂) entry p
       first e =
-          offset-same labels₁ labels₂ (entryName entry p) (le64 entry (p + 5)) _ b₁ b₂
-          (sym (by-name labels₁) ∙ entry-known labels₁ pr₁ p e)
-          (sym (by-name labels₂) ∙ entry-known labels₂ pr₂ p e ∙ ap Known (sym same))
+          offset-same labels₁ labels₂ (entrySource entry p) (entryName entry p) (le64 entry (p + 5)) _ b₁ b₂
+          (sym (by-name (tableOf labels₁)) ∙ entry-known (tableOf labels₁) pr₁ p e)
+          (sym (by-name (tableOf labels₂)) ∙ entry-known (tableOf labels₂) pr₂ p e ∙ ap Known (sym same))
 
       -- the list has no other record
-      alone : (ps : List ℕ) → places entry ≡ ps → length ps ≤ 1 → List·Memᴰ p ps → resolve labels₁ (entryName entry p) ≡ resolve labels₂ (entryName entry p)
+      alone : (ps : List ℕ) → places entry ≡ ps → length ps ≤ 1 → List·Memᴰ p ps → usedByEntry (tableOf labels₁) entry p ≡ usedByEntry (tableOf labels₂) entry p
       alone [] e l k = elim k [ ]
       alone (q ∷ []) e l k = ⊎-elim (λ s. first (e ∙ ap (λ (x : ℕ). x ∷ []) (sym s))) (λ t. absurd (List·Memᴰ·not-nil t)) (List·Memᴰ·cases-cons k)
       alone (q ∷ (r ∷ ps)) e l k = absurd (omega arith)
 
   -- Equal image and equal entry: every used address is equal.
-  pub same-used : imageOf (patchedRegions labels₁ regions pending) ≡ imageOf (patchedRegions labels₂ regions pending)
-      → entryAddress labels₁ entry (entryOf entry (places entry)) ≡ entryAddress labels₂ entry (entryOf entry (places entry)) → SameUsed labels₁ labels₂ entry pending
+  pub same-used : imageOf (patchedRegions (tableOf labels₁) regions pending) ≡ imageOf (patchedRegions (tableOf labels₂) regions pending)
+      → entryAddress (tableOf labels₁) entry (entryOf entry (places entry)) ≡ entryAddress (tableOf labels₂) entry (entryOf entry (places entry)) → SameUsed (tableOf labels₁) (tableOf labels₂) entry pending
   same-used i e = record { by-pending = pending-used i; by-entry = entry-used e }

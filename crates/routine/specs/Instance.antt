@@ -13,7 +13,7 @@ use Rattle.record.specs.Stores.{le32Bytes, locationBytes, recordBytes, append}
 use Rattle.record.specs.declared.Location.{Location}
 use Rattle.record.specs.declared.Layout.the-variants.{Good}
 use Rattle.refusal.specs.declared.Verdict.the-variants.{Pass}
-use Rattle.names.specs.Names.{firstNamed, firstLater, firstRepeat}
+use Rattle.names.specs.Names.{firstWhere, firstLater}
 use Rattle.loading.specs.declared.LoadForm.the-variants.{Nothing as Unloaded, BothHalves}
 use Rattle.loading.specs.Load.{isSmall, formOf, loadWords}
 use Rattle.lexer.specs.Tokens.{payloadOf, payloadOk, tokenOk, tokenLayout, tokens}
@@ -134,7 +134,7 @@ record Computed : Type 0 where
   breakpoints-come-to : routineBreakpoints example start ≡ breakpoints
 
 computed : Computed
-unfolding routineWords routinePatches routineBreakpoints patchesFrom pcsFrom callPairs emitOutcome lineOutcome listStop layoutStop roomStop edgeStop meaning wordBytes pendingsBytes pcsBytes append pseudoIn pseudoLine loadPairs labelPairs breakpointOk filledLayout pendingBufferLayout breakpointBufferLayout dataBufferLayout descriptorLayout mnemonicOk oneMnemonic mnemonicLayout mnemonicName readOperand readOperands symbolLabel toLabel getLabel getRegister signed getInteger getConstant passed peek step nextAdjacent peekAdjacent pendingOk addressLabelOk payloadOf payloadOk tokenOk tokenLayout tokens isSmall formOf loadWords firstNamed firstLater firstRepeat placesF placesFrom places firstBad firstBadOf withinLimit all sameBytes
+unfolding routineWords routinePatches routineBreakpoints patchesFrom pcsFrom callPairs emitOutcome lineOutcome listStop layoutStop roomStop edgeStop meaning wordBytes pendingsBytes pcsBytes append pseudoIn pseudoLine loadPairs labelPairs breakpointOk filledLayout pendingBufferLayout breakpointBufferLayout dataBufferLayout descriptorLayout mnemonicOk oneMnemonic mnemonicLayout mnemonicName readOperand readOperands symbolLabel toLabel getLabel getRegister signed getInteger getConstant passed peek step nextAdjacent peekAdjacent pendingOk addressLabelOk payloadOf payloadOk tokenOk tokenLayout tokens isSmall formOf loadWords firstWhere firstLater placesF placesFrom places firstBad firstBadOf withinLimit all sameBytes
 computed = record { accepted = next 3 BothHalves refl (next 3 Unloaded refl (next 1 Unloaded refl none)); words-come-to = refl; patches-come-to = refl; breakpoints-come-to = refl }
 
 -- ---- and what the theorem says of them
@@ -144,7 +144,7 @@ example-fits = routine-fits example start example-empty example-bytes (computed 
 
 -- b loop may come again, and a build of two regions takes what there is
 pub example-next : listsOf b (run example start) ≡ Pass
-unfolding tokenLayout tokenOk payloadOf payloadOk mnemonicLayout oneMnemonic mnemonicOk descriptorLayout firstRepeat firstLater placesF placesFrom places firstBad firstBadOf withinLimit all
+unfolding tokenLayout tokenOk payloadOf payloadOk mnemonicLayout oneMnemonic mnemonicOk descriptorLayout firstLater placesF placesFrom places firstBad firstBadOf withinLimit all
 example-next = example-fits .next-passes b (record { tokens-good = refl; mnemonic-good = refl; descriptors-good = refl; names-apart = refl; region-ok = refl })
 
 pub example-build : pendingLayout 2 (filled (run example start .pending)) ≡ Good

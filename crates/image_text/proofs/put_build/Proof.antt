@@ -6,6 +6,7 @@ use mathlib.Core.List.{List}
 use lib.ListN.{length, length-append}
 use borrow.Author.Needs.{needs}
 use Rattle.record.specs.declared.Layout.the-variants.{Good}
+use Rattle.labels.specs.Labels.{tableOf}
 use Rattle.refusal.specs.Numbers.{numbered}
 use Rattle.regions.specs.Regions.{regionLayout}
 use Rattle.build_outcome.specs.declared.Built.{Built}
@@ -32,7 +33,7 @@ good : (c : tie.After-address) → regionLayout (c .before .before .before .befo
 good c =
     let i = c .before .before .before .before .build-for .ensures in
     let a = c .before .before .before .before .before .before .before .before .before .before .before .args in
-    rw (i .bytes-are) (accepted-layout (a .job) (a .labels .now) (a .entry .now) (a .regions .now) (a .pending .now) (c .address .given .0 .0) (sym (i .answer-is) ∙ c .address .given .1))
+    rw (i .bytes-are) (accepted-layout (a .job) (tableOf (a .labels .now)) (a .entry .now) (a .regions .now) (a .pending .now) (c .address .given .0 .0) (sym (i .answer-is) ∙ c .address .given .1))
 
 room : (c : tie.After-address) (entry : ℕ) → 0 + length (imageText entry (imageOf (c .before .before .before .before .build-for .last .1 .1 .1 .0))) ≤ length (c .before .before .before .before .before .before .before .before .before .before .before .args .out .now)
 room c entry = omega (arith, image-most (c .before .before .before .before .build-for .last .1 .1 .1 .0) entry (good c), c .before .before .before .before .before .before .before .before .before .before .before .pre)

@@ -1,6 +1,7 @@
 -- Each return is one of the four outcomes of the checks. Assumes nothing.
 use native.Mathlib.Omega.{arith}
 use mathlib.Core.Path.{sym}
+use Rattle.labels.specs.Labels.{tableOf}
 use Rattle.patch.specs.PatchesLaws.{stops-past, stops-unknown, stops-far, passes}
 use borrow.Author.Needs.{needs}
 use Rattle.patch.proofs.check_pending.Statement.{statement}
@@ -9,22 +10,22 @@ use Rattle.patch.proofs.check_pending.Tie as tie
 returns : tie.Need-returns
 returns c =
     let a = c .before .before .before .before .before .before .args in
-    sym (stops-past (a .job) (a .labels .now) (a .pending .now) (a .region) (a .patch) (omega arith))
+    sym (stops-past (a .job) (tableOf (a .labels .now)) (a .pending .now) (a .region) (a .patch) (omega arith))
 
 returns-2 : tie.Need-returns-2
 returns-2 c =
     let a = c .before .before .before .before .before .before .before .before .before .before .before .args in
-    cc (stops-unknown (a .job) (a .labels .now) (a .pending .now) (a .region) (a .patch) (omega arith) (cc))
+    cc (stops-unknown (a .job) (tableOf (a .labels .now)) (a .pending .now) (a .region) (a .patch) (omega arith) (cc))
 
 returns-3 : tie.Need-returns-3
 returns-3 c =
     let a = c .before .before .before .before .before .before .before .before .before .before .before .before .before .args in
-    sym (passes (a .job) (a .labels .now) (a .pending .now) (a .region) (a .patch) (c .before .before .before .destination .given .0 .0) (omega arith) (cc) (cc))
+    sym (passes (a .job) (tableOf (a .labels .now)) (a .pending .now) (a .region) (a .patch) (c .before .before .before .destination .given .0 .0) (omega arith) (cc) (cc))
 
 returns-4 : tie.Need-returns-4
 returns-4 c =
     let a = c .before .before .before .before .before .before .before .before .before .before .before .before .before .args in
-    cc (stops-far (a .job) (a .labels .now) (a .pending .now) (a .region) (a .patch) (c .before .before .before .destination .given .0 .0) (omega arith) (cc) (cc))
+    cc (stops-far (a .job) (tableOf (a .labels .now)) (a .pending .now) (a .region) (a .patch) (c .before .before .before .destination .given .0 .0) (omega arith) (cc) (cc))
 
 pub check-pending-spec : {M : Type 1} → statement M
 check-pending-spec =

@@ -1,7 +1,9 @@
 -- A constant wraps; a name stands within its list, and its address plus the offset is the destination. Assumes nothing.
 use native.Mathlib.Omega.{arith}
-use mathlib.Core.Path.{_≡_}
+use mathlib.Core.Path.{_≡_, ap, _∙_}
 use Prim.Native.Nat.{_+_, _-_, _≤_}
+use Rattle.labels.specs.declared.Address.{Address}
+use Rattle.patch.specs.Patches.{wrap32, plusOffset}
 use Rattle.patch.specs.PatchesLaws.{destination-constant, destination-label}
 use lib.ListN.{length}
 use borrow.Author.Needs.{needs}
@@ -17,7 +19,7 @@ returns-2 c =
     let label = c .before .before .before .before .before .before .label2 .given in
     let name = label .0 .0 in
     let e : name .«name_at» + name .«name_len» - name .«name_at» ≡ name .«name_len» = omega arith in
-    rw (label .1, destination-label, ← e, ← c .before .get .ensures) (c .plus-offset .ensures)
+    rw (label .1, destination-label, ← e) (c .plus-offset .ensures ∙ ap (λ (a : Address). plusOffset a (wrap32 (name .offset))) (c .before .get .ensures))
 
 pub get-address-spec : {M : Type 1} → statement M
 get-address-spec =
