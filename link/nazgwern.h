@@ -99,12 +99,13 @@
    docs/REFUSALS.md says what to do about each.
 
    STACK. Measured, not proved, on x86-64 with gcc as the caller's compiler: link/stack ran over a
-   million calls of nazgwern_do_instruction, of which none took more than 4,632 bytes of stack, 731
-   of nazgwern_build, of which none took more than 456, as many by the manual and lines for Release
-   6, of which none took more than these, 20,506 of nazgwern_read_text, of which none took more than
-   928, and 1,338 of nazgwern_dry_run, of which none took more than 680; arguments and return
-   address counted. The code may also use the 128 bytes below its stack pointer, as the x86-64
-   convention allows. */
+   million calls of nazgwern_do_instruction, of which none took more than 25,728 bytes of stack, 762
+   of nazgwern_build, of which none took more than 36,704, as many by the manual and lines for
+   Release 6, of which none took more than these, 20,506 of nazgwern_read_text, of which none took
+   more than 928, and 1,338 of nazgwern_dry_run, of which none took more than 680; arguments and
+   return address counted. A build's stack is mostly the index of its labels, 29,124 bytes, and a
+   line's that of its descriptors, 20,164; short lists take them too. The code may also use the 128
+   bytes below its stack pointer, as the x86-64 convention allows. */
 #ifndef NAZGWERN_H
 #define NAZGWERN_H
 
@@ -133,7 +134,9 @@ extern "C" {
    pending and breakpoints.
    tokens       the operands of the line, kinds 0 to 15, read from the token position on
    mnemonic     one record of kind 32
-   descriptors  the instruction table, kind 33
+   descriptors  the instruction table, kind 33; where its names rise, byte by byte, as those of
+                link/instructions.h do, one pass tells that none repeats, and in any other order
+                they are sorted at each call
    data         the region's data; its fill count is the data length
    pending      kind 36 as far as filled
    breakpoints  kind 37 as far as filled

@@ -4,6 +4,7 @@
            li    $t0, 0x12345678
      loop: addiu $t0, $t0, -1
            bnez  $t0, loop */
+#include "instructions.h"
 #include "nazgwern.h"
 
 #include <inttypes.h>
@@ -18,12 +19,6 @@ enum { T0 = 8, BASE = 0x00400000 };
 struct list {
     size_t length;
     uint8_t bytes[256];
-};
-
-/* addiu: Op 9, encoding Immediate (7), alternative Func (1) 33. li and bnez are
-   pseudo-instructions and need no descriptor. */
-static const uint8_t descriptors[] = {
-    13, 0, 33, 0, 0, 9, 7, 0, 0, 1, 1, 33, 'a', 'd', 'd', 'i', 'u',
 };
 
 static struct list tokens;
@@ -93,7 +88,8 @@ static int emit(const char *name)
     put_named(&mnemonic, MNEMONIC, name);
     uint32_t number = nazgwern_do_instruction(
         tokens.bytes, tokens.length, mnemonic.bytes, mnemonic.length,
-        descriptors, sizeof descriptors, data, sizeof data, pending, sizeof pending,
+        nazgwern_instructions, sizeof nazgwern_instructions, data, sizeof data,
+        pending, sizeof pending,
         breakpoints, sizeof breakpoints, counts, sizeof counts, 0, 0, BASE,
         answer, sizeof answer);
     tokens.length = 0;

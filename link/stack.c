@@ -2,10 +2,11 @@
    and what it takes reaches from the frame of the function that makes the call, so arguments and
    return address count, down to the lowest word that has lost its paint.
 
-   Stack goes by the branches that a call takes and not by the length of its lists, so the lists
-   are short and the calls are many: each encoding and each pseudo-instruction with every line of
-   up to four operands, each patch, every text of up to three pieces, each instruction of a
-   dry run at both ends of its registers, and each refusal. */
+   Stack goes by the branches that a call takes, and by the length of its lists only where labels or
+   descriptors are sorted. So most lists are short and the calls are many: each encoding and each
+   pseudo-instruction with every line of up to four operands, each patch, every text of up to three
+   pieces, each instruction of a dry run at both ends of its registers, and each refusal. A few
+   calls have as many labels, pendings or descriptors as a list can have, in falling order. */
 #define _XOPEN_SOURCE 700
 #include "nazgwern.h"
 
@@ -37,7 +38,7 @@ enum { PIECES = sizeof pieces / sizeof *pieces };
 
 struct list {
     size_t length;
-    uint8_t bytes[1024];
+    uint8_t bytes[NAZGWERN_MOST_BYTES];
 };
 
 /* The arguments of the call that is measured. */
@@ -57,7 +58,8 @@ static uint32_t allowance;
 /* A text that is too long. */
 static const uint8_t over[NAZGWERN_MOST_BYTES + 1];
 
-static uint64_t area[2048];
+/* 40 KiB, painted but for what the call has written. */
+static uint64_t area[5120];
 static uint8_t *frame;
 static size_t greatest, calls;
 static bool seen[GREATEST_NUMBER + 1], short_seen;
@@ -100,13 +102,17 @@ static void dry_run(void)
                               allowance, answer, answer_length);
 }
 
-/* Runs the call on a freshly painted stack. */
+static void paint(size_t from)
+{
+    for (size_t i = from; i < sizeof area / sizeof *area; i++)
+        area[i] = PAINT;
+}
+
+/* Runs the call on the painted stack. */
 static void run(void (*call)(void))
 {
     static ucontext_t here, there;
 
-    for (size_t i = 0; i < sizeof area / sizeof *area; i++)
-        area[i] = PAINT;
     getcontext(&there);
     there.uc_stack.ss_sp = area;
     there.uc_stack.ss_size = sizeof area;
@@ -130,6 +136,7 @@ static void measure(void (*call)(void))
 
     size_t taken = (size_t)(frame - (uint8_t *)&area[word]);
     greatest = taken > greatest ? taken : greatest;
+    paint(word);
     if (number == NAZGWERN_TOO_SHORT)
         short_seen = true;
     else
@@ -196,19 +203,19 @@ static void operand(char letter)
 }
 
 /* A descriptor of this encoding; `more` sets the flag or gives the alternative that it may have. */
-static void descriptor(uint8_t encoding, bool more)
+static void descriptor(uint8_t encoding, bool more, const char *name)
 {
     bool sized = encoding >= 15 && encoding <= 18;
     bool flagged = encoding == 17 || encoding == 19 || encoding == 20;
 
-    put_head(&descriptors, 8 + 1, 33);
+    put_head(&descriptors, 8 + strlen(name), 33);
     put(&descriptors, encoding % 6, 1);
     put(&descriptors, 35, 1);
     put(&descriptors, encoding, 1);
     put(&descriptors, sized ? encoding % 3 : 0, 1);
     put(&descriptors, flagged && more, 1);
     put(&descriptors, encoding == 7 && more ? 0x210101 : 0, 3); /* present, Func 33 */
-    put_text(&descriptors, "t");
+    put_text(&descriptors, name);
 }
 
 static void named(const char *name)
@@ -258,12 +265,43 @@ static void all_lines(void)
     for (int encoding = 0; encoding < ENCODINGS; encoding++)
         for (int more = 0; more < 2; more++) {
             descriptors.length = 0;
-            descriptor((uint8_t)encoding, more == 1);
+            descriptor((uint8_t)encoding, more == 1, "t");
             lines(operands, 0);
         }
     for (int pseudo = 0; pseudo <= PSEUDOS; pseudo++) {
         named(pseudos[pseudo]);
         lines(operands, 0);
+    }
+}
+
+/* As many records as fit the list, each of so many bytes besides a name of one or two bytes. The
+   names fall. */
+static void fill(struct list *list, size_t size, void (*add)(const char *name))
+{
+    size_t pairs = (sizeof list->bytes - ('~' - ' ' + 1) * (size + 1)) / (size + 2);
+
+    list->length = 0;
+    for (char first = '~'; first >= ' '; first--) {
+        for (char second = '~'; second >= ' ' && pairs > 0; second--, pairs--)
+            add((const char[]){first, second, 0});
+        add((const char[]){first, 0});
+    }
+}
+
+static void add_descriptor(const char *name)
+{
+    descriptor(OFFSET, false, name);
+}
+
+/* Lines with the most descriptors. */
+static void long_lines(void)
+{
+    fill(&descriptors, 12, add_descriptor);
+    named("t");
+    line("rsb");
+    for (int pseudo = 0; pseudo <= PSEUDOS; pseudo++) {
+        named(pseudos[pseudo]);
+        line("rns");
     }
 }
 
@@ -275,7 +313,7 @@ static void refused_lines(void)
 
     named("t");
     descriptors.length = 0;
-    descriptor(OFFSET, false);
+    descriptor(OFFSET, false, "t");
     line("rsb");
     for (int i = 0; i < 5; i++)
         damaged(lists[i], do_instruction);
@@ -299,7 +337,7 @@ static void refused_lines(void)
     counts_length--;
     measure(do_instruction);
     counts_length++;
-    descriptor(OFFSET, false);
+    descriptor(OFFSET, false, "t");
     measure(do_instruction);
 }
 
@@ -322,21 +360,26 @@ static void patch(uint16_t number_of_region, uint32_t offset, int kind, int form
     reference(&pending, form, to);
 }
 
-static void label(uint32_t at)
+static void label(uint32_t at, const char *name)
 {
-    put_head(&labels, 4 + 1, 34);
+    put_head(&labels, 4 + strlen(name), 34);
     put(&labels, at, 4);
-    put_text(&labels, "x");
+    put_text(&labels, name);
+}
+
+static void entry_reference(int form, uint32_t to)
+{
+    entry.length = 0;
+    put_head(&entry, form == 0 ? 17 : 18, 38);
+    reference(&entry, form, to);
 }
 
 static void one_build(int kind, int form, uint32_t offset, uint32_t to, int entry_form)
 {
     labels.length = entry.length = pending.length = 0;
-    label(to);
-    if (entry_form < 3) {
-        put_head(&entry, entry_form == 0 ? 17 : 18, 38);
-        reference(&entry, entry_form, to);
-    }
+    label(to, "x");
+    if (entry_form < 3)
+        entry_reference(entry_form, to);
     patch(1, 0, kind, form, to);
     patch(0, offset, kind, form, to);
     measure(build);
@@ -357,6 +400,52 @@ static void all_builds(void)
                         one_build(kind, form, offset, far == 1 ? FAR : NEAR, entry_form);
 }
 
+static void add_label(const char *name)
+{
+    label(NEAR, name);
+}
+
+/* As many labels of one name as fit, whose owners fall. */
+static void fill_owners(void)
+{
+    enum { OWNED = 4 + 4 + 4 + 1 };
+
+    labels.length = 0;
+    for (uint32_t owner = sizeof labels.bytes / OWNED; owner-- > 0;) {
+        put_head(&labels, OWNED - 4, 41);
+        put(&labels, NEAR, 4);
+        put(&labels, owner, 4);
+        put_text(&labels, "x");
+    }
+}
+
+/* Builds of these labels with the most pendings. */
+static void long_builds(void)
+{
+    entry_reference(1, NEAR);
+    for (int kind = 0; kind < 5; kind++)
+        for (int form = 0; form < 3; form++) {
+            pending.length = 0;
+            while (pending.length + (form == 0 ? 36 : 37) <= sizeof pending.bytes)
+                patch(0, 0, kind, form, NEAR);
+            measure(build);
+        }
+}
+
+/* Builds with the most labels: for all, of owners, and of one name but for the first. */
+static void all_long_builds(void)
+{
+    fill(&labels, 8, add_label);
+    long_builds();
+    fill_owners();
+    long_builds();
+    labels.length = 0;
+    label(NEAR, "y");
+    while (labels.length + 9 <= sizeof labels.bytes)
+        label(NEAR, "x");
+    measure(build);
+}
+
 /* Refusals 1 and 2, and an answer that is too short. */
 static void refused_builds(void)
 {
@@ -368,7 +457,7 @@ static void refused_builds(void)
     answer_length--;
     measure(build);
     answer_length++;
-    label(NEAR);
+    label(NEAR, "x");
     measure(build);
 }
 
@@ -461,23 +550,27 @@ static void job(const char *line_name, const char *build_name)
 
     /* The first line fills the buffers in part, and all others come after its words and records. */
     named("t");
-    descriptor(OFFSET, false);
+    descriptor(OFFSET, false, "t");
     line("rsb");
     memcpy(filled, counts, sizeof filled);
 
     all_lines();
+    long_lines();
     refused_lines();
     report(line_name);
 
     if (build_name == NULL)
         return;
     all_builds();
+    all_long_builds();
     refused_builds();
     report(build_name);
 }
 
 int main(void)
 {
+    paint(0);
+
     emit = nazgwern_do_instruction, finish = nazgwern_build;
     job("nazgwern_do_instruction", "nazgwern_build");
 

@@ -16,6 +16,7 @@ use Rattle.names.specs.NamesLaws.{has-name, all-named, named-ok}
 use Rattle.names.specs.Owners.{hasOwner, WithoutOwners, hasOwnedName}
 use Rattle.names.specs.StraightLaws.{shared-named}
 use Rattle.names.specs.declared.Named.the-variants.{At}
+use Rattle.name_index.specs.CountLaws.{count-at-least}
 use Rattle.descriptors.specs.Descriptors.{fieldsOk, descriptorOk, descriptorLayout, findDescriptor}
 
 pub record DescriptorIs (s : List ℕ) (at : ℕ) : Type 0 where
@@ -58,6 +59,14 @@ module _ (s : List ℕ) where
   pub descriptors-good : descriptorLayout s ≡ Good → firstBad (descriptorOk s) (places s) ≡ Good
   unfolding descriptorLayout
   descriptors-good g = limit-good s (firstBad (descriptorOk s) (places s)) g .1
+
+  -- each descriptor has thirteen bytes at least
+  pub descriptors-few : descriptorLayout s ≡ Good → (length s ≤ limit) × (length (places s) ≤ 5041)
+  unfolding descriptorLayout
+  descriptors-few g =
+      let h = limit-good s (firstBad (descriptorOk s) (places s)) g .0 in
+      let n = count-at-least 13 s (descriptorOk s) (λ p e. let d = descriptor-is s p e in (d .whole-at, omega (arith, d .least))) (descriptors-good g) in
+      (h, omega arith)
 
   -- each record has a name and none an owner, and the one that is found is a descriptor
   pub descriptors-named : descriptorLayout s ≡ Good → firstBad (hasOwnedName 8 s) (places s) ≡ Good

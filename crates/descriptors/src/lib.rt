@@ -21,6 +21,9 @@ const MNEMONIC: usize = 32;
 
 const DESCRIPTOR: usize = 33;
 
+// The most descriptors of a list: one has thirteen bytes at least.
+const MOST: usize = 5041;
+
 // A row of the instruction table: how a mnemonic's word starts and is laid out.
 pub struct Instruction {
     pub opcode: Opcode,
@@ -215,12 +218,26 @@ pub fn first_bad_descriptor(list: &[u8]) -> Layout
     Layout::Good
 }
 
-// The first descriptor that shares its name with an earlier one.
+// The first descriptor that shares its name with an earlier one, by an index of the list.
+fn repeat_by_index(list: &[u8]) -> Repeat
+    requires { ⌜ descriptorLayout (now list) ≡ Layout.Good ⌝ }
+    ensures { λ r. ⌜ r ≡ descriptorRepeat (now (list .entry)) ⌝ }
+{
+    let mut index = [0u16; MOST];
+    let mut spare = [0u16; MOST];
+    let n = name_index::make(list, 8, &mut index, &mut spare);
+    name_index::first_repeat(list, 8, &index[..n])
+}
+
+// The first descriptor that shares its name with an earlier one: there is none where the names rise.
 pub fn first_repeat(list: &[u8]) -> Repeat
     requires { ⌜ descriptorLayout (now list) ≡ Layout.Good ⌝ }
     ensures { λ r. ⌜ r ≡ descriptorRepeat (now (list .entry)) ⌝ }
 {
-    names::first_repeat(list, 8)
+    if name_index::rises(list, 8) {
+        return Repeat::None;
+    }
+    repeat_by_index(list)
 }
 
 // The place of the descriptor of that name.

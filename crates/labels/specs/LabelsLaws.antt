@@ -72,6 +72,10 @@ pub labels-good : (s : List ℕ) → labelLayout s ≡ Good → firstBad (labelO
 unfolding labelLayout
 labels-good s g = limit-good s (firstBad (labelOk s) (places s)) g .1
 
+pub labels-within : (s : List ℕ) → labelLayout s ≡ Good → length s ≤ limit
+unfolding labelLayout
+labels-within s g = limit-good s (firstBad (labelOk s) (places s)) g .0
+
 pub labels-named : (s : List ℕ) → labelLayout s ≡ Good → firstBad (hasOwnedName 4 s) (places s) ≡ Good
 labels-named s g = all-named (labelOk s) (hasOwnedName 4 s) (λ p e. label-is s p e .named) (places s) (labels-good s g)
 

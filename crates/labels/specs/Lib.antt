@@ -1,4 +1,6 @@
 pub mod Labels
-pub mod LabelsLaws
+pub mod Lookup
 pub mod Straight
+pub mod LabelsLaws
+pub mod LookupLaws
 pub mod StraightLaws

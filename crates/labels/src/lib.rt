@@ -1,10 +1,13 @@
 // The label table: a list of label records instead of the Rust's map from names to addresses.
 ghost use mathlib.Core.Path.{_≡_};
 ghost use Prim.Native.Nat.{_≤_};
-ghost use lib.ListN.{length};
+ghost use lib.ListN.{length, take};
 ghost use mathlib.Core.Bool.{true};
 ghost use Rattle.names.specs.Owners.{hasOwnedName};
-ghost use Rattle.labels.specs.Labels.{labelKind, labelOk, labelLayout, labelRepeat, labelled, resolve};
+ghost use Rattle.labels.specs.Labels.{labelKind, labelOk, labelLayout, labelRepeat, resolve};
+ghost use Rattle.labels.specs.Lookup.{mostLabels, Indexed, lookedForAll, lookedUp};
+ghost use Rattle.name_index.specs.Index.{IndexOf};
+use name_index::Looked;
 use names::Named;
 use names::Repeat;
 use record::Layout;
@@ -14,6 +17,15 @@ pub enum Address {
     Known(u32),
     Unknown,
 }
+
+// An address, and how many names were compared to find it.
+pub struct Found {
+    pub address: Address,
+    pub compared: u32,
+}
+
+// The most labels of a list: one has nine bytes at least.
+pub const MOST: usize = 7281;
 
 // The record kind of a label for all files.
 const LABEL: usize = 34;
@@ -67,32 +79,95 @@ pub fn first_bad_label(labels: &[u8]) -> Layout
     Layout::Good
 }
 
-// The first label that shares its name with an earlier one.
-pub fn first_repeat(labels: &[u8]) -> Repeat
+// Makes the index of a list of labels, and answers their count; `spare` is scratch.
+pub fn make_index(labels: &[u8], index: &mut [u16], spare: &mut [u16]) -> usize
     requires { ⌜ labelLayout (now labels) ≡ Layout.Good ⌝ }
+    requires { ⌜ (mostLabels ≤ length (now index)) × (mostLabels ≤ length (now spare)) ⌝ }
+    ensures { λ r. ⌜ (r ≤ mostLabels) × IndexOf 4 (now (labels .entry)) (take r (now (index .exit))) ⌝ }
+{
+    name_index::make(labels, 4, index, spare)
+}
+
+// The first label that shares its name and owner with an earlier one, by an index of the list.
+pub fn first_repeat(labels: &[u8], index: &[u16]) -> Repeat
+    requires { ⌜ labelLayout (now labels) ≡ Layout.Good ⌝ }
+    requires { ⌜ IndexOf 4 (now labels) (now index) ⌝ }
     ensures { λ r. ⌜ r ≡ labelRepeat (now (labels .entry)) ⌝ }
 {
-    names::first_repeat(labels, 4)
+    name_index::first_repeat(labels, 4, index)
 }
 
-// The label of that name, the source's before the one for all.
-fn find(labels: &[u8], source: u32, name: &[u8]) -> Named
-    requires { ⌜ labelLayout (now labels) ≡ Layout.Good ⌝ }
-    ensures { λ r. ⌜ r ≡ labelled (now (labels .entry)) source (now (name .entry)) ⌝ }
+// The label for all of that name, which may stand where the search for the source's has ended.
+fn look_for_all(labels: &[u8], index: &[u16], end: usize, name: &[u8]) -> Looked
+    requires { ⌜ Indexed (now labels) (now index) ⌝ }
+    ensures { λ r. ⌜ r ≡ lookedForAll (now (labels .entry)) (now (index .entry)) end (now (name .entry)) ⌝ }
 {
-    match names::find_named(labels, 4, source, name) {
-        Named::At(at) => Named::At(at),
-        Named::Missing => names::find_named(labels, 4, names::FOR_ALL, name),
+    if end >= index.len() {
+        return name_index::find(labels, 4, index, names::FOR_ALL, name);
+    }
+    let place = wide(index[end]);
+    if names::is_owned(labels, 4, names::FOR_ALL, name, place) {
+        return Looked {
+            named: Named::At(place),
+            compared: 1,
+            end,
+        };
+    }
+    let other = name_index::find(labels, 4, index, names::FOR_ALL, name);
+    let named = other.named;
+    let compared = other.compared + 1;
+    let end = other.end;
+    Looked {
+        named,
+        compared,
+        end,
     }
 }
 
-// The address of the label of that name, the source's before the one for all.
-pub fn get(labels: &[u8], source: u32, name: &[u8]) -> Address
-    requires { ⌜ labelLayout (now labels) ≡ Layout.Good ⌝ }
-    ensures { λ r. ⌜ r ≡ resolve (now (labels .entry)) source (now (name .entry)) ⌝ }
+// The label of that name, the source's before the one for all, and how many names were compared.
+pub fn look_up(labels: &[u8], index: &[u16], source: u32, name: &[u8]) -> Looked
+    requires { ⌜ Indexed (now labels) (now index) ⌝ }
+    ensures { λ r. ⌜ r ≡ lookedUp (now (labels .entry)) (now (index .entry)) source (now (name .entry)) ⌝ }
 {
-    match find(labels, source, name) {
-        Named::At(at) => Address::Known(record::word_at(labels, at + 4)),
-        Named::Missing => Address::Unknown,
+    let own = name_index::find(labels, 4, index, source, name);
+    let named = own.named;
+    match named {
+        Named::At(_) => own,
+        Named::Missing => {
+            let other = look_for_all(labels, index, own.end, name);
+            let named = other.named;
+            let compared = own.compared + other.compared;
+            let end = other.end;
+            Looked {
+                named,
+                compared,
+                end,
+            }
+        }
     }
+}
+
+// The address of the label of that name, and how many names were compared.
+pub fn get(labels: &[u8], index: &[u16], source: u32, name: &[u8]) -> Found
+    requires { ⌜ Indexed (now labels) (now index) ⌝ }
+    ensures { λ r. ⌜ (r .address ≡ resolve (now (labels .entry)) source (now (name .entry))) × (r .compared ≡ lookedUp (now (labels .entry)) (now (index .entry)) source (now (name .entry)) .compared) × (r .compared ≤ 32) ⌝ }
+{
+    let looked = look_up(labels, index, source, name);
+    let named = looked.named;
+    match named {
+        Named::At(at) => Found {
+            address: Address::Known(record::word_at(labels, at + 4)),
+            compared: looked.compared,
+        },
+        Named::Missing => Found {
+            address: Address::Unknown,
+            compared: looked.compared,
+        },
+    }
+}
+
+fn wide(x: u16) -> usize
+    ensures { λ r. ⌜ r ≡ x ⌝ }
+{
+    x as usize
 }

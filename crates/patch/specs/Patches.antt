@@ -111,14 +111,17 @@ unfolding inRange
 reachVerdict job p pc Unknown = Stop (UnknownLabel (nameLocation (p .label)))
 reachVerdict job p pc (Known dest) = elim (inRange job (p .kind) pc dest) [ true ↦ Pass | false ↦ Stop (JumpOutOfRange (p .location) dest pc) ]
 
--- "14. A patch, taken in patch order, ends past its region's data"
-unfoldable pub pendingVerdict : Job → (labels : Table) (pending : List ℕ) → Region → Pending → Verdict
-unfolding reachVerdict destination
-pendingVerdict job labels pending region p =
+-- "14. A patch, taken in patch order, ends past its region's data"; its destination is given
+abbrev pub patchStop : Job → Region → Pending → Address → Verdict
+patchStop job region p address =
     elim (leb (p .offset + 4) (region .size)) [
-      | true ↦ reachVerdict job p (pcOf region p) (destination labels pending (p .label))
+      | true ↦ reachVerdict job p (pcOf region p) address
       | false ↦ Stop (PatchPastEnd (p .location))
     ]
+
+unfoldable pub pendingVerdict : Job → (labels : Table) (pending : List ℕ) → Region → Pending → Verdict
+unfolding reachVerdict destination
+pendingVerdict job labels pending region p = patchStop job region p (destination labels pending (p .label))
 
 -- ---- the word written
 
@@ -127,10 +130,12 @@ abbrev pub addressOr : ℕ → Address → ℕ
 addressOr other (Known address) = address
 addressOr other Unknown = other
 
--- the region list with the patch's word stored
+-- the region list with the patch's word stored; its destination is given
+abbrev pub writeWord : Region → Pending → Address → List ℕ → List ℕ
+writeWord region p address d =
+    append d (region .start + p .offset)
+    (le32Bytes (patchedWord (p .kind) (pcOf region p) (addressOr 0 address) (le32 d (region .start + p .offset))))
+
 unfoldable pub writePending : (labels : Table) (pending : List ℕ) → Region → Pending → List ℕ → List ℕ
 unfolding append destination
-writePending labels pending region p d =
-    append d (region .start + p .offset)
-    (le32Bytes
-    (patchedWord (p .kind) (pcOf region p) (addressOr 0 (destination labels pending (p .label))) (le32 d (region .start + p .offset))))
+writePending labels pending region p = writeWord region p (destination labels pending (p .label))

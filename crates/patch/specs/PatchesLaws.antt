@@ -24,7 +24,7 @@ use Rattle.pending.specs.declared.InstructionLabelKind.{InstructionLabelKind}
 use Rattle.pending.specs.declared.InstructionLabelKind.the-variants.{Branch, Jump, Lower, Upper, Full}
 use Rattle.pending.specs.declared.Pending.{Pending}
 use Rattle.regions.specs.declared.Region.{Region}
-use Rattle.patch.specs.Patches.{wrap32, pcOf, after, fieldWidth, fieldValue, branchInRange, jumpInRange, inRange, patchedWord, plusOffset, destination, nameLocation, reachVerdict, pendingVerdict}
+use Rattle.patch.specs.Patches.{wrap32, pcOf, after, fieldWidth, fieldValue, branchInRange, jumpInRange, inRange, patchedWord, plusOffset, destination, nameLocation, reachVerdict, patchStop, pendingVerdict}
 
 -- a destination of 32 bits has a field of the kind's width
 pub value-fits : (kind : InstructionLabelKind) (pc dest : ℕ) → dest < 2 ^ 32 → fieldValue kind pc dest < 2 ^ fieldWidth kind
@@ -86,7 +86,7 @@ unfolding destination
 destination-constant labels s value = refl
 
 -- an offset's low 32 bits are enough
-wrapped-offset : (a : Address) (offset : ℕ) → plusOffset a (wrap32 offset) ≡ plusOffset a offset
+pub wrapped-offset : (a : Address) (offset : ℕ) → plusOffset a (wrap32 offset) ≡ plusOffset a offset
 wrapped-offset (Known a) offset = ap Known (omega arith)
 wrapped-offset Unknown offset = refl
 
@@ -128,35 +128,30 @@ pub record Reached (job : Job) (labels : Table) (pending : List ℕ) (g : Region
   pub range : inRange job (p .kind) (pcOf g p) dest ≡ true
 
 -- the four outcomes of a patch's checks
+module _ (job : Job) (g : Region) (p : Pending) where
+  pub stops-past : (a : Address) → g .size < p .offset + 4 → patchStop job g p a ≡ Stop (PatchPastEnd (p .location))
+  stops-past a h = rw (lt-leb (p .offset + 4) (g .size) h, patchStop)
+
+  inside-is : (a : Address) → p .offset + 4 ≤ g .size → patchStop job g p a ≡ reachVerdict job p (pcOf g p) a
+  inside-is a h = rw (le-leb (p .offset + 4) (g .size) h, patchStop)
+
+  pub stops-unknown : p .offset + 4 ≤ g .size → patchStop job g p Unknown ≡ Stop (UnknownLabel (nameLocation (p .label)))
+  unfolding reachVerdict
+  stops-unknown h = inside-is Unknown h
+
+  pub stops-far : (d : ℕ) → p .offset + 4 ≤ g .size → inRange job (p .kind) (pcOf g p) d ≡ false
+      → patchStop job g p (Known d) ≡ Stop (JumpOutOfRange (p .location) d (pcOf g p))
+  unfolding reachVerdict
+  stops-far d h r = inside-is (Known d) h ∙ rw (r, reachVerdict)
+
+  pub passes : (d : ℕ) → p .offset + 4 ≤ g .size → inRange job (p .kind) (pcOf g p) d ≡ true → patchStop job g p (Known d) ≡ Pass
+  unfolding reachVerdict
+  passes d h r = inside-is (Known d) h ∙ rw (r, reachVerdict)
+
 module _ (job : Job) (labels : Table) (pending : List ℕ) (g : Region) (p : Pending) where
-  pub stops-past : g .size < p .offset + 4 → pendingVerdict job labels pending g p ≡ Stop (PatchPastEnd (p .location))
+  pub verdict-is : (a : Address) → destination labels pending (p .label) ≡ a → pendingVerdict job labels pending g p ≡ patchStop job g p a
   unfolding pendingVerdict
-  stops-past h = rw (lt-leb (p .offset + 4) (g .size) h, pendingVerdict)
-
-  inside-is : p .offset + 4 ≤ g .size
-      → pendingVerdict job labels pending g p ≡ reachVerdict job p (pcOf g p) (destination labels pending (p .label))
-  unfolding pendingVerdict
-  inside-is h = rw (le-leb (p .offset + 4) (g .size) h, pendingVerdict)
-
-  pub stops-unknown : p .offset + 4 ≤ g .size → destination labels pending (p .label) ≡ Unknown
-      → pendingVerdict job labels pending g p ≡ Stop (UnknownLabel (nameLocation (p .label)))
-  unfolding reachVerdict
-  stops-unknown h k = inside-is h ∙ ap (reachVerdict job p (pcOf g p)) k
-
-  known-is : (d : ℕ) → p .offset + 4 ≤ g .size → destination labels pending (p .label) ≡ Known d
-      → pendingVerdict job labels pending g p ≡ reachVerdict job p (pcOf g p) (Known d)
-  known-is d h k = inside-is h ∙ ap (reachVerdict job p (pcOf g p)) k
-
-  pub stops-far : (d : ℕ) → p .offset + 4 ≤ g .size → destination labels pending (p .label) ≡ Known d
-      → inRange job (p .kind) (pcOf g p) d ≡ false
-      → pendingVerdict job labels pending g p ≡ Stop (JumpOutOfRange (p .location) d (pcOf g p))
-  unfolding reachVerdict
-  stops-far d h k r = known-is d h k ∙ rw (r, reachVerdict)
-
-  pub passes : (d : ℕ) → p .offset + 4 ≤ g .size → destination labels pending (p .label) ≡ Known d
-      → inRange job (p .kind) (pcOf g p) d ≡ true → pendingVerdict job labels pending g p ≡ Pass
-  unfolding reachVerdict
-  passes d h k r = known-is d h k ∙ rw (r, reachVerdict)
+  verdict-is a e = ap (patchStop job g p) e
 
   pub reached : pendingVerdict job labels pending g p ≡ Pass → Reached job labels pending g p
   reached e = go (leb (p .offset + 4) (g .size)) refl (destination labels pending (p .label)) refl
@@ -164,7 +159,7 @@ module _ (job : Job) (labels : Table) (pending : List ℕ) (g : Region) (p : Pen
       far : (d : ℕ) → p .offset + 4 ≤ g .size → destination labels pending (p .label) ≡ Known d
           → (b : Bool) → inRange job (p .kind) (pcOf g p) d ≡ b → inRange job (p .kind) (pcOf g p) d ≡ true
       far d h k true r = r
-      far d h k false r = cc (stops-far d h k r)
+      far d h k false r = cc (verdict-is (Known d) k ∙ stops-far job g p d h r)
 
       go : (b : Bool) → leb (p .offset + 4) (g .size) ≡ b → (a : Address) → destination labels pending (p .label) ≡ a → Reached job labels pending g p
       go true f (Known d) k =
@@ -172,11 +167,11 @@ module _ (job : Job) (labels : Table) (pending : List ℕ) (g : Region) (p : Pen
           record { dest = d; inside = h; known = k; range = far d h k (inRange job (p .kind) (pcOf g p) d) refl }
       go true f Unknown k =
           let h : p .offset + 4 ≤ g .size = leb-true (p .offset + 4) (g .size) f in
-          let s = stops-unknown h k in
+          let s = verdict-is Unknown k ∙ stops-unknown job g p h in
           let z : _≡_ {A = ℕ} 0 1 = cc in
           absurd (omega arith)
       go false f a k =
           let h : g .size < p .offset + 4 = leb-false (p .offset + 4) (g .size) f in
-          let s = stops-past h in
+          let s = verdict-is a k ∙ stops-past job g p a h in
           let z : _≡_ {A = ℕ} 0 1 = cc in
           absurd (omega arith)

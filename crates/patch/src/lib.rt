@@ -2,25 +2,28 @@
 ghost use mathlib.Core.Path.{_≡_};
 ghost use Prim.Native.Nat.{_+_, _≤_, _<_, _^_};
 ghost use lib.ListN.{length};
-ghost use Rattle.labels.specs.Labels.{labelLayout, tableOf};
+ghost use Rattle.labels.specs.Labels.{tableOf};
+ghost use Rattle.labels.specs.Lookup.{Indexed};
 ghost use mathlib.Core.Bool.{_&&_};
 ghost use lib.Dec.{leb};
 ghost use Rattle.jobs.specs.Jobs.{mostBack, mostAhead};
-ghost use Rattle.patch.specs.Patches.{destination, plusOffset, nameEnd, inRange, patchedWord, nameLocation, addressOr, pendingVerdict, writePending};
+ghost use Rattle.patch.specs.Patches.{destination, plusOffset, nameEnd, inRange, patchedWord, nameLocation, addressOr, patchStop, writeWord};
+ghost use Rattle.patch.specs.Placed.{labelPlace, placedDestination};
+ghost use Rattle.patch.specs.PlacedLaws.{Placed};
 use address_label::AddressLabel;
 use jobs::Job;
 use labels::Address;
+use names::Named;
 use pending::InstructionLabelKind;
 use pending::Pending;
-use record::Layout;
 use record::Location;
 use refusal::Refusal;
 use refusal::Verdict;
 use regions::Region;
 
 // The destination of a constant, or of a name that stands in `list`.
-pub fn get_address(label: AddressLabel, list: &[u8], labels: &[u8]) -> Address
-    requires { ⌜ labelLayout (now labels) ≡ Layout.Good ⌝ }
+pub fn get_address(label: AddressLabel, list: &[u8], labels: &[u8], index: &[u16]) -> Address
+    requires { ⌜ Indexed (now labels) (now index) ⌝ }
     requires { ⌜ nameEnd label ≤ length (now list) ⌝ }
     ensures { λ r. ⌜ r ≡ destination (tableOf (now (labels .entry))) (now (list .entry)) label ⌝ }
 {
@@ -30,10 +33,48 @@ pub fn get_address(label: AddressLabel, list: &[u8], labels: &[u8]) -> Address
             let at = name.name_at;
             let end = at + name.name_len;
             let offset = (name.offset % 0x1_0000_0000) as u32;
-            plus_offset(
-                labels::get(labels, name.location.source, &list[at..end]),
-                offset,
-            )
+            let found = labels::get(labels, index, name.location.source, &list[at..end]);
+            let address = found.address;
+            plus_offset(address, offset)
+        }
+    }
+}
+
+// The place of the label that a name in `list` stands for.
+pub fn label_place(label: AddressLabel, list: &[u8], labels: &[u8], index: &[u16]) -> u16
+    requires { ⌜ Indexed (now labels) (now index) ⌝ }
+    requires { ⌜ nameEnd label ≤ length (now list) ⌝ }
+    ensures { λ r. ⌜ r ≡ labelPlace (now (labels .entry)) (now (list .entry)) label ⌝ }
+{
+    match label {
+        AddressLabel::Constant(_) => NO_PLACE,
+        AddressLabel::Label(name) => {
+            let at = name.name_at;
+            let end = at + name.name_len;
+            let looked = labels::look_up(labels, index, name.location.source, &list[at..end]);
+            let named = looked.named;
+            match named {
+                Named::At(place) => place as u16,
+                Named::Missing => NO_PLACE,
+            }
+        }
+    }
+}
+
+// The destination of a constant, or of a name whose label stands at `place`.
+pub fn address_at(label: AddressLabel, labels: &[u8], place: u16) -> Address
+    requires { ⌜ Placed (now labels) place ⌝ }
+    ensures { λ r. ⌜ r ≡ placedDestination (now (labels .entry)) label place ⌝ }
+{
+    match label {
+        AddressLabel::Constant(value) => Address::Known((value % 0x1_0000_0000) as u32),
+        AddressLabel::Label(name) => {
+            if place == NO_PLACE {
+                return Address::Unknown;
+            }
+            let offset = (name.offset % 0x1_0000_0000) as u32;
+            let address = record::word_at(labels, place as usize + 4);
+            Address::Known(std::num::wrapping_add_u32(address, offset))
         }
     }
 }
@@ -59,6 +100,9 @@ pub fn name_location(label: AddressLabel) -> Location
         AddressLabel::Label(name) => name.location,
     }
 }
+
+// No label stands there.
+const NO_PLACE: u16 = 0xFFFF;
 
 // Where a patch stands, and where it goes.
 struct Span {
@@ -111,17 +155,9 @@ fn add_label(instruction: u32, kind: InstructionLabelKind, span: Span) -> u32
     }
 }
 
-// The checks of one patch: 14, 15, 16.
-pub fn check_pending(
-    job: Job,
-    labels: &[u8],
-    pending: &[u8],
-    region: Region,
-    patch: Pending,
-) -> Verdict
-    requires { ⌜ labelLayout (now labels) ≡ Layout.Good ⌝ }
-    requires { ⌜ nameEnd (patch .label) ≤ length (now pending) ⌝ }
-    ensures { λ r. ⌜ r ≡ pendingVerdict job (tableOf (now (labels .entry))) (now (pending .entry)) region patch ⌝ }
+// The checks of one patch, of which the destination is given: 14, 15, 16.
+pub fn check_pending(job: Job, region: Region, patch: Pending, address: Address) -> Verdict
+    ensures { λ r. ⌜ r ≡ patchStop job region patch address ⌝ }
 {
     let location = patch.location;
     let label = patch.label;
@@ -131,7 +167,7 @@ pub fn check_pending(
         return Verdict::Stop(Refusal::PatchPastEnd(location));
     }
     let pc = std::num::wrapping_add_u32(region.address, patch.offset);
-    match get_address(label, pending, labels) {
+    match address {
         Address::Unknown => Verdict::Stop(Refusal::UnknownLabel(name_location(label))),
         Address::Known(destination) => {
             if in_range(job, kind, pc, destination) {
@@ -152,24 +188,15 @@ fn address_or_zero(address: Address) -> u32
     }
 }
 
-// Writes one patch into the region list.
-pub fn write_pending(
-    labels: &[u8],
-    regions: &mut [u8],
-    pending: &[u8],
-    region: Region,
-    patch: Pending,
-)
-    requires { ⌜ labelLayout (now labels) ≡ Layout.Good ⌝ }
-    requires { ⌜ nameEnd (patch .label) ≤ length (now pending) ⌝ }
+// Writes one patch, of which the destination is given, into the region list.
+pub fn write_pending(regions: &mut [u8], region: Region, patch: Pending, address: Address)
     requires { ⌜ region .start + patch .offset + 4 ≤ length (now regions) ⌝ }
-    ensures { λ _. ⌜ now (regions .exit) ≡ writePending (tableOf (now (labels .entry))) (now (pending .entry)) region patch (now (regions .entry)) ⌝ }
+    ensures { λ _. ⌜ now (regions .exit) ≡ writeWord region patch address (now (regions .entry)) ⌝ }
 {
-    let label = patch.label;
     let kind = patch.kind;
     let slot = region.start + patch.offset as usize;
     let pc = std::num::wrapping_add_u32(region.address, patch.offset);
-    let destination = address_or_zero(get_address(label, pending, labels));
+    let destination = address_or_zero(address);
     let span = Span { pc, destination };
     let word = add_label(record::word_at(regions, slot), kind, span);
     record::put32(regions, slot, word);

@@ -8,5 +8,5 @@ pub first-repeat-spec : {M : Type 1} → statement M
 first-repeat-spec =
     tie.close
     (tie.spec
-    (λ c κs. labels-named _ (c .before .pre))
+    (λ c κs. let s = c .before .before in (labels-named _ (s .pre .0), s .pre .1))
     (λ c. search needs))

@@ -1,12 +1,7 @@
 -- The word that is put is the patched one, by what the callees ensure. Assumes nothing.
-use Rattle.patch.specs.Patches.{writePending}
 use borrow.Author.Needs.{needs}
 use Rattle.patch.proofs.write_pending.Statement.{statement}
 use Rattle.patch.proofs.write_pending.Tie as tie
-
-returns : tie.Need-returns
-unfolding writePending
-returns c = cc
 
 pub write-pending-spec : {M : Type 1} → statement M
 write-pending-spec =
@@ -19,6 +14,5 @@ write-pending-spec =
     (λ c κs. search needs)
     (λ c κs. search needs)
     (λ c κs. search needs)
-    (λ c κs. search needs)
     (λ c. search needs)
-    returns)
+    (λ c. cc))

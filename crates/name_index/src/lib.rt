@@ -1,0 +1,168 @@
+// An ordered index of the names of a list of records, made in lent arrays: finds a record by owner and name, and the first that repeats both.
+ghost use mathlib.Core.Path.{_≡_};
+ghost use mathlib.Core.Bool.{true, not};
+ghost use Prim.Native.Nat.{_≤_, _<_};
+ghost use lib.ListN.{length, take, getD};
+ghost use Rattle.record.specs.Records.{places, firstBad, limit};
+ghost use Rattle.names.specs.Owners.{hasOwnedName, ownedRepeat};
+ghost use Rattle.name_index.specs.Index.{IndexOf, below, namesRise, lookup};
+ghost use Rattle.name_index.specs.IndexLaws.{ownedFirst};
+use name_order::Ordered;
+use names::Named;
+use names::Repeat;
+use record::Layout;
+
+// Where a name stands, how many names were compared to find it, and where in the index the search ended.
+pub struct Looked {
+    pub named: Named,
+    pub compared: u32,
+    pub end: usize,
+}
+
+// Writes the places of the list's records, and answers their count.
+fn fill(list: &[u8], skip: usize, index: &mut [u16]) -> usize
+    requires { ⌜ firstBad (hasOwnedName skip (now list)) (places (now list)) ≡ Layout.Good ⌝ }
+    requires { ⌜ (length (now list) ≤ limit) × (length (places (now list)) ≤ length (now index)) ⌝ }
+    ensures { λ r. ⌜ (r ≡ length (places (now (list .entry)))) × (take r (now (index .exit)) ≡ places (now (list .entry))) ⌝ }
+{
+    let mut at: usize = 0;
+    let mut n: usize = 0;
+    while at < list.len() {
+        index[n] = at as u16;
+        n += 1;
+        at = record::next(list, at);
+    }
+    n
+}
+
+// Whether the record at `p` has a name and an owner that go before those of the record at `q`.
+fn is_below(list: &[u8], skip: usize, p: usize, q: usize) -> bool
+    requires { ⌜ (hasOwnedName skip (now list) p ≡ true) × (hasOwnedName skip (now list) q ≡ true) ⌝ }
+    ensures { λ r. ⌜ r ≡ below skip (now (list .entry)) p q ⌝ }
+{
+    match name_sort::stands(
+        list,
+        skip,
+        p,
+        names::owner_at(list, skip, q),
+        names::name_at(list, skip, q),
+    ) {
+        Ordered::Less => true,
+        Ordered::Same => false,
+        Ordered::More => false,
+    }
+}
+
+// Whether each record's name and owner go before the next one's: then none repeats another, and no index is needed to say so.
+pub fn rises(list: &[u8], skip: usize) -> bool
+    requires { ⌜ firstBad (hasOwnedName skip (now list)) (places (now list)) ≡ Layout.Good ⌝ }
+    ensures { λ r. ⌜ r ≡ namesRise skip (now (list .entry)) ⌝ }
+{
+    if list.len() == 0 {
+        return true;
+    }
+    let mut last: usize = 0;
+    let mut at: usize = record::next(list, 0);
+    while at < list.len() {
+        if !is_below(list, skip, last, at) {
+            return false;
+        }
+        last = at;
+        at = record::next(list, at);
+    }
+    true
+}
+
+// Makes the index of the list's records, and answers their count; `spare` is scratch.
+pub fn make(list: &[u8], skip: usize, index: &mut [u16], spare: &mut [u16]) -> usize
+    requires { ⌜ firstBad (hasOwnedName skip (now list)) (places (now list)) ≡ Layout.Good ⌝ }
+    requires { ⌜ (length (now list) ≤ limit) × (length (places (now list)) ≤ length (now index)) × (length (places (now list)) ≤ length (now spare)) ⌝ }
+    ensures { λ r. ⌜ (r ≡ length (places (now (list .entry)))) × IndexOf skip (now (list .entry)) (take r (now (index .exit))) ⌝ }
+{
+    let n = fill(list, skip, index);
+    name_sort::sort(list, skip, &mut index[..n], spare);
+    n
+}
+
+// The place of the record of that owner and name, by an index of the list's records.
+pub fn find(list: &[u8], skip: usize, index: &[u16], owner: u32, name: &[u8]) -> Looked
+    requires { ⌜ firstBad (hasOwnedName skip (now list)) (places (now list)) ≡ Layout.Good ⌝ }
+    requires { ⌜ IndexOf skip (now list) (now index) × (length (now index) < 65536) ⌝ }
+    ensures { λ r. ⌜ r ≡ lookup skip (now (list .entry)) (now (index .entry)) owner (now (name .entry)) ⌝ }
+{
+    let mut lo: usize = 0;
+    let mut hi: usize = index.len();
+    let mut compared: u32 = 0;
+    while lo < hi {
+        let mid = lo + (hi - lo) / 2;
+        let p = wide(index[mid]);
+        compared += 1;
+        match name_sort::stands(list, skip, p, owner, name) {
+            Ordered::Less => {
+                lo = mid + 1;
+            }
+            Ordered::Same => {
+                return Looked {
+                    named: Named::At(p),
+                    compared,
+                    end: mid,
+                };
+            }
+            Ordered::More => {
+                hi = mid;
+            }
+        }
+    }
+    Looked {
+        named: Named::Missing,
+        compared,
+        end: lo,
+    }
+}
+
+// Whether the record at the index's place `i` has the owner and name of an earlier one: equal ones are neighbours.
+fn repeats(list: &[u8], skip: usize, index: &[u16], i: usize) -> bool
+    requires { ⌜ firstBad (hasOwnedName skip (now list)) (places (now list)) ≡ Layout.Good ⌝ }
+    requires { ⌜ IndexOf skip (now list) (now index) × (0 < i) × (i < length (now index)) ⌝ }
+    ensures { λ r. ⌜ ownedFirst skip (now (list .entry)) (getD (now (index .entry)) i 0) ≡ not r ⌝ }
+{
+    let p = wide(index[i]);
+    names::is_owned(
+        list,
+        skip,
+        names::owner_at(list, skip, p),
+        names::name_at(list, skip, p),
+        wide(index[i - 1]),
+    )
+}
+
+// The first record that shares its owner and name with an earlier one, by an index of the list's records.
+pub fn first_repeat(list: &[u8], skip: usize, index: &[u16]) -> Repeat
+    requires { ⌜ firstBad (hasOwnedName skip (now list)) (places (now list)) ≡ Layout.Good ⌝ }
+    requires { ⌜ IndexOf skip (now list) (now index) ⌝ }
+    ensures { λ r. ⌜ r ≡ ownedRepeat skip (now (list .entry)) ⌝ }
+{
+    let mut best: usize = list.len();
+    let mut i: usize = 1;
+    while i < index.len() {
+        let p = wide(index[i]);
+        if p >= best {
+            i += 1;
+        } else if repeats(list, skip, index, i) {
+            best = p;
+            i += 1;
+        } else {
+            i += 1;
+        }
+    }
+    if best < list.len() {
+        return Repeat::Later(best);
+    }
+    Repeat::None
+}
+
+fn wide(x: u16) -> usize
+    ensures { λ r. ⌜ r ≡ x ⌝ }
+{
+    x as usize
+}

@@ -1,0 +1,4 @@
+pub mod Sorting
+pub mod SortingLaws
+pub mod Before
+pub mod BeforeLaws
