@@ -7,3 +7,4 @@ pub mod AsManual
 pub mod Function18
 pub mod Function18Laws
 pub mod Demands
+pub mod LookedUp

@@ -1,0 +1,28 @@
+-- What a lookup of a label gives, by computation: its place, and how many names were compared. The list has a `loop` for all files, at 0, and one
+-- of file 1, at 12, which goes first in the index. Assumes nothing.
+use Prim.Native.Nat.{ℕ}
+use mathlib.Core.List.{List, [], _∷_}
+use mathlib.Core.Path.{_≡_, refl}
+use Rattle.record.specs.Bytes.{sameBytes}
+use Rattle.names.specs.declared.Named.the-variants.{At, Missing}
+use Rattle.name_order.specs.Order.{order}
+use Rattle.name_index.specs.Index.{searchF, searchFrom, lookup}
+use Rattle.labels.specs.Lookup.{lookedForAll, lookedUp}
+use Rattle.finished_words.specs.InstanceTables.{loop, labels₁}
+
+abbrev index : List ℕ
+index = 12 ∷ 0 ∷ []
+
+pub record LookedUp : Type 0 where
+  -- for file 1: its own, the second that is compared
+  pub own : lookedUp labels₁ index 1 loop ≡ record { named = At 12; compared = 2; end = 0 }
+  -- for file 2: two are compared, and then the one where the search has ended, which is the one for all
+  pub ended-there : lookedUp labels₁ index 2 loop ≡ record { named = At 0; compared = 3; end = 1 }
+  -- for file 0 the search ends at file 1's: one comparison there, and one more finds the one for all
+  pub searched-again : lookedUp labels₁ index 0 loop ≡ record { named = At 0; compared = 4; end = 1 }
+  -- the name "a": two, the one where the search has ended, and two again
+  pub nowhere : lookedUp labels₁ index 1 (97 ∷ []) ≡ record { named = Missing; compared = 5; end = 0 }
+
+pub looked-up : LookedUp
+unfolding labels₁ lookedUp lookedForAll lookup searchFrom searchF order sameBytes
+looked-up = record { own = refl; ended-there = refl; searched-again = refl; nowhere = refl }
