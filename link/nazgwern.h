@@ -50,14 +50,14 @@
    all state is in the buffers.
 
    ANSWER. Six numbers of four bytes: number, source, index, a, b, and a line's position, a build's
-   entry, a text's fill or a dry run's pc. Number 0 is an accepted call, 1 to 16, 19 to 23, 28 and
-   30 are refusals; source and index are the refusal's location, a is given by its low 32 bits, and
-   numbers that are not named here are 0. Of an accepted line a says how its constant is loaded: 0
-   none is, 1 addiu alone, 2 ori alone, 3 lui alone, 4 both halves. The number is returned too. On
-   refusal the answer is written and no other lent byte changes. If the answer has fewer than 24
-   bytes, or the counts fewer than 12 (a range's fewer than 32), or the registers fewer than 128,
-   the call returns NAZGWERN_TOO_SHORT and changes nothing at all. Bytes behind these stay as they
-   are.
+   entry, a text's fill or a dry run's pc. Number 0 is an accepted call, 1 to 16, 19 to 23, 27, 28
+   and 30 are refusals; source and index are the refusal's location, a is given by its low 32 bits,
+   and numbers that are not named here are 0. Of an accepted line a says how its constant is
+   loaded: 0 none is, 1 addiu alone, 2 ori alone, 3 lui alone, 4 both halves. The number is
+   returned too. On refusal the answer is written and no other lent byte changes. If the answer has
+   fewer than 24 bytes, or the counts fewer than 12 (a range's fewer than 32), or the registers
+   fewer than 128, the call returns NAZGWERN_TOO_SHORT and changes nothing at all. Bytes behind
+   these stay as they are.
 
       1  A record breaks the layout or sits in the wrong list, a buffer is over 65,536 bytes, a fill
          count is over its buffer's length, or the region's number is none (a: buffer in argument
@@ -99,8 +99,8 @@
    docs/REFUSALS.md says what to do about each.
 
    STACK. Measured, not proved, on x86-64 with gcc as the caller's compiler: link/stack ran over a
-   million calls of nazgwern_do_instruction, of which none took more than 25,728 bytes of stack, 762
-   of nazgwern_build, of which none took more than 36,704, as many by the manual and lines for
+   million calls of nazgwern_do_instruction, of which none took more than 24,088 bytes of stack, 762
+   of nazgwern_build, of which none took more than 37,712, as many by the manual and lines for
    Release 6, of which none took more than these, 20,506 of nazgwern_read_text, of which none took
    more than 928, and 1,338 of nazgwern_dry_run, of which none took more than 680; arguments and
    return address counted. A build's stack is mostly the index of its labels, 29,124 bytes, and a

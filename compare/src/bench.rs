@@ -4,6 +4,7 @@ use crate::answer::Answer;
 use crate::build_input::BuildInput;
 use crate::job::Job;
 use crate::judge_build;
+use crate::names::{digits, spoken};
 use crate::options::Options;
 use crate::other::{library, Other};
 use crate::random::Random;
@@ -18,20 +19,22 @@ const ROUNDS: usize = 201;
 /// Where the timed routines begin; their entry records name the label there.
 const ENTRY: u32 = 0x0040_0000;
 
-/// Labels, pendings, how a label is named by its number, builds in one timed batch. Batches are
-/// small, so that what was prepared for them is still in the processor's caches.
-type Size = (usize, usize, fn(usize) -> Vec<u8>, usize);
+/// Labels, pendings, regions, how a label is named by its number, builds in one timed batch. Batches
+/// are small, so that what was prepared for them is still in the processor's caches.
+type Size = (usize, usize, usize, fn(usize) -> Vec<u8>, usize);
 
 /// First as many pendings as labels, then as many as a list of 65,536 bytes holds: with a name of
-/// twelve bytes a pending takes 48, with one of four 40, with one of two 38. The last has the most
-/// labels that a list holds, with all names of one byte.
-const SIZES: [Size; 6] = [
-    (10, 10, |number| digits(number, 12), 64),
-    (100, 100, |number| digits(number, 12), 16),
-    (10, 1365, |number| digits(number, 12), 2),
-    (100, 1365, |number| digits(number, 12), 2),
-    (2000, 1638, |number| digits(number, 4), 2),
-    (6563, 1724, shortest, 1),
+/// twelve bytes a pending takes 48, with one of sixteen 52, with one of four 40, with one of two 38.
+/// The last has the most labels that a list holds, with all names of one byte.
+const SIZES: [Size; 8] = [
+    (10, 10, 1, |number| digits(number, 12), 64),
+    (100, 100, 1, |number| digits(number, 12), 16),
+    (10, 1365, 1, |number| digits(number, 12), 2),
+    (10, 1365, 16, |number| digits(number, 12), 2),
+    (100, 1365, 1, |number| digits(number, 12), 2),
+    (2000, 1260, 1, spoken, 2),
+    (2000, 1638, 1, |number| digits(number, 4), 2),
+    (6563, 1724, 1, shortest, 1),
 ];
 
 /// How a list stands: in an order drawn at random, or rising by names.
@@ -39,10 +42,6 @@ const SIZES: [Size; 6] = [
 enum Order {
     Random,
     Rising,
-}
-
-fn digits(number: usize, length: usize) -> Vec<u8> {
-    format!("{number:0length$}").into_bytes()
 }
 
 /// The 95 names of one byte, then names of two.
@@ -70,12 +69,13 @@ pub fn run(options: &Options) -> bool {
     println!(
         "The pendings name all labels in an order drawn at random; 'order' is that of the label"
     );
-    println!("list.");
+    println!("list. Of several regions the pendings take turns.");
     println!();
     println!(
-        "{:>6} {:>8} {:>6} {:>12} {:>12} {:>12} {:>14} {:>14}",
+        "{:>6} {:>8} {:>7} {:>6} {:>12} {:>12} {:>12} {:>14} {:>14}",
         "labels",
         "pendings",
+        "regions",
         "order",
         "Rust, build",
         "Rust, whole",
@@ -92,7 +92,7 @@ pub fn run(options: &Options) -> bool {
 /// One row of the table; false where the sides differ.
 fn row(options: &Options, size: Size, order: Order, shown: &str) -> bool {
     let input = input(size, order);
-    let (labels, pendings, _, batch) = size;
+    let (labels, pendings, regions, _, batch) = size;
     if run_build::agreed(options, &input).map(|(answer, _)| answer) != Some(Answer::accepted(ENTRY))
     {
         println!("the sides differ on {labels} labels");
@@ -121,7 +121,7 @@ fn row(options: &Options, size: Size, order: Order, shown: &str) -> bool {
     let [build, whole, other] = [build, whole, other].map(median);
     let [by_build, by_whole] = [other / build, other / whole];
     println!(
-        "{labels:>6} {pendings:>8} {shown:>6} {build:>12.0} {whole:>12.0} {other:>12.0} \
+        "{labels:>6} {pendings:>8} {regions:>7} {shown:>6} {build:>12.0} {whole:>12.0} {other:>12.0} \
          {by_build:>14.2} {by_whole:>14.2}"
     );
 
@@ -156,22 +156,11 @@ pub fn median(mut times: Vec<f64>) -> f64 {
     times[times.len() / 2]
 }
 
-/// The numbers below `count`, in an order drawn at random.
-fn shuffled(random: &mut Random, count: usize) -> Vec<usize> {
-    let mut numbers: Vec<usize> = (0..count).collect();
-
-    for left in (1..count).rev() {
-        numbers.swap(left, random.below(left + 1));
-    }
-
-    numbers
-}
-
 /// A routine with a label on every so many words and a patch in each word, of each kind in
 /// turn, that names them all over the table.
-fn input((labels, pendings, name, _): Size, order: Order) -> BuildInput {
+fn input((labels, pendings, regions, name, _): Size, order: Order) -> BuildInput {
     let mut random = Random::of(labels as u64, pendings as u64);
-    let mut table: Vec<Label> = shuffled(&mut random, labels)
+    let mut table: Vec<Label> = random.shuffled(labels)
         .into_iter()
         .map(|number| Label {
             address: ENTRY + 4 * (number * pendings / labels) as u32,
@@ -183,12 +172,12 @@ fn input((labels, pendings, name, _): Size, order: Order) -> BuildInput {
         table.sort_by(|one, other| one.name.cmp(&other.name));
     }
 
-    let used = shuffled(&mut random, labels);
+    let used = random.shuffled(labels);
     let pending: Vec<_> = (0..pendings)
         .map(|place| {
             Pending {
-                region: 0,
-                offset: 4 * place as u32,
+                region: (place % regions) as u16,
+                offset: 4 * (place / regions) as u32,
                 source: 0,
                 index: 20 * place as u32,
                 patch: (place % 5) as u8,
@@ -198,10 +187,15 @@ fn input((labels, pendings, name, _): Size, order: Order) -> BuildInput {
         })
         .collect();
 
+    let bytes = 4 * pendings.div_ceil(regions);
+    let data: Vec<_> = (0..regions)
+        .map(|number| addressed(kind::REGION, ENTRY + (number * bytes) as u32, &vec![0; bytes]))
+        .collect();
+
     BuildInput {
         labels: write(&table.iter().map(Label::record).collect::<Vec<_>>()),
         entry: write(&[entry(&reference(0, 0, name(0)))]),
-        regions: write(&[addressed(kind::REGION, ENTRY, &vec![0; 4 * pendings])]),
+        regions: write(&data),
         pending: write(&pending),
     }
 }

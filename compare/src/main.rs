@@ -34,6 +34,7 @@ mod generate_full_build;
 mod generate_full_line;
 mod generate_job_line;
 mod generate_line;
+mod generate_many_labels;
 mod generate_owners;
 mod job;
 mod judge_build;

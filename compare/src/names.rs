@@ -22,6 +22,18 @@ pub fn name(random: &mut Random) -> Vec<u8> {
         .collect()
 }
 
+/// A number as a name, of at least so many digits.
+pub fn digits(number: usize, length: usize) -> Vec<u8> {
+    format!("{number:0length$}").into_bytes()
+}
+
+/// A number as a name such as a loft may give.
+pub fn spoken(number: usize) -> Vec<u8> {
+    let what = ["pen_lift", "seam_walk", "corner_dwell", "loop"][number % 4];
+
+    format!("{what}_{}", number / 4).into_bytes()
+}
+
 /// A name that differs from `from` in one small way: an easy one to confuse with it.
 pub fn near_name(random: &mut Random, from: &[u8]) -> Vec<u8> {
     let mut name = from.to_vec();

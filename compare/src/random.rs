@@ -52,6 +52,17 @@ impl Random {
         from[self.below(from.len())]
     }
 
+    /// The numbers below `count`, in an order drawn at random.
+    pub fn shuffled(&mut self, count: usize) -> Vec<usize> {
+        let mut numbers: Vec<usize> = (0..count).collect();
+
+        for left in (1..count).rev() {
+            numbers.swap(left, self.below(left + 1));
+        }
+
+        numbers
+    }
+
     pub fn bytes(&mut self, count: usize) -> Vec<u8> {
         (0..count).map(|_| self.u8()).collect()
     }

@@ -6,6 +6,7 @@ use crate::damage_build::damaged;
 use crate::damage_owners::damage_labels;
 use crate::generate_build::well_formed;
 use crate::generate_full_build::full_list;
+use crate::generate_many_labels::many_labels;
 use crate::generate_owners::{full_labels, put_owners};
 use crate::job::Job;
 use crate::judge_job::{self, Judge, Judged};
@@ -21,7 +22,10 @@ pub fn run(options: &Options) -> bool {
     let mut whole = 0u64;
 
     for index in 0..options.count {
-        let (well, input) = generated(options.seed, index, options.job, options.owners);
+        let (well, input) = match index % 400 {
+            0 => (true, of_many_labels(options, index)),
+            _ => generated(options.seed, index, options.job, options.owners),
+        };
 
         if well {
             whole += 1;
@@ -52,6 +56,14 @@ pub fn run(options: &Options) -> bool {
     println!("0 differ");
 
     true
+}
+
+/// A build call with many labels.
+fn of_many_labels(options: &Options, index: u64) -> BuildInput {
+    let mut random = Random::of(options.seed, index);
+    let lists = well_formed(&mut random, options.job);
+
+    many_labels(&mut random, options.owners, lists).write()
 }
 
 /// A build call, and whether it was made well formed.

@@ -21,7 +21,7 @@ use Rattle.patch.specs.Patches.{destination, nameLocation}
 use Rattle.patch.specs.Placed.{labelPlace}
 use Rattle.build_outcome.specs.declared.Built.{Built}
 use Rattle.build_outcome.specs.declared.Built.the-variants.{Entry as BuiltEntry, Refused}
-use Rattle.build_outcome.specs.Build.{patchOrder, patchVerdict}
+use Rattle.build_outcome.specs.Build.{orderFrom, patchOrder, patchVerdict}
 
 -- the entry's part of the answer
 abbrev pub reachedEntry : AddressLabel → Address → Built
@@ -45,6 +45,10 @@ mostPendings = 1820
 pub record Ordered (ps : List ℕ) (n : ℕ) (order : List ℕ) : Type 0 where
   pub count : n ≡ length ps
   pub places-are : take n order ≡ ps
+
+-- patch order, of as many regions as the pendings may be of
+abbrev pub InPatchOrder : (pending : List ℕ) (n : ℕ) (order : List ℕ) → Type 0
+InPatchOrder pending n order = (count : ℕ) → count ≤ 16 → pendingLayout count pending ≡ Good → Ordered (orderFrom count pending 0) n order
 
 -- a pending stands at each of the places
 abbrev pub EachPending : (pending ps : List ℕ) → Type 0

@@ -10,9 +10,8 @@ use lib.ListN.{length}
 use lib.Dec.{eqb}
 use borrow.Author.Tests.{eqb-true, eqb-false}
 use Rattle.jobs.specs.declared.Job.{Job}
-use Rattle.record.specs.Records.{places, firstBad}
-use Rattle.record.specs.RecordsLaws.{first-good}
-use Rattle.record.specs.declared.Layout.the-variants.{Good}
+use Rattle.record.specs.Records.{places}
+use Rattle.record.specs.OneMoreLaws.{good-each}
 use Rattle.refusal.specs.declared.Verdict.the-variants.{Pass}
 use Rattle.labels.specs.declared.Address.the-variants.{Known}
 use Rattle.labels.specs.Labels.{Table}
@@ -25,16 +24,6 @@ use Rattle.build_outcome.specs.KeptLaws.{InData, in-data, data-apart, Kept, kep
 use Rattle.build_outcome.specs.Build.{patchOrder, patchVerdict, buildVerdict, writePatches, patchedRegions}
 use Rattle.build_outcome.specs.BuildLaws.{Accepted, accepted-is, each-pass, in-order, ordered-in}
 use Rattle.finished_words.specs.Listed.{In, kindOf, pcAt, destinationAt, slotAt, Apart}
-
--- the test holds at each element of a list that has no bad one
-good-mem : (ok : ℕ → Bool) (ps : List ℕ) → firstBad ok ps ≡ Good → (p : ℕ) → List·Memᴰ p ps → ok p ≡ true
-good-mem ok [] g p m = elim m [ ]
-good-mem ok (q ∷ ps) g p m = go (first-good ok q ps g) (List·Memᴰ·cases-cons m) (good-mem ok ps)
-  where
-    go : (ok q ≡ true) × (firstBad ok ps ≡ Good) → (p ≡ q) ⊎ List·Memᴰ p ps
-        → (firstBad ok ps ≡ Good → (p : ℕ) → List·Memᴰ p ps → ok p ≡ true) → ok p ≡ true
-    go h (inl e) ih = ap ok e ∙ h .0
-    go h (inr t) ih = ih (h .1) p t
 
 -- the region list with the patch of the record at p written
 abbrev pub written : (labels : Table) (regions pending : List ℕ) → ℕ → List ℕ → List ℕ
@@ -56,7 +45,7 @@ module _ (job : Job) (labels : Table) (entry regions pending : List ℕ) (pass :
   pub has-region : (p : ℕ) → In pending p → pendingAt pending p .region < regionCount regions
   has-region p m =
       pending-region (regionCount regions) pending p
-      (good-mem (pendingOk (regionCount regions) pending) (places pending) (pending-good (regionCount regions) pending (accepted .pending-good) .1) p m)
+      (good-each (pendingOk (regionCount regions) pending) (places pending) (pending-good (regionCount regions) pending (accepted .pending-good) .1) p m)
 
   in-turn : (p : ℕ) → In pending p → List·Memᴰ p (patchOrder regions pending)
   in-turn p m = in-order regions pending p (has-region p m) m

@@ -105,7 +105,7 @@ fn look_for_all(labels: &[u8], index: &[u16], end: usize, name: &[u8]) -> Looked
     if end >= index.len() {
         return name_index::find(labels, 4, index, names::FOR_ALL, name);
     }
-    let place = wide(index[end]);
+    let place = record::widened(index[end]);
     if names::is_owned(labels, 4, names::FOR_ALL, name, place) {
         return Looked {
             named: Named::At(place),
@@ -164,10 +164,4 @@ pub fn get(labels: &[u8], index: &[u16], source: u32, name: &[u8]) -> Found
             compared: looked.compared,
         },
     }
-}
-
-fn wide(x: u16) -> usize
-    ensures { λ r. ⌜ r ≡ x ⌝ }
-{
-    x as usize
 }

@@ -1,4 +1,4 @@
--- A lookup through an index finds what the straight scan finds, with at most 16 comparisons of names (document 02, P13). Assumes nothing.
+-- A lookup through an index finds what the straight scan finds, with as many comparisons of names as the index may be halved (document 02, P13). Assumes nothing.
 use Prim.Native.Nat.{ℕ, _^_, _≤_, _<_}
 use native.Mathlib.Omega.{arith}
 use mathlib.Core.List.{List}
@@ -25,9 +25,6 @@ pub lookup-count : (n skip : ℕ) (s l : List ℕ) → length l < 2 ^ n → (own
 lookup-count n skip s l h owner name =
     let k = halved (standing skip s owner name) l n 0 (length l) 0 (omega arith) in
     rw (lookup-all skip s l owner name) (omega arith)
-
-pub lookup-few : (skip : ℕ) (s l : List ℕ) → length l < 65536 → (owner : ℕ) (name : List ℕ) → lookup skip s l owner name .compared ≤ 16
-lookup-few skip s l h = lookup-count 16 skip s l h
 
 -- a record of the index that has the owner and the name is the one that the scan finds
 pub owned-at : (skip : ℕ) (s l : List ℕ) → IndexOf skip s l → ownedRepeat skip s ≡ None

@@ -6,12 +6,12 @@ use mathlib.Core.List.{List, [], _∷_, _++_, append-assoc, append-nil}
 use mathlib.Core.Logic.{_⊎_, ⊎-elim}
 use mathlib.Core.Bool.{Bool, true, false, false≢true}
 use mathlib.Core.Path.{_≡_, refl, sym, ap, _∙_}
-use lib.ListN.{length, getD, take, set}
-use lib.Seq.{take-suc-set}
+use lib.ListN.{length, getD, take, drop, set}
+use lib.Seq.{take-suc-set, drop-set-lt, drop-drop}
 use lib.Dec.{ltb, eqb}
 use borrow.Author.Tests.{ltb-true, lt-ltb, eq-eqb, eqb-true}
 use Rattle.record.specs.Records.{next, places, placesFrom, firstBad}
-use Rattle.record.specs.RecordsLaws.{places-all, places-cons, places-end, places-step, good-next, first-good}
+use Rattle.record.specs.RecordsLaws.{places-all, places-cons, places-end, places-step, good-next, good-at}
 use Rattle.record.specs.declared.Layout.the-variants.{Good}
 use Rattle.names.specs.Names.{firstWhere, firstLater}
 use Rattle.names.specs.NamesLaws.{isFirst, where-hit, where-pass, later-hit, later-pass}
@@ -20,7 +20,7 @@ use Rattle.names.specs.OwnersLaws.{good-owned}
 use Rattle.names.specs.declared.Named.the-variants.{At, Missing}
 use Rattle.names.specs.declared.Repeat.the-variants.{None, Later}
 use Rattle.name_sort.specs.Sorting.{one, count, In, Sorted, none, more}
-use Rattle.name_sort.specs.SortingLaws.{in-head, in-tail, in-cons, not-in, in-at}
+use Rattle.name_sort.specs.SortingLaws.{in-head, in-tail, in-cons, not-in, in-at, at-in}
 
 abbrev pub Rising : List ℕ → Type 0
 Rising l = Sorted ltb l
@@ -71,10 +71,7 @@ apart (x ∷ l) o (suc i) (suc j) h k e = apart l (λ v. let a = o v in omega ar
 
 -- ---- what a test that passes at each place says of them
 pub all-ok : (ok : ℕ → Bool) (ps : List ℕ) → firstBad ok ps ≡ Good → (p : ℕ) → In p ps → ok p ≡ true
-all-ok ok [] g p k = absurd (not-in p k)
-all-ok ok (q ∷ ps) g p k =
-    let f = first-good ok q ps g in
-    ⊎-elim (λ e. rw e (f .0)) (λ t. all-ok ok ps (f .1) p t) (in-cons p q ps k)
+all-ok ok ps g p k = let i = at-in ps p k in ap ok (sym (i .2)) ∙ good-at ok ps g (i .0) (i .1)
 
 -- ---- the least place that is no first is the later of two
 module _ (same : ℕ → ℕ → Bool) (list : List ℕ) where
@@ -184,3 +181,7 @@ module _ (skip : ℕ) (s : List ℕ) where
           omega (arith, f .room, ap length e),
           sym (append-nil (take n index)) ∙ ap (λ (l : List ℕ). take n index ++ l) (sym e) ∙ f .rest,
         )
+
+-- what stands behind the place that is written stays
+pub drop-next : (l m : List ℕ) (n x : ℕ) → drop n l ≡ drop n m → drop (n + 1) (set l n x) ≡ drop (n + 1) m
+drop-next l m n x e = drop-set-lt (n + 1) l n x (omega arith) ∙ sym (drop-drop 1 n l) ∙ ap (drop 1) e ∙ drop-drop 1 n m

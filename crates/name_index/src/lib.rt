@@ -2,7 +2,7 @@
 ghost use mathlib.Core.Path.{_≡_};
 ghost use mathlib.Core.Bool.{true, not};
 ghost use Prim.Native.Nat.{_≤_, _<_};
-ghost use lib.ListN.{length, take, getD};
+ghost use lib.ListN.{length, take, drop, getD};
 ghost use Rattle.record.specs.Records.{places, firstBad, limit};
 ghost use Rattle.names.specs.Owners.{hasOwnedName, ownedRepeat};
 ghost use Rattle.name_index.specs.Index.{IndexOf, below, namesRise, lookup};
@@ -19,11 +19,11 @@ pub struct Looked {
     pub end: usize,
 }
 
-// Writes the places of the list's records, and answers their count.
-fn fill(list: &[u8], skip: usize, index: &mut [u16]) -> usize
+// Writes the places of the list's records, and answers their count. What stands behind them stays.
+pub fn fill(list: &[u8], skip: usize, index: &mut [u16]) -> usize
     requires { ⌜ firstBad (hasOwnedName skip (now list)) (places (now list)) ≡ Layout.Good ⌝ }
     requires { ⌜ (length (now list) ≤ limit) × (length (places (now list)) ≤ length (now index)) ⌝ }
-    ensures { λ r. ⌜ (r ≡ length (places (now (list .entry)))) × (take r (now (index .exit)) ≡ places (now (list .entry))) ⌝ }
+    ensures { λ r. ⌜ (r ≡ length (places (now (list .entry)))) × (take r (now (index .exit)) ≡ places (now (list .entry))) × (drop r (now (index .exit)) ≡ drop r (now (index .entry))) ⌝ }
 {
     let mut at: usize = 0;
     let mut n: usize = 0;
@@ -95,7 +95,7 @@ pub fn find(list: &[u8], skip: usize, index: &[u16], owner: u32, name: &[u8]) ->
     let mut compared: u32 = 0;
     while lo < hi {
         let mid = lo + (hi - lo) / 2;
-        let p = wide(index[mid]);
+        let p = record::widened(index[mid]);
         compared += 1;
         match name_sort::stands(list, skip, p, owner, name) {
             Ordered::Less => {
@@ -126,13 +126,13 @@ fn repeats(list: &[u8], skip: usize, index: &[u16], i: usize) -> bool
     requires { ⌜ IndexOf skip (now list) (now index) × (0 < i) × (i < length (now index)) ⌝ }
     ensures { λ r. ⌜ ownedFirst skip (now (list .entry)) (getD (now (index .entry)) i 0) ≡ not r ⌝ }
 {
-    let p = wide(index[i]);
+    let p = record::widened(index[i]);
     names::is_owned(
         list,
         skip,
         names::owner_at(list, skip, p),
         names::name_at(list, skip, p),
-        wide(index[i - 1]),
+        record::widened(index[i - 1]),
     )
 }
 
@@ -145,7 +145,7 @@ pub fn first_repeat(list: &[u8], skip: usize, index: &[u16]) -> Repeat
     let mut best: usize = list.len();
     let mut i: usize = 1;
     while i < index.len() {
-        let p = wide(index[i]);
+        let p = record::widened(index[i]);
         if p >= best {
             i += 1;
         } else if repeats(list, skip, index, i) {
@@ -159,10 +159,4 @@ pub fn first_repeat(list: &[u8], skip: usize, index: &[u16]) -> Repeat
         return Repeat::Later(best);
     }
     Repeat::None
-}
-
-fn wide(x: u16) -> usize
-    ensures { λ r. ⌜ r ≡ x ⌝ }
-{
-    x as usize
 }

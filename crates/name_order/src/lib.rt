@@ -81,7 +81,7 @@ pub fn compare_numbers(x: u32, y: u32) -> Ordered
     Ordered::Same
 }
 
-fn smaller(a: usize, b: usize) -> usize
+pub fn smaller(a: usize, b: usize) -> usize
     ensures { λ r. ⌜ r ≡ min a b ⌝ }
 {
     if a < b { a } else { b }

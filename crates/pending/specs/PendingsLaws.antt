@@ -5,7 +5,7 @@ use mathlib.Core.Bool.{true, _&&_, and-eq-true-iff}
 use mathlib.Core.Path.{_≡_, ap, _∙_}
 use lib.ListN.{length}
 use lib.Dec.{leb, ltb, eqb}
-use borrow.Author.Tests.{leb-true, ltb-true}
+use borrow.Author.Tests.{leb-true, ltb-true, eqb-true}
 use Rattle.record.specs.Records.{bodyLen, kindAt, next, whole, places, firstBad, limit}
 use Rattle.record.specs.RecordsLaws.{layoutFrom, whole-is, places-all, limit-kept, limit-passed, limit-good}
 use Rattle.record.specs.declared.Layout.the-variants.{Good, Bad}
@@ -15,6 +15,7 @@ use Rattle.pending.specs.Pendings.{regionOf, patchKindOf, pendingBody, p
 -- what a reader of the record at `at` asks of it
 pub record PendingIs (s : List ℕ) (at : ℕ) : Type 0 where
   pub whole-at : whole s at ≡ true
+  pub record-kind : kindAt s at ≡ 36
   pub head : at + 4 ≤ length s
   pub body : next s at ≤ length s
   pub least : 32 ≤ bodyLen s at
@@ -23,6 +24,7 @@ module _ (regions : ℕ) (s : List ℕ) (at : ℕ) where
   -- each test of the body
   record Tests : Type 0 where
     whole-ok : whole s at ≡ true
+    record-ok : eqb (kindAt s at) 36 ≡ true
     least-ok : leb 32 (bodyLen s at) ≡ true
     region-ok : ltb (regionOf s at) regions ≡ true
     kind-ok : leb (patchKindOf s at) 4 ≡ true
@@ -38,13 +40,14 @@ module _ (regions : ℕ) (s : List ℕ) (at : ℕ) where
       let p = and-eq-true-iff (kind && least && region && patch) (addressLabelOk s (at + 19) (next s at)) .0 (w .1) .0 in
       let q = and-eq-true-iff (kind && least && region) patch .0 p in
       let r = and-eq-true-iff (kind && least) region .0 (q .0) in
-      record { whole-ok = w .0; least-ok = and-eq-true-iff kind least .0 (r .0) .1; region-ok = r .1; kind-ok = q .1 }
+      let k = and-eq-true-iff kind least .0 (r .0) in
+      record { whole-ok = w .0; record-ok = k .0; least-ok = k .1; region-ok = r .1; kind-ok = q .1 }
 
   pub pending-is : pendingOk regions s at ≡ true → PendingIs s at
   pending-is e =
       let t = tests e in
       let r = whole-is s at (t .whole-ok) in
-      record { whole-at = t .whole-ok; head = r .0; body = r .1; least = leb-true 32 (bodyLen s at) (t .least-ok) }
+      record { whole-at = t .whole-ok; record-kind = eqb-true (kindAt s at) 36 (t .record-ok); head = r .0; body = r .1; least = leb-true 32 (bodyLen s at) (t .least-ok) }
 
   pub pending-region : pendingOk regions s at ≡ true → regionOf s at < regions
   pending-region e = ltb-true (regionOf s at) regions (tests e .region-ok)

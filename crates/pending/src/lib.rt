@@ -54,7 +54,7 @@ pub struct Origin {
 }
 
 // The number of the region that the record at `at` patches.
-pub fn region_of(list: &[u8], at: usize) -> usize
+fn region_of(list: &[u8], at: usize) -> usize
     requires { ⌜ at + 6 ≤ length (now list) ⌝ }
     ensures { λ r. ⌜ r ≡ regionOf (now (list .entry)) at ⌝ }
 {

@@ -11,7 +11,7 @@ use lib.Dec.{leb, eqb, ltb}
 use borrow.Author.Tests.{leb-true, ltb-true, ltb-false}
 use Rattle.record.specs.Bytes.{byteAt, le16}
 use Rattle.record.specs.Records.{bodyLen, kindAt, whole, next, places, placesFrom, firstBad, firstBadOf, limit, withinLimit}
-use Rattle.record.specs.RecordsLaws.{places-end, places-step, places-cut, places-all, places-cons, whole-is, first-good, of-good, of-place, limit-bad, limit-good, limit-kept, limit-passed}
+use Rattle.record.specs.RecordsLaws.{places-end, places-step, places-cut, places-all, places-cons, whole-is, good-at, of-good, of-place, limit-bad, limit-good, limit-kept, limit-passed}
 use Rattle.record.specs.declared.Layout.the-variants.{Good, Bad}
 use Rattle.regions.specs.Regions.{regionOk, regionRecords, regionLayout, regionCount, regionPlace}
 
@@ -33,12 +33,6 @@ region-is s at e =
     record { whole-at = w .0; head = r .0; body = r .1; least = leb-true 4 (bodyLen s at) (l .1) }
 
 -- ---- the places of records, of any kind
-
--- the record at each place passes the test
-good-each : (ok : ℕ → Bool) (ps : List ℕ) (n : ℕ) → firstBad ok ps ≡ Good → n < length ps → ok (getD ps n 0) ≡ true
-good-each ok [] n g h = absurd (omega arith)
-good-each ok (p ∷ ps) zero g h = first-good ok p ps g .0
-good-each ok (p ∷ ps) (suc n) g h = good-each ok ps n (first-good ok p ps g .1) (omega arith)
 
 -- two tests that agree at each place
 of-same : (n : ℕ) (f g : ℕ → Bool) (ps : List ℕ) → ((k : ℕ) → k < length ps → f (getD ps k 0) ≡ g (getD ps k 0)) → firstBadOf n f ps ≡ firstBadOf n g ps
@@ -160,7 +154,7 @@ region-good s g =
     (l .0, r .0, r .1, r .2)
 
 pub region-place-ok : (s : List ℕ) (n : ℕ) → regionLayout s ≡ Good → n < regionCount s → regionOk s (regionPlace s n) ≡ true
-region-place-ok s n g h = good-each (regionOk s) (places s) n (region-good s g .1) h
+region-place-ok s n g h = good-at (regionOk s) (places s) (region-good s g .1) n h
 
 -- the cases of the layout
 pub layout-long : (s : List ℕ) → limit < length s → regionLayout s ≡ Bad limit

@@ -16,13 +16,13 @@ is-owned-requires : tie.Need-is-owned-requires
 is-owned-requires c κs =
     let s = c .before .before .before .before .before .before in
     let k = asked (s .args .labels .now) (s .args .index .now) (s .pre) in
-    rw (c .wide .ensures) (named-at 4 (s .args .labels .now) (s .args .index .now) (k .1 .0) (k .0) (s .args .end) (c .before .before .if1 .left))
+    rw (c .widened .ensures) (named-at 4 (s .args .labels .now) (s .args .index .now) (k .1 .0) (k .0) (s .args .end) (c .before .before .if1 .left))
 
 returns-2 : tie.Need-returns-2
 returns-2 c =
     let a = c .before .before .before .before .before .before .before .before .args in
     for-all-here (a .labels .now) (a .index .now) (a .end) (a .name .now) (c .before .before .before .before .if1 .left)
-    (c .before .before .wide .result) (c .before .before .wide .ensures) (sym (c .before .is-owned .ensures) ∙ c .if2 .taken)
+    (c .before .before .widened .result) (c .before .before .widened .ensures) (sym (c .before .is-owned .ensures) ∙ c .if2 .taken)
 
 add-compared : tie.Need-add-compared
 add-compared c =
@@ -35,7 +35,7 @@ returns-3 c =
     let a = c .before .before .before .before .before .before .before .before .before .before .args in
     let f = c .before .find2 in
     for-all-searched (a .labels .now) (a .index .now) (a .end) (a .name .now) (c .before .before .before .before .before .before .if1 .left)
-    (c .before .before .before .before .wide .result) (c .before .before .before .before .wide .ensures) (sym (c .before .before .before .is-owned .ensures) ∙ c .before .before .if2 .left)
+    (c .before .before .before .before .widened .result) (c .before .before .before .before .widened .ensures) (sym (c .before .before .before .is-owned .ensures) ∙ c .before .before .if2 .left)
     (f .result) (f .ensures)
 
 pub look-for-all-spec : {M : Type 1} → statement M

@@ -2,14 +2,14 @@
 use Prim.Native.Nat.{_-_, _<_}
 use native.Mathlib.Omega.{arith}
 use mathlib.Core.Path.{_≡_, refl}
-use lib.ListN.{length, length-set}
+use lib.ListN.{length, drop, length-set}
 use Rattle.names.specs.OwnersLaws.{OwnedIs, good-owned}
-use Rattle.name_index.specs.PlacesLaws.{Filling, filling-start, filling-room, filling-next, filling-end}
+use Rattle.name_index.specs.PlacesLaws.{Filling, filling-start, filling-room, filling-next, filling-end, drop-next}
 use Rattle.name_index.proofs.fill.Statement.{statement}
 use Rattle.name_index.proofs.fill.Tie as tie
 
 abbrev Inv-loop : tie.InvT-loop
-Inv-loop list skip index₀ at₀ n₀ index at n = Filling skip list index at n × (length index ≡ length index₀)
+Inv-loop list skip index₀ at₀ n₀ index at n = Filling skip list index at n × (length index ≡ length index₀) × (drop n index ≡ drop n index₀)
 
 abbrev μ-loop : tie.MeasureT-loop
 μ-loop list skip index₀ at₀ n₀ index at n = length list - at
@@ -33,7 +33,15 @@ loop-again c =
     let a = t .before .before .before .before .args in (
       rw (c .next .ensures .0) (filling-next (a .skip) (a .list .now) (l .index) (l .at) (l .n) (l .inv .0) (t .loop-test .taken) (room t)),
       simp length-set (l .inv .1),
+      drop-next (l .index) (t .before .before .before .before .args .index .now) (l .n) (l .at) (l .inv .2),
     )
+
+returns : tie.Need-returns Inv-loop μ-loop
+returns c =
+    let a = c .before .before .before .before .args in
+    let l = c .before .loop in
+    let e = filling-end (a .skip) (a .list .now) (l .index) (l .at) (l .n) (l .inv .0) (c .loop-test .left) in
+    (e .0, e .1, l .inv .2)
 
 pub fill-spec : {M : Type 1} → statement M
 fill-spec =
@@ -41,7 +49,7 @@ fill-spec =
     (tie.spec
     Inv-loop
     μ-loop
-    (λ c. (filling-start _ _ _ (c .before .before .pre .0), refl))
+    (λ c. (filling-start _ _ _ (c .before .before .pre .0), refl, refl))
     (λ c. omega (arith, c .before .before .before .before .pre .1))
     (λ c. omega (arith, room c))
     (λ c. omega (arith, room c))
@@ -50,4 +58,4 @@ fill-spec =
     (λ c. omega (arith, turn (c .before)))
     loop-again
     (λ c. omega arith)
-    (λ c. filling-end _ _ _ _ _ (c .before .loop .inv .0) (c .loop-test .left)))
+    returns)

@@ -28,7 +28,7 @@ stands-requires c κs =
     let l = c .before .before .before in
     let s = l .before .before .before .before in
     let a = s .args in
-    rw (c .wide .ensures) (named-at (a .skip) (a .list .now) (a .index .now) (s .pre .1 .0) (s .pre .0) (middle (l .loop .lo) (l .loop .hi)) (omega arith))
+    rw (c .widened .ensures) (named-at (a .skip) (a .list .now) (a .index .now) (s .pre .1 .0) (s .pre .0) (middle (l .loop .lo) (l .loop .hi)) (omega arith))
 
 -- the middle one is compared
 compared : (c : tie.After-stands Inv-loop μ-loop) (o : Ordered) → c .stands .result ≡ o → let l = c .before .before .before .before in
@@ -36,7 +36,7 @@ compared : (c : tie.After-stands Inv-loop μ-loop) (o : Ordered) → c .stands .
     standing (a .skip) (a .list .now) (a .owner) (a .name .now) (getD (a .index .now) (middle (l .loop .lo) (l .loop .hi)) 0) ≡ o
 compared c o e =
     let a = c .before .before .before .before .before .before .before .before .args in
-    sym (c .stands .ensures ∙ ap (standing (a .skip) (a .list .now) (a .owner) (a .name .now)) (c .before .wide .ensures)) ∙ e
+    sym (c .stands .ensures ∙ ap (standing (a .skip) (a .list .now) (a .owner) (a .name .now)) (c .before .widened .ensures)) ∙ e
 
 loop-again : tie.Need-loop-again Inv-loop μ-loop
 loop-again c =
@@ -52,7 +52,7 @@ returns : tie.Need-returns Inv-loop μ-loop
 returns c =
     let l = c .before .before .before .before .before .before in
     let a = l .before .before .before .before .args in
-    ap (λ (p : ℕ). record { named = At p; compared = l .loop .compared + 1; end = middle (l .loop .lo) (l .loop .hi) }) (c .before .before .before .wide .ensures)
+    ap (λ (p : ℕ). record { named = At p; compared = l .loop .compared + 1; end = middle (l .loop .lo) (l .loop .hi) }) (c .before .before .before .widened .ensures)
     ∙ sym (l .loop .inv .2 ∙ search-hit (standing (a .skip) (a .list .now) (a .owner) (a .name .now)) (a .index .now) (l .loop .lo) (l .loop .hi) (l .loop .compared) (c .before .before .before .before .before .loop-test .taken)
     (compared (c .before .before) _ (c .enum-told2 .given .1)))
 

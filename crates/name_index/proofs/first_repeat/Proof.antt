@@ -20,14 +20,14 @@ loop-again c =
     let l = c .before .before .before .before in
     let s = l .before .before .before in
     let a = s .args in
-    (omega arith, least-keep (a .skip) (a .list .now) (a .index .now) (s .pre .1) (l .loop .i) (l .loop .best) (l .loop .inv .1) (λ f. omega (arith, c .if1 .taken, c .before .wide .ensures)))
+    (omega arith, least-keep (a .skip) (a .list .now) (a .index .now) (s .pre .1) (l .loop .i) (l .loop .best) (l .loop .inv .1) (λ f. omega (arith, c .if1 .taken, c .before .widened .ensures)))
 
 loop-again-2 : tie.Need-loop-again-2 Inv-loop μ-loop
 loop-again-2 c =
     let l = c .before .before .before .before .before .before in
     let s = l .before .before .before in
     let a = s .args in
-    let w = c .before .before .before .wide .ensures in (
+    let w = c .before .before .before .widened .ensures in (
       omega arith,
       rw w
           (least-new (a .skip) (a .list .now) (a .index .now) (s .pre .1) (l .loop .i) (l .loop .best) (l .loop .inv .1) (c .before .before .before .before .before .loop-test .taken)

@@ -18,26 +18,26 @@ named s p e =
     rw e (named-at (a .skip) (a .list .now) (a .index .now) (s .pre .1 .0) (s .pre .0) (a .i) (s .pre .1 .2))
 
 owner-at-requires : tie.Need-owner-at-requires
-owner-at-requires c κs = named (c .before .before .before .before) (c .wide .result) (c .wide .ensures)
+owner-at-requires c κs = named (c .before .before .before .before) (c .widened .result) (c .widened .ensures)
 
 name-at-requires : tie.Need-name-at-requires
-name-at-requires c κs = named (c .before .before .before .before .before) (c .before .wide .result) (c .before .wide .ensures)
+name-at-requires c κs = named (c .before .before .before .before .before) (c .before .widened .result) (c .before .widened .ensures)
 
 is-owned-requires : tie.Need-is-owned-requires
 is-owned-requires c κs =
     let s = c .before .before .before .before .before .before .before .before in
     let a = s .args in
-    rw (c .wide2 .ensures) (named-at (a .skip) (a .list .now) (a .index .now) (s .pre .1 .0) (s .pre .0) (a .i - 1) (omega (arith, s .pre .1)))
+    rw (c .widened2 .ensures) (named-at (a .skip) (a .list .now) (a .index .now) (s .pre .1 .0) (s .pre .0) (a .i - 1) (omega (arith, s .pre .1)))
 
 returns : tie.Need-returns
 returns c =
     let s = c .before .before .before .before .before .before .before .before .before in
     let a = s .args in
-    let w = c .before .before .before .before .before .wide .ensures in
+    let w = c .before .before .before .before .before .widened .ensures in
     repeat-at (a .skip) (a .list .now) (a .index .now) (s .pre .1 .0) (a .i) (s .pre .1 .1) (s .pre .1 .2) (c .is-owned .result)
     (c .is-owned .ensures
-    ∙ ap₂ (λ (o : ℕ) (n : List ℕ). isOwned (a .skip) (a .list .now) o n (c .before .wide2 .result)) (c .before .before .before .before .owner-at .ensures) (c .before .before .before .name-at .ensures)
-    ∙ ap₂ (sameOwned (a .skip) (a .list .now)) w (c .before .wide2 .ensures))
+    ∙ ap₂ (λ (o : ℕ) (n : List ℕ). isOwned (a .skip) (a .list .now) o n (c .before .widened2 .result)) (c .before .before .before .before .owner-at .ensures) (c .before .before .before .name-at .ensures)
+    ∙ ap₂ (sameOwned (a .skip) (a .list .now)) w (c .before .widened2 .ensures))
 
 pub repeats-spec : {M : Type 1} → statement M
 repeats-spec =
