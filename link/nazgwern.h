@@ -99,8 +99,8 @@
    docs/REFUSALS.md says what to do about each.
 
    STACK. Measured, not proved, on x86-64 with gcc as the caller's compiler: link/stack ran over a
-   million calls of nazgwern_do_instruction, of which none took more than 24,088 bytes of stack, 762
-   of nazgwern_build, of which none took more than 37,712, as many by the manual and lines for
+   million calls of nazgwern_do_instruction, of which none took more than 24,088 bytes of stack, 777
+   of nazgwern_build, of which none took more than 37,760, as many by the manual and lines for
    Release 6, of which none took more than these, 20,506 of nazgwern_read_text, of which none took
    more than 928, and 1,338 of nazgwern_dry_run, of which none took more than 680; arguments and
    return address counted. A build's stack is mostly the index of its labels, 29,124 bytes, and a

@@ -288,21 +288,43 @@ static void fill(struct list *list, size_t size, void (*add)(const char *name))
     }
 }
 
+/* The same with names of fifteen bytes, which differ in most of them. */
+static void fill_long(struct list *list, size_t size, void (*add)(const char *name))
+{
+    char name[16];
+
+    list->length = 0;
+    for (unsigned number = sizeof list->bytes / (size + 15); number-- > 0;) {
+        unsigned digits = number % 100000;
+
+        snprintf(name, sizeof name, "%05u%05u%05u", digits, digits, digits);
+        add(name);
+    }
+}
+
 static void add_descriptor(const char *name)
 {
     descriptor(OFFSET, false, name);
 }
 
-/* Lines with the most descriptors. */
-static void long_lines(void)
+/* A line of each meaning with these descriptors. */
+static void described_lines(const char *name)
 {
-    fill(&descriptors, 12, add_descriptor);
-    named("t");
+    named(name);
     line("rsb");
     for (int pseudo = 0; pseudo <= PSEUDOS; pseudo++) {
         named(pseudos[pseudo]);
         line("rns");
     }
+}
+
+/* Lines with the most descriptors, of short names and of long ones. */
+static void long_lines(void)
+{
+    fill(&descriptors, 12, add_descriptor);
+    described_lines("t");
+    fill_long(&descriptors, 12, add_descriptor);
+    described_lines("000010000100001");
 }
 
 /* Refusals 1, 2 and 10 to 12, and an answer and counts that are too short. */
@@ -432,10 +454,13 @@ static void long_builds(void)
         }
 }
 
-/* Builds with the most labels: for all, of owners, and of one name but for the first. */
+/* Builds with the most labels: for all, with short names and with long ones, of owners, and of one
+   name but for the first. */
 static void all_long_builds(void)
 {
     fill(&labels, 8, add_label);
+    long_builds();
+    fill_long(&labels, 8, add_label);
     long_builds();
     fill_owners();
     long_builds();
