@@ -19,13 +19,13 @@ const ROUNDS: usize = 201;
 /// Where the timed routines begin; their entry records name the label there.
 const ENTRY: u32 = 0x0040_0000;
 
-/// Labels, pendings, regions, how a label is named by its number, builds in one timed batch. Batches
-/// are small, so that what was prepared for them is still in the processor's caches.
+/// Labels, pendings, regions, how a label is named by its number, builds in one timed batch.
+/// Batches are small, so that what was prepared for them is still in the processor's caches.
 type Size = (usize, usize, usize, fn(usize) -> Vec<u8>, usize);
 
 /// First as many pendings as labels, then as many as a list of 65,536 bytes holds: with a name of
-/// twelve bytes a pending takes 48, with one of sixteen 52, with one of four 40, with one of two 38.
-/// The last has the most labels that a list holds, with all names of one byte.
+/// twelve bytes a pending takes 48, with one of sixteen 52, with one of four 40, with one of two
+/// 38. The last has the most labels that a list holds, with all names of one byte.
 const SIZES: [Size; 8] = [
     (10, 10, 1, |number| digits(number, 12), 64),
     (100, 100, 1, |number| digits(number, 12), 16),
@@ -121,8 +121,8 @@ fn row(options: &Options, size: Size, order: Order, shown: &str) -> bool {
     let [build, whole, other] = [build, whole, other].map(median);
     let [by_build, by_whole] = [other / build, other / whole];
     println!(
-        "{labels:>6} {pendings:>8} {regions:>7} {shown:>6} {build:>12.0} {whole:>12.0} {other:>12.0} \
-         {by_build:>14.2} {by_whole:>14.2}"
+        "{labels:>6} {pendings:>8} {regions:>7} {shown:>6} {build:>12.0} {whole:>12.0} \
+         {other:>12.0} {by_build:>14.2} {by_whole:>14.2}"
     );
 
     true
@@ -160,7 +160,8 @@ pub fn median(mut times: Vec<f64>) -> f64 {
 /// turn, that names them all over the table.
 fn input((labels, pendings, regions, name, _): Size, order: Order) -> BuildInput {
     let mut random = Random::of(labels as u64, pendings as u64);
-    let mut table: Vec<Label> = random.shuffled(labels)
+    let mut table: Vec<Label> = random
+        .shuffled(labels)
         .into_iter()
         .map(|number| Label {
             address: ENTRY + 4 * (number * pendings / labels) as u32,
@@ -189,7 +190,13 @@ fn input((labels, pendings, regions, name, _): Size, order: Order) -> BuildInput
 
     let bytes = 4 * pendings.div_ceil(regions);
     let data: Vec<_> = (0..regions)
-        .map(|number| addressed(kind::REGION, ENTRY + (number * bytes) as u32, &vec![0; bytes]))
+        .map(|number| {
+            addressed(
+                kind::REGION,
+                ENTRY + (number * bytes) as u32,
+                &vec![0; bytes],
+            )
+        })
         .collect();
 
     BuildInput {

@@ -16,7 +16,8 @@ const NAMES: [Named; 4] = [
     |number| [vec![b'x'; number % 30], digits(number, 1)].concat(),
 ];
 
-/// With owners a name has three labels: those of the sources 0 and 1 and the one for all.
+/// With owners a name has three labels, but for the last name: those of the sources 0 and 1 and the
+/// one for all.
 pub fn many_labels(random: &mut Random, owners: bool, mut lists: BuildLists) -> BuildLists {
     let name = random.pick(&NAMES);
     let count = random.within(60, 1400);
