@@ -14,8 +14,6 @@ use Rattle.record.specs.Stores.{le32Bytes, append}
 use Rattle.record.specs.declared.Layout.the-variants.{Good}
 use Rattle.regions.specs.Regions.{regionLayout, regionCount, regionPlace, regionAt}
 use Rattle.regions.specs.RegionsLaws.{RegionIs, region-is, region-place-ok, places-apart, places-kept}
-use Rattle.pending.specs.declared.Pending.{Pending}
-use Rattle.patch.specs.Patches.{regionFor, slotOf}
 use Rattle.patch.specs.WordLaws.{length-put, byte-out}
 
 -- four bytes from i on lie in the data of region r
@@ -25,12 +23,12 @@ pub record InData (regions : List ℕ) (r i : ℕ) : Type 0 where
   pub to : i + 4 ≤ next regions (regionPlace regions r)
   pub within : i + 4 ≤ length regions
 
--- a patch that ends within its region's data does
-pub in-data : (regions : List ℕ) (p : Pending) → regionLayout regions ≡ Good → p .region < regionCount regions → p .offset + 4 ≤ regionFor regions p .size
-    → InData regions (p .region) (slotOf regions p)
-in-data regions p g n h =
-    let q = regionPlace regions (p .region) in
-    let f : RegionIs regions q = region-is regions q (region-place-ok regions (p .region) g n) in
+-- those at an offset within a region's data do
+pub in-data : (regions : List ℕ) (r o : ℕ) → regionLayout regions ≡ Good → r < regionCount regions → o + 4 ≤ regionAt regions (regionPlace regions r) .size
+    → InData regions r (regionAt regions (regionPlace regions r) .start + o)
+in-data regions r o g n h =
+    let q = regionPlace regions r in
+    let f : RegionIs regions q = region-is regions q (region-place-ok regions r g n) in
     record { number = n; from = omega arith; to = omega arith; within = omega arith }
 
 -- the data of two regions share no byte

@@ -1,6 +1,7 @@
 pub mod Fetch
 pub mod Run
 pub mod RunLaws
+pub mod StandingLaws
 pub mod DryRun
 pub mod DryRunLaws
 pub mod Counted

@@ -13,7 +13,8 @@ use Rattle.reading.specs.Reading.{Image, pcIn, wordIn, signedBytes, readBy}
 use Rattle.machine.specs.Instructions.{immediate}
 use Rattle.machine.specs.Effects.{nextPc, branchTarget, jumpTarget}
 
-four-signed : (p n : ℕ) → (p + 4 * signed16 n) % 2 ^ 32 ≡ (p + signedBytes n) % 2 ^ 32
+-- four times a distance of 16 signed bits, as the step and as 'Reading back' has it
+pub four-signed : (p n : ℕ) → (p + 4 * signed16 n) % 2 ^ 32 ≡ (p + signedBytes n) % 2 ^ 32
 unfolding signed16 signedBytes
 four-signed p n = go (ltb n 32768) refl
   where

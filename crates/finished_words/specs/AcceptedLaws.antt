@@ -15,7 +15,7 @@ use Rattle.record.specs.OneMoreLaws.{good-each}
 use Rattle.refusal.specs.declared.Verdict.the-variants.{Pass}
 use Rattle.labels.specs.declared.Address.the-variants.{Known}
 use Rattle.labels.specs.Labels.{Table}
-use Rattle.regions.specs.Regions.{regionCount, regionPlace}
+use Rattle.regions.specs.Regions.{regionCount, regionPlace, regionAt}
 use Rattle.pending.specs.Pendings.{pendingOk, pendingAt}
 use Rattle.pending.specs.PendingsLaws.{pending-region, pending-good}
 use Rattle.patch.specs.Patches.{destination, regionFor, inRange, addressOr, writePending}
@@ -68,26 +68,33 @@ module _ (job : Job) (labels : Table) (entry regions pending : List ℕ) (pass :
       rw e (r .range)
 
   in-place : (p : ℕ) → In pending p → InData regions (pendingAt pending p .region) (slotAt regions pending p)
-  in-place p m = in-data regions (pendingAt pending p) (accepted .regions-good) (has-region p m) (reaches p m .inside)
+  in-place p m = in-data regions (pendingAt pending p .region) (pendingAt pending p .offset) (accepted .regions-good) (has-region p m) (reaches p m .inside)
 
   -- its word stands in any list of the length
   pub has-room : (p : ℕ) (d : List ℕ) → In pending p → Kept regions d → slotAt regions pending p + 4 ≤ length d
   has-room p d m k = omega (arith, in-place p m .within, k .length-same)
 
-  -- two patches share no byte of the list
-  pub slots-apart : Apart pending → (q p : ℕ) → In pending q → In pending p → (q ≡ p → ⊥)
-      → (slotAt regions pending q + 4 ≤ slotAt regions pending p) ⊎ (slotAt regions pending p + 4 ≤ slotAt regions pending q)
-  slots-apart apart q p mq mp n = go (eqb (pendingAt pending q .region) (pendingAt pending p .region)) refl
+  -- a patch that does not touch four bytes at an offset of a region does not touch them in the list
+  pub apart-in-list : (r o q : ℕ) → r < regionCount regions → o + 4 ≤ regionAt regions (regionPlace regions r) .size → In pending q
+      → (pendingAt pending q .region ≡ r → (pendingAt pending q .offset + 4 ≤ o) ⊎ (o + 4 ≤ pendingAt pending q .offset))
+      → (slotAt regions pending q + 4 ≤ regionAt regions (regionPlace regions r) .start + o) ⊎ (regionAt regions (regionPlace regions r) .start + o + 4 ≤ slotAt regions pending q)
+  apart-in-list r o q n h mq f = go (eqb (pendingAt pending q .region) r) refl
     where
-      go : (b : Bool) → eqb (pendingAt pending q .region) (pendingAt pending p .region) ≡ b
-          → (slotAt regions pending q + 4 ≤ slotAt regions pending p) ⊎ (slotAt regions pending p + 4 ≤ slotAt regions pending q)
+      go : (b : Bool) → eqb (pendingAt pending q .region) r ≡ b
+          → (slotAt regions pending q + 4 ≤ regionAt regions (regionPlace regions r) .start + o) ⊎ (regionAt regions (regionPlace regions r) .start + o + 4 ≤ slotAt regions pending q)
       go true e =
-          let s : pendingAt pending q .region ≡ pendingAt pending p .region = eqb-true (pendingAt pending q .region) (pendingAt pending p .region) e in
-          let t : regionPlace regions (pendingAt pending q .region) ≡ regionPlace regions (pendingAt pending p .region) = ap (regionPlace regions) s in
-          ⊎-elim (λ h. inl (omega (arith, t, h))) (λ h. inr (omega (arith, t, h))) (apart q p mq mp n s)
+          let s : pendingAt pending q .region ≡ r = eqb-true (pendingAt pending q .region) r e in
+          let t : regionPlace regions (pendingAt pending q .region) ≡ regionPlace regions r = ap (regionPlace regions) s in
+          ⊎-elim (λ k. inl (omega (arith, t, k))) (λ k. inr (omega (arith, t, k))) (f s)
       go false e =
-          data-apart regions (pendingAt pending q .region) (pendingAt pending p .region) (slotAt regions pending q) (slotAt regions pending p)
-          (eqb-false (pendingAt pending q .region) (pendingAt pending p .region) e) (in-place q mq) (in-place p mp)
+          data-apart regions (pendingAt pending q .region) r (slotAt regions pending q) (regionAt regions (regionPlace regions r) .start + o) (eqb-false (pendingAt pending q .region) r e)
+          (in-place q mq) (in-data regions r o (accepted .regions-good) n h)
+
+  -- two patches share no byte of the list
+  pub slots-apart : Apart pending → (p q : ℕ) → In pending p → In pending q → (q ≡ p → ⊥)
+      → (slotAt regions pending q + 4 ≤ slotAt regions pending p) ⊎ (slotAt regions pending p + 4 ≤ slotAt regions pending q)
+  slots-apart apart p q mp mq n =
+      apart-in-list (pendingAt pending p .region) (pendingAt pending p .offset) q (has-region p mp) (reaches p mp .inside) mq (apart q p mq mp n)
 
   -- ---- patch after patch
   keeps : (p : ℕ) (d : List ℕ) → In pending p → Kept regions d → Kept regions (written labels regions pending p d)

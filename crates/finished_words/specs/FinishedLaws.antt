@@ -1,5 +1,6 @@
 -- What the patches of an accepted build leave: each byte that is no patch's, and the word of each patch that overlaps no other. Assumes nothing.
-use Prim.Native.Nat.{ℕ}
+use Prim.Native.Nat.{ℕ, _+_, _<_, _≤_}
+use native.Mathlib.Omega.{arith}
 use mathlib.Core.List.{List, [], _∷_, map, List·Memᴰ, List·Memᴰ·head, List·Memᴰ·tail}
 use mathlib.Core.Logic.{_⊎_, inl, inr, ⊎-elim}
 use mathlib.Core.Bool.{Bool, true, false}
@@ -32,7 +33,18 @@ module _ (job : Job) (labels : Table) (entry regions pending : List ℕ) (pass :
       at-exit job labels entry regions pending pass (λ (d : List ℕ). byteAt d i ≡ byteAt regions i)
       (λ q d m k h. byte-out d (slotAt regions pending q) _ (has-room job labels entry regions pending pass q d m k) i (out q m) ∙ h) refl
 
-  module _ (apart : Apart pending) (p : ℕ) (m : In pending p) where
+  -- a word that no patch touches is as at entry
+  pub word-same : (i : ℕ) → ((q : ℕ) → In pending q → (slotAt regions pending q + 4 ≤ i) ⊎ (i + 4 ≤ slotAt regions pending q))
+      → le32 (patchedRegions labels regions pending) i ≡ le32 regions i
+  word-same i out =
+      let b : (j : ℕ) → j < 4 → byteAt (patchedRegions labels regions pending) (i + j) ≡ byteAt regions (i + j) =
+      λ j h. bytes-same (i + j) (λ q m. ⊎-elim (λ k. inr (omega arith)) (λ k. inl (omega arith)) (out q m)) in
+      let b₀ : byteAt (patchedRegions labels regions pending) i ≡ byteAt regions i = bytes-same i (λ q m. ⊎-elim (λ k. inr (omega arith)) (λ k. inl (omega arith)) (out q m)) in
+      omega (arith, b₀, b 1 (omega arith), b 2 (omega arith), b 3 (omega arith))
+
+  -- a patch that no other touches, whether or not those overlap each other
+  module _ (p : ℕ) (m : In pending p)
+      (apart : (q : ℕ) → In pending q → (q ≡ p → ⊥) → (slotAt regions pending q + 4 ≤ slotAt regions pending p) ⊎ (slotAt regions pending p + 4 ≤ slotAt regions pending q)) where
     -- the word of the patch in a list, and what the patch makes of a word
     abbrev wordOf : List ℕ → ℕ
     wordOf d = le32 d (slotAt regions pending p)
@@ -54,7 +66,7 @@ module _ (job : Job) (labels : Table) (entry regions pending : List ℕ) (pass :
     unfolding writePending
     other q d mq k n =
         read-other d (slotAt regions pending q) _ (has-room job labels entry regions pending pass q d mq k) (slotAt regions pending p)
-        (slots-apart job labels entry regions pending pass apart q p mq m n)
+        (apart q mq n)
 
     each : (q : ℕ) (d : List ℕ) → In pending q → Kept regions d
         → (wordOf (written labels regions pending q d) ≡ wordOf d) ⊎ (wordOf (written labels regions pending q d) ≡ made (wordOf d))
@@ -75,4 +87,4 @@ module _ (job : Job) (labels : Table) (entry regions pending : List ℕ) (pass :
 
   pub words-finished : Apart pending → wordsIn (patchedRegions labels regions pending) regions pending ≡ finishedWords labels regions pending
   unfolding wordsIn finishedWords
-  words-finished apart = map-same (places pending) (word-finished apart)
+  words-finished apart = map-same (places pending) (λ p m. word-finished p m (λ q. slots-apart job labels entry regions pending pass apart p q m))

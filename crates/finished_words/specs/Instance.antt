@@ -1,12 +1,12 @@
 -- The premises can be met, and what the theorem says there. Assumes nothing.
-use Prim.Native.Nat.{ℕ, zero, suc, _+_, _*_, _≤_}
+use Prim.Native.Nat.{ℕ, _+_, _*_, _≤_}
 use native.Mathlib.Omega.{arith}
 use mathlib.Core.List.{List, [], _∷_, List·Memᴰ, List·Memᴰ·cases-cons}
 use mathlib.Core.Logic.{_⊎_, inl, inr}
 use mathlib.Core.Bool.{Bool, true, false, _||_, and-eq-true-iff}
 use mathlib.Core.Path.{_≡_, refl, ap, _∙_}
-use lib.Dec.{leb, ltb}
-use borrow.Author.Tests.{leb-true, ltb-true, eq-eqb, ne-eqb}
+use lib.Dec.{leb}
+use borrow.Author.Tests.{leb-true, eq-eqb, ne-eqb}
 use Rattle.jobs.specs.declared.Job.the-variants.{Commit}
 use Rattle.record.specs.Bytes.{byteAt, all}
 use Rattle.record.specs.Records.{places}
@@ -14,7 +14,8 @@ use Rattle.labels.specs.Labels.{tableOf}
 use Rattle.pending.specs.Pendings.{pendingAt}
 use Rattle.patch.specs.Patches.{fieldWidth}
 use Rattle.build_outcome.specs.Build.{buildOutcome}
-use Rattle.finished_words.specs.Listed.{kindOf, slotAt, Bytes, Apart, OutsidePatches, OutsideFields, bitAt}
+use Rattle.finished_words.specs.Listed.{kindOf, slotAt, Apart, OutsidePatches, OutsideFields, bitAt}
+use Rattle.finished_words.specs.ListedLaws.{of-bytes}
 use Rattle.finished_words.specs.Words.{wordsIn}
 use Rattle.finished_words.specs.Finished.{Finished, finished}
 use Rattle.finished_words.specs.InstanceTables.{labels₁, entry, regions, pending}
@@ -29,13 +30,6 @@ each test (q ∷ ps) e p m = go (and-eq-true-iff (test q) (all test ps) .0 e) (L
     go : (test q ≡ true) × (all test ps ≡ true) → (p ≡ q) ⊎ List·Memᴰ p ps → (all test ps ≡ true → (p : ℕ) → List·Memᴰ p ps → test p ≡ true) → test p ≡ true
     go h (inl s) ih = ap test s ∙ h .0
     go h (inr t) ih = ih (h .1) p t
-
--- a list whose elements are below 256 is one of bytes
-pub bytes : (s : List ℕ) → all (λ (b : ℕ). ltb b 256) s ≡ true → Bytes s
-unfolding all
-bytes [] e i = omega arith
-bytes (b ∷ s) e zero = ltb-true b 256 (and-eq-true-iff (ltb b 256) (all (λ (b : ℕ). ltb b 256) s) .0 e .0)
-bytes (b ∷ s) e (suc i) = bytes s (and-eq-true-iff (ltb b 256) (all (λ (b : ℕ). ltb b 256) s) .0 e .1) i
 
 either : (a b c d : ℕ) → leb a b || leb c d ≡ true → (a ≤ b) ⊎ (c ≤ d)
 either a b c d e = go (leb a b) refl
@@ -75,4 +69,4 @@ pub instance-byte : byteAt (buildOutcome Commit (tableOf labels₁) entry region
 instance-byte = instance .bytes-same 12 byte-outside
 
 pub instance-bit : bitAt (buildOutcome Commit (tableOf labels₁) entry regions pending .regions) 11 4 ≡ 1
-instance-bit = instance .bits-same (bytes regions (evaluated .bytes-fit)) 11 4 (omega arith) bit-outside ∙ evaluated .bit-is
+instance-bit = instance .bits-same (of-bytes regions (evaluated .bytes-fit)) 11 4 (omega arith) bit-outside ∙ evaluated .bit-is

@@ -1,4 +1,5 @@
 pub mod Listed
+pub mod ListedLaws
 pub mod Words
 pub mod WordsLaws
 pub mod AcceptedLaws

@@ -6,4 +6,5 @@ pub mod Effects
 pub mod EffectsLaws
 pub mod Step
 pub mod StepLaws
+pub mod WordStepsLaws
 pub mod LoadingAgrees

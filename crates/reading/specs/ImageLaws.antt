@@ -4,12 +4,13 @@ use native.Mathlib.Omega.{arith}
 use native.Mathlib.Nat.{add-assoc}
 use mathlib.Core.List.{List, [], _∷_, map}
 use mathlib.Core.Path.{_≡_, refl, sym, ap, _∙_}
-use lib.ListN.{length, getD}
+use lib.ListN.{length, getD, length-map, length-take, length-drop}
 use lib.Seq.{getD-take, getD-drop}
 use Rattle.record.specs.Bytes.{byteAt, le32, part}
 use Rattle.record.specs.Records.{bodyLen, places}
 use Rattle.regions.specs.declared.Region.{Region}
 use Rattle.regions.specs.Regions.{regionCount, regionPlace, regionAt}
+use Rattle.regions.specs.RegionsLaws.{RegionIs, region-is, region-place-ok}
 use Rattle.pending.specs.declared.Pending.{Pending}
 use Rattle.patch.specs.Patches.{wrap32, pcOf, regionFor}
 use Rattle.build_outcome.specs.KeptLaws.{Kept, region-same}
@@ -36,12 +37,23 @@ unfolding imageOf
 region-of-image s n h = getD-map (imageRegion s) (places s) n missingRegion h
 
 module _ (regions d : List ℕ) (k : Kept regions d) (r : ℕ) (h : r < regionCount regions) where
+  pub image-listed : r < length (imageOf d)
+  unfolding imageOf
+  image-listed = let e : length (map (imageRegion d) (places d)) ≡ length (places d) = simp length-map in rw (e, k .places-same) h
+
   here : regionIn (imageOf d) r ≡ imageRegion d (regionPlace d r)
   here = region-of-image d r (rw (k .places-same) h)
 
-  image-address : regionIn (imageOf d) r .address ≡ regionAt regions (regionPlace regions r) .address
+  pub image-address : regionIn (imageOf d) r .address ≡ regionAt regions (regionPlace regions r) .address
   image-address =
       ap (λ (g : ImageRegion). g .address) here ∙ ap (λ (g : Region). g .address) (region-same regions d k r h)
+
+  pub image-size : length (regionIn (imageOf d) r .bytes) ≡ regionAt regions (regionPlace regions r) .size
+  image-size =
+      let p = regionPlace d r in
+      let f : RegionIs d p = region-is d p (region-place-ok d r (k .layout-good) (rw (k .places-same) h)) in
+      let e : length (part d (p + 8) (bodyLen d p - 4)) ≡ bodyLen d p - 4 = simp (length-take, length-drop) (omega (arith, f .body, f .least)) in
+      ap (λ (g : ImageRegion). length (g .bytes)) here ∙ e ∙ ap (λ (g : Region). g .size) (region-same regions d k r h)
 
   pub image-word : (o : ℕ) → o + 4 ≤ regionAt regions (regionPlace regions r) .size → wordIn (imageOf d) r o ≡ le32 d (regionAt regions (regionPlace regions r) .start + o)
   image-word o l =

@@ -22,7 +22,8 @@ use Rattle.build_outcome.specs.declared.Built.the-variants.{Entry}
 use Rattle.reading.specs.Reading.{imageOf, readings, destinations}
 use Rattle.finished_words.specs.Listed.{In, pcAt, destinationAt}
 use Rattle.finished_words.specs.InstanceTables.{loop, labels₁, labels₂, labels₃, entry, regions, pending, exampleRegions, examplePending, exampleFinished}
-use Rattle.finished_words.specs.Instance.{each, bytes, apart}
+use Rattle.finished_words.specs.ListedLaws.{of-bytes}
+use Rattle.finished_words.specs.Instance.{each, apart}
 use Rattle.reading.specs.Premises.{Pair, Premises}
 use Rattle.reading.specs.Used.{SameUsed}
 use Rattle.reading.specs.Demand.{reads-back, never-shared, differing-apart}
@@ -116,7 +117,7 @@ tables-differ = evaluated .for-all-addresses
 
 pub instance-used : (job : Job) → SameUsed (tableOf labels₁) (tableOf labels₂) entry pending
 instance-used job =
-    never-shared job labels₁ labels₂ entry regions pending (bytes labels₁ (evaluated .first .bytes-fit)) (bytes labels₂ (evaluated .second .bytes-fit)) (instance₁ job) (instance₂ job)
+    never-shared job labels₁ labels₂ entry regions pending (of-bytes labels₁ (evaluated .first .bytes-fit)) (of-bytes labels₂ (evaluated .second .bytes-fit)) (instance₁ job) (instance₂ job)
     (ap (λ (o : BuildOutcome). imageOf (o .regions)) (same-outcome job)) (ap (λ (o : BuildOutcome). o .answer) (same-outcome job))
 
 -- ---- the first and the third differ in a used address, and so do not share an image with its entry
@@ -134,7 +135,7 @@ not-same-used u =
 pub instance-apart : (job : Job) → imageOf (buildOutcome job (tableOf labels₁) entry regions pending .regions) ≡ imageOf (buildOutcome job (tableOf labels₃) entry regions pending .regions)
     → buildOutcome job (tableOf labels₁) entry regions pending .answer ≡ buildOutcome job (tableOf labels₃) entry regions pending .answer → ⊥
 instance-apart job =
-    differing-apart job labels₁ labels₃ entry regions pending (bytes labels₁ (evaluated .first .bytes-fit)) (bytes labels₃ (evaluated .third .bytes-fit)) (instance₁ job) (instance₃ job) not-same-used
+    differing-apart job labels₁ labels₃ entry regions pending (of-bytes labels₁ (evaluated .first .bytes-fit)) (of-bytes labels₃ (evaluated .third .bytes-fit)) (instance₁ job) (instance₃ job) not-same-used
 
 -- document 01's example of a build
 pub example : buildOutcome Commit (tableOf []) [] exampleRegions examplePending ≡ record { answer = Entry 0x00400000; regions = exampleFinished }

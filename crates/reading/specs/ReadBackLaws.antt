@@ -25,7 +25,7 @@ use Rattle.build_outcome.specs.Build.{patchedRegions}
 use Rattle.finished_words.specs.Listed.{In, kindOf, slotAt, destinationAt, pcAt}
 use Rattle.finished_words.specs.Words.{finishedWord, finishedAt}
 use Rattle.finished_words.specs.WordsLaws.{finished-field}
-use Rattle.finished_words.specs.AcceptedLaws.{has-region, reaches, known, dest-lt, in-range, finished-kept}
+use Rattle.finished_words.specs.AcceptedLaws.{has-region, reaches, known, dest-lt, in-range, slots-apart, finished-kept}
 use Rattle.finished_words.specs.FinishedLaws.{map-same, word-finished}
 use Rattle.reading.specs.Reading.{imageOf, pcIn, wordIn, half, signedBytes, readBy, reading, readings, destinations}
 use Rattle.reading.specs.Premises.{Premises, Pair, SameTarget}
@@ -75,7 +75,7 @@ module _ (job : Job) (labels : Table) (entry regions pending : List ℕ) (premis
   word-at p m =
       image-word regions (patchedRegions labels regions pending) (finished-kept job labels entry regions pending (premises .accepted)) (pendingAt pending p .region)
       (has-region job labels entry regions pending (premises .accepted) p m) (pendingAt pending p .offset) (reaches job labels entry regions pending (premises .accepted) p m .inside)
-      ∙ word-finished job labels entry regions pending (premises .accepted) (premises .apart) p m
+      ∙ word-finished job labels entry regions pending (premises .accepted) p m (λ q. slots-apart job labels entry regions pending (premises .accepted) (premises .apart) p q m)
 
   pc-at : (p : ℕ) → In pending p → pcIn (imageOf (patchedRegions labels regions pending)) (pendingAt pending p) ≡ pcAt regions pending p
   pc-at p m =

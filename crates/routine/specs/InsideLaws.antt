@@ -2,7 +2,8 @@
 use Prim.Native.Nat.{ℕ, _+_, _*_, _≤_}
 use native.Mathlib.Omega.{arith}
 use mathlib.Core.Path.{_≡_, refl}
-use mathlib.Core.List.{List, [], _∷_, _++_}
+use mathlib.Core.List.{List, [], _∷_, _++_, map, List·Memᴰ, List·Memᴰ·cases-cons}
+use mathlib.Core.Logic.{_⊎_, inl, inr}
 use lib.ListN.{length}
 use Rattle.pending.specs.declared.Origin.{Origin}
 use Rattle.emit_pairs.specs.declared.InstructionPair.{InstructionPair}
@@ -19,6 +20,15 @@ module _ {A : Type 0} where
   pub each-so : (P Q : A → Type 0) → ((x : A) → P x → Q x) → (xs : List A) → Each P xs → Each Q xs
   each-so P Q f [] h = tt
   each-so P Q f (x ∷ xs) h = (f x (h .0), each-so P Q f xs (h .1))
+
+-- what holds of each that a list is mapped to
+pub each-mem : {A : Type 0} (P : A → Type 0) (f : ℕ → A) (xs : List ℕ) (q : ℕ) → Each P (map f xs) → List·Memᴰ q xs → P (f q)
+each-mem P f [] q e m = elim m [ ]
+each-mem P f (x ∷ xs) q e m = go (List·Memᴰ·cases-cons m) (each-mem P f xs q (e .1))
+  where
+    go : (q ≡ x) ⊎ List·Memᴰ q xs → (List·Memᴰ q xs → P (f q)) → P (f q)
+    go (inl s) ih = rw s (e .0)
+    go (inr t) ih = ih t
 
 -- a patch of the region that ends at most there
 abbrev pub Before : (region end : ℕ) → Patch → Type 0

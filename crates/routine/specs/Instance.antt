@@ -1,11 +1,10 @@
 -- The premises can be met: a routine of three lines in two regions, and what the theorem says there. Assumes nothing.
-use Prim.Native.Nat.{ℕ, zero, suc}
+use Prim.Native.Nat.{ℕ}
 use native.Mathlib.Omega.{arith}
 use mathlib.Core.Path.{_≡_, refl, _∙_}
 use mathlib.Core.List.{List, [], _∷_, _++_}
-use mathlib.Core.Bool.{true, and-eq-true-iff}
+use mathlib.Core.Bool.{true}
 use lib.Dec.{ltb}
-use borrow.Author.Tests.{ltb-true}
 use Rattle.jobs.specs.declared.Job.the-variants.{Commit}
 use Rattle.record.specs.Bytes.{all, sameBytes}
 use Rattle.record.specs.Records.{placesF, placesFrom, places, firstBad, firstBadOf, withinLimit}
@@ -36,7 +35,7 @@ use Rattle.emit_outcome.specs.Dispatch.{meaning}
 use Rattle.emit_outcome.specs.Checks.{layoutStop, listStop}
 use Rattle.emit_outcome.specs.Room.{edgeStop, roomStop}
 use Rattle.emit_outcome.specs.Emit.{lineOutcome, emitOutcome}
-use Rattle.finished_words.specs.Listed.{Bytes}
+use Rattle.finished_words.specs.ListedLaws.{of-bytes}
 use Rattle.example_lists.specs.Lists.{register, integer, comma, zeros}
 use Rattle.routine.specs.PatchValues.{Patch, Name, patchesIn, patchesFrom}
 use Rattle.routine.specs.BreakpointValues.{Breakpoint, breakpointsIn}
@@ -89,12 +88,6 @@ abbrev pub start : Buffers
 start = record { region-data = λ region. room 12; pending = room 120; breakpoints = room 56 }
 
 -- ---- the premises
-
-of-bytes : (s : List ℕ) → all (λ (b : ℕ). ltb b 256) s ≡ true → Bytes s
-unfolding all
-of-bytes [] e i = omega arith
-of-bytes (b ∷ s) e zero = ltb-true b 256 (and-eq-true-iff (ltb b 256) (all (λ (b : ℕ). ltb b 256) s) .0 e .0)
-of-bytes (b ∷ s) e (suc i) = of-bytes s (and-eq-true-iff (ltb b 256) (all (λ (b : ℕ). ltb b 256) s) .0 e .1) i
 
 line-bytes : (l : RoutineLine) → all (λ (b : ℕ). ltb b 256) (l .token-list) ≡ true → all (λ (b : ℕ). ltb b 256) (l .mnemonic) ≡ true → OfBytes l
 line-bytes l t m = (of-bytes (l .token-list) t, of-bytes (l .mnemonic) m)

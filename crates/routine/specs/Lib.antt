@@ -12,6 +12,7 @@ pub mod LineFitsLaws
 pub mod LineFits
 pub mod InsideLaws
 pub mod RoutineLaws
+pub mod FromLaws
 pub mod Routine
 pub mod Instance
 pub mod WaitsLaws

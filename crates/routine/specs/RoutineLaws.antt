@@ -35,7 +35,7 @@ one-of : (P : Buffer → Type 0) {x y : Buffer} (t : Bool) → P x → P y → P
 one-of P true p q = p
 one-of P false p q = q
 
-after-sound : (l : RoutineLine) (b : Buffers) → Sound b → LineFits (l .job) (callOn l b) (emitOutcome (l .job) (callOn l b)) → Sound (afterLine l b)
+pub after-sound : (l : RoutineLine) (b : Buffers) → Sound b → LineFits (l .job) (callOn l b) (emitOutcome (l .job) (callOn l b)) → Sound (afterLine l b)
 after-sound l b s f = record {
   data-good = λ r region e.
       one-of (λ (d : Buffer). dataBufferLayout region (d .fill) (d .bytes) ≡ Good) (eqb r (l .place .region)) (f .data-good region e) (s .data-good r region e);
@@ -55,7 +55,7 @@ after-words l b f region = go (eqb region (l .place .region)) refl
     go true e = f .words-are ∙ ap (λ (r : ℕ). filled (b .region-data r) ++ words) (sym (eqb-true region (l .place .region) e))
     go false e = sym (append-nil (filled (b .region-data region)))
 
-after-grown : (l : RoutineLine) (b : Buffers) → LineFits (l .job) (callOn l b) (emitOutcome (l .job) (callOn l b)) → (region : ℕ) → b .region-data region .fill ≤ afterLine l b .region-data region .fill
+pub after-grown : (l : RoutineLine) (b : Buffers) → LineFits (l .job) (callOn l b) (emitOutcome (l .job) (callOn l b)) → (region : ℕ) → b .region-data region .fill ≤ afterLine l b .region-data region .fill
 after-grown l b f region = go (eqb region (l .place .region)) refl
   where
     go : (t : Bool) → eqb region (l .place .region) ≡ t → b .region-data region .fill ≤ cond t (selectedAfter l b) (b .region-data region) .fill

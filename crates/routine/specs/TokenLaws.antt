@@ -7,7 +7,7 @@ use mathlib.Core.Bool.{true, _&&_, and-eq-true-iff}
 use lib.ListN.{length, getD, length-take, length-drop}
 use lib.Dec.{leb}
 use borrow.Author.Tests.{leb-true}
-use Rattle.record.specs.Bytes.{le32, le64, locationAt, part, isText, all}
+use Rattle.record.specs.Bytes.{le64, locationAt, part, isText, all}
 use Rattle.record.specs.Records.{bodyLen, kindAt, whole, places, firstBad}
 use Rattle.record.specs.RecordsLaws.{whole-is, first-good}
 use Rattle.record.specs.Stores.{LocationFits}
@@ -26,18 +26,16 @@ use Rattle.lexer.specs.declared.TokenKind.{TokenKind}
 use Rattle.lexer.specs.declared.TokenKind.the-variants.{NewLine}
 use Rattle.cursor.specs.Cursors.{noToken}
 use Rattle.finished_words.specs.Listed.{Bytes}
+use Rattle.finished_words.specs.ListedLaws.{le32-fits}
 
 -- ---- numbers of bytes
 
 module _ (s : List ℕ) (bytes : Bytes s) where
-  le32-fits : (i : ℕ) → le32 s i < 2 ^ 32
-  le32-fits i = omega (arith, bytes i, bytes (i + 1), bytes (i + 2), bytes (i + 3))
-
   le64-fits : (i : ℕ) → le64 s i < 2 ^ 64
-  le64-fits i = omega (arith, le32-fits i, le32-fits (i + 4))
+  le64-fits i = omega (arith, le32-fits s bytes i, le32-fits s bytes (i + 4))
 
   pub location-fits : (i : ℕ) → LocationFits (locationAt s i)
-  location-fits i = record { source-fits = le32-fits i; index-fits = le32-fits (i + 4) }
+  location-fits i = record { source-fits = le32-fits s bytes i; index-fits = le32-fits s bytes (i + 4) }
 
 -- ---- what a token holds
 
