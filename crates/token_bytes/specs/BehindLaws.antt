@@ -100,7 +100,7 @@ module _ (l r : List ℕ) where
   text-behind : (i : ℕ) → textOf (l ++ r) (behind i) ≡ textOf r i
   text-behind i = part-behind l r (i + 12) (behind i + 12) (payloadLen (l ++ r) (behind i)) (omega arith) ∙ ap (part r (i + 12)) (len-behind i)
 
-  ok-behind : (i : ℕ) → tokenOk (l ++ r) (behind i) ≡ tokenOk r i
+  pub ok-behind : (i : ℕ) → tokenOk (l ++ r) (behind i) ≡ tokenOk r i
   unfolding tokenOk
   ok-behind i =
       let s = l ++ r in

@@ -1,0 +1,12 @@
+pub mod Written
+pub mod Outcome
+pub mod Walk
+pub mod Acts
+pub mod Every
+pub mod AsItself
+pub mod AsBytes
+pub mod AloneLaws
+pub mod KeepsLayout
+pub mod Above
+pub mod AboveLaws
+pub mod OwnName
