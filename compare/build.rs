@@ -12,7 +12,7 @@ const JOBS: [(&str, &str); 3] = [
 
 fn main() {
     println!("cargo:rustc-check-cfg=cfg(library_build, library_line, library_count, library_text)");
-    println!("cargo:rustc-check-cfg=cfg(library_dry_run)");
+    println!("cargo:rustc-check-cfg=cfg(library_dry_run, library_macros)");
     for name in [
         "NAZGWERN_FOLDER",
         "NAZGWERN_BUILD",
@@ -20,6 +20,7 @@ fn main() {
         "NAZGWERN_COUNT",
         "NAZGWERN_TEXT",
         "NAZGWERN_DRY_RUN",
+        "NAZGWERN_MACROS",
     ] {
         println!("cargo:rerun-if-env-changed={name}");
     }
@@ -56,5 +57,8 @@ fn main() {
     }
     if env::var("NAZGWERN_DRY_RUN").is_ok() {
         println!("cargo:rustc-cfg=library_dry_run");
+    }
+    if env::var("NAZGWERN_MACROS").is_ok() {
+        println!("cargo:rustc-cfg=library_macros");
     }
 }

@@ -105,6 +105,8 @@ static struct buffer tokens, mnemonic, descriptors, data, pending, breakpoints, 
 static struct buffer labels, entry, regions, patches; /* a build's pending list is only read */
 static struct buffer typed, records;                  /* a text, and the records of its tokens */
 
+static struct buffer defined, written;                /* macros, and the tokens written out */
+
 static struct buffer image, held;                     /* a dry run's regions and registers */
 
 static void *mapped(void *at, size_t size, int protection, int flags, int file)
@@ -725,6 +727,96 @@ static void dry_run(void)
     kept(&held, 0, NAZGWERN_REGISTERS_BYTES, "a byte behind the registers was changed");
 }
 
+/* ---- macros */
+
+/* A token of one of four names, or a mark, or a register. */
+static void put_token(struct buffer *list, uint16_t kind, const char *bytes)
+{
+    put_head(list, 8 + strlen(bytes), kind);
+    put(list, chance(), 8);
+    put_text(list, bytes);
+}
+
+/* Lines with labels, calls and other tokens; a body's have its parameters. */
+static void some_lines(struct buffer *list, uint32_t count, uint32_t parameters)
+{
+    for (; count > 0; count--) {
+        if (once_in(4)) {
+            put_token(list, 8, names[below(NAMES)]);
+            put_token(list, 12, "");
+        }
+        if (once_in(6))
+            put_token(list, 0, "pen");
+        put_token(list, 8, once_in(4) ? "addu" : names[below(NAMES)]);
+        for (uint32_t left = below(4); left > 0; left--) {
+            if (parameters > 0 && once_in(2))
+                put_token(list, 2, names[below(parameters)]);
+            else if (once_in(4))
+                put_token(list, (uint16_t[]){9, 10, 11, 12, 14, 15}[below(6)], "");
+            else if (once_in(3))
+                put_token(list, 8, names[below(NAMES)]);
+            else
+                put_token(list, 3, "\x08");
+        }
+        if (count > 1 || once_in(2))
+            put_token(list, 13, "");
+    }
+}
+
+static void some_macros(void)
+{
+    static struct buffer body;
+    uint32_t first = below(NAMES);
+
+    defined.length = 0;
+    for (uint32_t number = 0, count = below(NAMES + 1); number < count; number++) {
+        const char *name = names[once_in(50) ? first : (first + number) % NAMES];
+        uint32_t parameters = once_in(30) ? 5 : below(NAMES);
+
+        body.length = 0;
+        put(&body, strlen(name), 1), put_text(&body, name), put(&body, parameters, 1);
+        for (uint32_t i = 0; i < parameters; i++) {
+            put(&body, strlen(names[i % NAMES]), 1);
+            put_text(&body, names[i % NAMES]);
+        }
+        some_lines(&body, below(4), parameters < NAMES ? parameters : 0);
+        put_head(&defined, body.length, 40);
+        for (size_t i = 0; i < body.length; i++)
+            put(&defined, body.bytes[i], 1);
+    }
+}
+
+static void write_out(void)
+{
+    some_macros();
+    tokens.length = 0;
+    some_lines(&tokens, once_in(500) ? 500 : below(8), 0);
+    written.length = 0;
+    put_any(&written, once_in(3) ? below(400) : 4000 + below(20000));
+    some_room(&answer, NAZGWERN_ANSWER_BYTES);
+    if (once_in(16))
+        damage(&tokens);
+    if (once_in(16))
+        damage(&defined);
+    if (once_in(1000)) /* the limit, or over it */
+        written.length = NAZGWERN_MOST_BYTES + below(64);
+    lend(&tokens), lend(&defined), lend(&written), lend(&answer);
+
+    uint32_t number = nazgwern_write_out(tokens.lent, tokens.length, defined.lent, defined.length,
+                                         written.lent, written.length, answer.lent, answer.length);
+
+    unchanged(&tokens);
+    unchanged(&defined);
+    if (!answered(number, answer.length >= NAZGWERN_ANSWER_BYTES) || number != 0) {
+        unchanged(&written);
+        return;
+    }
+    uint32_t fill = number_at(answer.lent, 20);
+    if (fill > written.length)
+        fail("a fill past the buffer's end");
+    kept(&written, 0, fill, "a byte behind the records was changed");
+}
+
 /* ---- the entries, each with how many calls */
 
 static const struct {
@@ -740,6 +832,7 @@ static const struct {
     {"nazgwern_count_forms", count_forms, 500000},
     {"nazgwern_read_text", read_text, 500000},
     {"nazgwern_dry_run", dry_run, 500000},
+    {"nazgwern_write_out", write_out, 500000},
 };
 
 static void report(const struct tally *tally)
@@ -763,6 +856,7 @@ int main(int count, char **words)
     make(&counts, lent), make(&answer, lent);
     make(&typed, only_read), make(&records, lent);
     make(&image, only_read), make(&held, lent);
+    make(&defined, only_read), make(&written, lent);
     signal(SIGSEGV, touched);
     signal(SIGBUS, touched);
 

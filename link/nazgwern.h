@@ -16,6 +16,8 @@
                            added offset (8), the name's location, name of 1 to 64
      37        breakpoint  location, 1 to 5 pcs (4 each), one a word
      38        entry       form (1), value or added offset (8), the name's location, name of 1 to 64
+     40        macro       name of 1 to 64, count of parameters (1) and their names of 1 to 64, each
+                           name after a length byte; then the body's token records
      41        label       address (4), owner (4, below 0xFFFFFFFF), name of 1 to 64: the label of
                            one file, the source that is its owner
 
@@ -50,8 +52,8 @@
    all state is in the buffers.
 
    ANSWER. Six numbers of four bytes: number, source, index, a, b, and a line's position, a build's
-   entry, a text's fill or a dry run's pc. Number 0 is an accepted call, 1 to 16, 19 to 23, 27, 28
-   and 30 are refusals; source and index are the refusal's location, a is given by its low 32 bits,
+   entry, a text's or a written-out list's fill or a dry run's pc. Number 0 is an accepted call, 1
+   to 16, 19 to 28 and 30 are refusals; source and index are the refusal's location, a is given by its low 32 bits,
    and numbers that are not named here are 0. Of an accepted line a says how its constant is
    loaded: 0 none is, 1 addiu alone, 2 ori alone, 3 lui alone, 4 both halves. The number is
    returned too. On refusal the answer is written and no other lent byte changes. If the answer has
@@ -62,8 +64,8 @@
       1  A record breaks the layout or sits in the wrong list, a buffer is over 65,536 bytes, a fill
          count is over its buffer's length, or the region's number is none (a: buffer in argument
          order from 0, b: the byte place in it).
-      2  Two descriptors share a name, or two labels a name and an owner, or a name and kind 34
-         (a: buffer, b: place of the later).
+      2  Two descriptors or two macros share a name, or two labels a name and an owner, or a name
+         and kind 34 (a: buffer, b: place of the later).
       3  Neither descriptor nor pseudo-instruction has the mnemonic.
       4  The tokens end before an operand does.
       5  A register was due (a: kind of the token that was met).
@@ -87,6 +89,9 @@
      22  A text is over 64 bytes, a parameter has no name, a number is over 64 bits, 0x has no
          digit, or a register is unknown.
      23  The token buffer is too short for the token.
+     24  A macro's call has a wrong count of arguments.
+     25  A macro's call is on a ninth level.
+     26  The written-out buffer is too short for the token.
      27  In a Release 6 job, a line of encoding 4 has a third operand, or the descriptor's opcode is
          of class 1 with the key 18 modulo 64.
      28  A dry run's pc is no multiple of four, or no whole word stands there.
@@ -95,7 +100,7 @@
    The location is zero for 1, 2, 28 and 30; the mnemonic's for 3, 4, 9 to 12, 19, 20 and 27; for 5
    to 8 that of the token that was met, or the mnemonic's at a NewLine; the name's for 13 and 15,
    and the pending's for 14 and 16; for 21 to 23 the call's source and the place of the token's
-   first byte.
+   first byte; for 24 and 25 that of the call's name, and for 26 that of the token without room.
    docs/REFUSALS.md says what to do about each.
 
    STACK. Measured, not proved, on x86-64 with gcc as the caller's compiler: link/stack ran over a
@@ -224,6 +229,21 @@ uint32_t nazgwern_count_forms(
 uint32_t nazgwern_read_text(
     const uint8_t *text, size_t text_length, uint32_t source,
     uint8_t *tokens, size_t tokens_length,
+    uint8_t *answer, size_t answer_length);
+
+/* Writes the calls of macros in a token list out, from the start of the written-out buffer on. A
+   call is a Symbol of exactly a macro's name, first on its line but for labels, their Colons and
+   comments, up to NewLine or the end; docs/MACROS.md says what it is replaced by.
+   tokens       kinds 0 to 15
+   macros       kind 40, each with a name of its own, up to 8 different parameters, and no other
+                Parameter in its body; a body calls those before it in the list, to 8 levels
+   out          only written, and what stands behind the records stays; what is written is a token
+                list for nazgwern_do_instruction
+   The last number of the answer is the fill of the written-out buffer, and 0 on refusal. */
+uint32_t nazgwern_write_out(
+    const uint8_t *tokens, size_t tokens_length,
+    const uint8_t *macros, size_t macros_length,
+    uint8_t *out, size_t out_length,
     uint8_t *answer, size_t answer_length);
 
 /* Runs an image dry: nop, addiu, addi, add, addu, sub, subu, slt, sltu, ori, xori, xor, nor, lui,

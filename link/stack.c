@@ -19,7 +19,7 @@
 #define PAINT UINT64_C(0xa5a5a5a5a5a5a5a5)
 
 enum { ENCODINGS = 21, PSEUDOS = 29, OFFSET = 13 };
-enum { NEAR = 0x00400000, FAR = 0x10500000, GREATEST_NUMBER = 28 };
+enum { NEAR = 0x00400000, FAR = 0x10500000, GREATEST_NUMBER = 28, LEVELS = 10 };
 
 static const char *const pseudos[PSEUDOS + 1] = {
     "nop", "abs", "blt", "bgt", "ble", "bge", "bltu", "bgtu", "bleu", "bgeu", "sge", "sgt", "sle",
@@ -44,6 +44,7 @@ struct list {
 /* The arguments of the call that is measured. */
 static struct list tokens, mnemonic, descriptors, data, pending, breakpoints;
 static struct list labels, entry, regions, text;
+static struct list macros, written;
 static uint8_t counts[NAZGWERN_COUNTS_BYTES], filled[NAZGWERN_COUNTS_BYTES];
 static uint8_t answer[NAZGWERN_ANSWER_BYTES];
 static size_t counts_length = sizeof counts, answer_length = sizeof answer;
@@ -100,6 +101,13 @@ static void dry_run(void)
     frame = __builtin_frame_address(0);
     number = nazgwern_dry_run(regions.bytes, regions.length, registers, registers_length, address,
                               allowance, answer, answer_length);
+}
+
+static void write_out(void)
+{
+    frame = __builtin_frame_address(0);
+    number = nazgwern_write_out(tokens.bytes, tokens.length, macros.bytes, macros.length,
+                                written.bytes, written.length, answer, answer_length);
 }
 
 static void paint(size_t from)
@@ -592,6 +600,46 @@ static void job(const char *line_name, const char *build_name)
     report(build_name);
 }
 
+/* Macros A to J, of which each calls the one above it, the first with so many parameters; then a call
+   of each, with no argument and with eight, and as much room as each token needs. */
+static void all_macros(void)
+{
+    for (int parameters = 0; parameters <= 8; parameters += 4) {
+        macros.length = 0;
+        for (int level = 0; level < LEVELS; level++) {
+            int given = level == 0 ? parameters : 0;
+            put_head(&macros, 3 + 2 * given + 13 * (1 + given), 40);
+            put(&macros, 1, 1), put(&macros, 'A' + level, 1), put(&macros, given, 1);
+            for (int i = 0; i < given; i++)
+                put(&macros, 1, 1), put(&macros, 'a' + i, 1);
+            for (int i = 0; i <= given; i++) {
+                put_head(&macros, 9, i == 0 ? 8 : 2), put(&macros, 0, 8);
+                put(&macros, i == 0 ? (level == 0 ? 'z' : 'A' + level - 1) : 'a' + i - 1, 1);
+            }
+        }
+        for (int level = -1; level < LEVELS; level++)
+            for (int arguments = 0; arguments <= 9; arguments++)
+                for (written.length = 0; written.length < 160; written.length += 12) {
+                    tokens.length = 0;
+                    token(8, 'x', 1), token(12, 0, 0), token(8, 'A' + level, 1);
+                    for (int i = 0; i < arguments; i++)
+                        token(11, 0, 0), token(3, 8, 1);
+                    token(13, 0, 0);
+                    measure(write_out);
+                }
+    }
+    macros.bytes[0]++; /* a layout that is broken, and two of one name */
+    measure(write_out);
+    macros.bytes[0]--;
+    macros.length = 0;
+    for (int i = 0; i < 2; i++)
+        put_head(&macros, 3, 40), put(&macros, 1, 1), put(&macros, 'A', 1), put(&macros, 0, 1);
+    measure(write_out);
+    answer_length--;
+    measure(write_out);
+    answer_length++;
+}
+
 int main(void)
 {
     paint(0);
@@ -610,6 +658,9 @@ int main(void)
 
     all_runs();
     report("nazgwern_dry_run");
+
+    all_macros();
+    report("nazgwern_write_out");
 
     return 0;
 }

@@ -44,6 +44,11 @@ mod line_input;
 mod list;
 mod list_build;
 mod list_line;
+mod macro_generate;
+mod macro_input;
+mod macro_library;
+mod macro_plain;
+mod macro_run;
 mod model;
 mod model_line;
 mod model_list;
@@ -99,7 +104,8 @@ fn main() -> ExitCode {
         "count_forms" if options.other.has_count() => count_forms::run(options.other),
         "text" if text_library::HAS_TEXT => text_run::run(&options),
         "dry_run" if dry_run_library::HAS_DRY_RUN => dry_run::run(&options),
-        "bench" | "build" | "count_forms" | "dry_run" | "line" | "list" | "text" => {
+        "macros" if macro_library::HAS_MACROS => macro_run::run(&options),
+        "bench" | "build" | "count_forms" | "dry_run" | "line" | "list" | "macros" | "text" => {
             eprintln!("the library has no entry for {}", options.mode);
             return ExitCode::from(2);
         }

@@ -1,4 +1,4 @@
-// The library to link: a build and a line in each sort of job, the counts of a range, a text's tokens and a dry run by the C calling convention, where a slice goes as a pointer and a length.
+// The library to link: a build and a line in each sort of job, the counts of a range, a text's tokens, a dry run and a list with its macros written out by the C calling convention, where a slice goes as a pointer and a length.
 ghost use mathlib.Core.Path.{_≡_};
 ghost use Prim.Native.Nat.{_≤_};
 ghost use lib.ListN.{length};
@@ -7,6 +7,7 @@ ghost use Rattle.emit_outcome.specs.Call.{lentOf};
 ghost use Rattle.nazgwern.specs.Answer.{countsBytes, countsAt, countsAfter, formCountBytes, formCounts, formCountsAfter, linkedBuildBy, linkedBuild, linkedLineBy, linkedLine, linkedCount};
 ghost use Rattle.linked_text.specs.LinkedText.{linkedText};
 ghost use Rattle.linked_dry_run.specs.LinkedDryRun.{linkedDryRun};
+ghost use Rattle.linked_macros.specs.LinkedMacros.{linkedMacros};
 
 pub mod answer;
 
@@ -361,4 +362,18 @@ pub extern "C" fn nazgwern_dry_run(
         ≡ (record { result = r; registers = now (registers .exit); answer = now (answer .exit) }) ⌝ }
 {
     linked_dry_run::dry_run(regions, registers, pc, allowance, answer)
+}
+
+// Writes a token list's macros out or refuses: linked_macros says how.
+#[no_mangle]
+pub extern "C" fn nazgwern_write_out(
+    tokens: &[u8],
+    macros: &[u8],
+    out: &mut [u8],
+    answer: &mut [u8],
+) -> u32
+    ensures { λ r. ⌜ linkedMacros (now (tokens .entry)) (now (macros .entry)) (now (out .entry)) (now (answer .entry))
+        ≡ (record { result = r; out = now (out .exit); answer = now (answer .exit) }) ⌝ }
+{
+    linked_macros::write_out(tokens, macros, out, answer)
 }

@@ -38,6 +38,10 @@ pub enum Refusal {
     BadByte(Location),
     BadToken(Location),
     NoTokenSpace(Location),
+    // a macro's call that has a wrong count of arguments, or is a ninth level, or a written-out token that has no room
+    WrongArguments(Location),
+    NinthLevel(Location),
+    NoWrittenSpace(Location),
     // a dry run's pc is no multiple of four, or has no whole word
     BadStart,
     // a range of constants to count
@@ -100,6 +104,9 @@ pub fn numbers(refusal: Refusal) -> Numbered
         Refusal::BadByte(l) => with(21, l, none),
         Refusal::BadToken(l) => with(22, l, none),
         Refusal::NoTokenSpace(l) => with(23, l, none),
+        Refusal::WrongArguments(l) => with(24, l, none),
+        Refusal::NinthLevel(l) => with(25, l, none),
+        Refusal::NoWrittenSpace(l) => with(26, l, none),
         Refusal::BadStart => with(28, zero, none),
         Refusal::StartPastEnd => with(30, zero, none),
     }

@@ -23,7 +23,7 @@ use Rattle.token_text.specs.TokenText.{tokensLine, answerText, outcomeTe
 pub line-length : (list : List ℕ) → length (tokensLine list) ≡ 8 + 2 * length list
 line-length list = omega (arith, length-append (bytesOf "tokens " ++ hexBytes list) (bytesOf "\n"), length-append (bytesOf "tokens ") (hexBytes list), hex-length list)
 
-take-replicate : (m n : ℕ) → m ≤ n → take m (replicate {A = ℕ} n 0) ≡ replicate m 0
+pub take-replicate : (m n : ℕ) → m ≤ n → take m (replicate {A = ℕ} n 0) ≡ replicate m 0
 take-replicate zero n h = refl
 take-replicate (suc m) zero h = absurd (omega arith)
 take-replicate (suc m) (suc n) h = ap (λ (l : List ℕ). 0 ∷ l) (take-replicate m n (omega arith))

@@ -15,7 +15,8 @@ fn text_of(input: &[u8]) -> &[u8]
     &input[start..]
 }
 
-fn put_tokens(out: &mut [u8], list: &[u8]) -> usize
+// A line of a token list.
+pub fn put_tokens(out: &mut [u8], list: &[u8]) -> usize
     requires { ⌜ length (tokensLine (now list)) ≤ length (now out) ⌝ }
     ensures { λ r. ⌜ Put (now (out .entry)) 0 (tokensLine (now (list .entry))) (now (out .exit)) r ⌝ }
 {

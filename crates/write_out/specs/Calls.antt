@@ -6,7 +6,7 @@ use mathlib.Core.Path.{_≡_}
 use lib.Dec.{eqb}
 use Rattle.record.specs.declared.Location.{Location}
 use Rattle.refusal.specs.declared.Refusal.{Refusal}
-use Rattle.refusal.specs.declared.Refusal.the-variants.{BadByte as WrongArguments, BadToken as NinthLevel}
+use Rattle.refusal.specs.declared.Refusal.the-variants.{WrongArguments, NinthLevel}
 use Rattle.refusal.specs.declared.Verdict.{Verdict}
 use Rattle.refusal.specs.declared.Verdict.the-variants.{Pass, Stop}
 use Rattle.macros.specs.Macros.{bodyAt}

@@ -13,7 +13,7 @@ use Rattle.record.specs.RecordsLaws.{places-all, whole-is, limit-good}
 use Rattle.record.specs.declared.Layout.the-variants.{Good}
 use Rattle.record.specs.declared.Location.{Location}
 use Rattle.refusal.specs.declared.Refusal.{Refusal}
-use Rattle.refusal.specs.declared.Refusal.the-variants.{BadByte as WrongArguments, BadToken as NinthLevel}
+use Rattle.refusal.specs.declared.Refusal.the-variants.{WrongArguments, NinthLevel}
 use Rattle.refusal.specs.declared.Verdict.{Verdict}
 use Rattle.refusal.specs.declared.Verdict.the-variants.{Pass, Stop}
 use Rattle.lexer.specs.Tokens.{TokenIs, tokenLayout, textOf}

@@ -81,6 +81,13 @@ module _ (tokens macros : List ℕ) (room : ℕ) where
       pub stop-name : room ≤ limit → (r : Repeat) → macroRepeat macros ≡ r → stopBy tokens macros room ≡ nameVerdict 1 r
       stop-name h r e = by-room Good (rw (le-leb room limit h, roomLayout)) ∙ ap (nameVerdict 1) e
 
+-- two buffers that are both over the limit are stopped alike
+pub long-same : (tokens macros : List ℕ) (a b : ℕ) → limit < a → limit < b → stopBy tokens macros a ≡ stopBy tokens macros b
+unfolding stopBy
+long-same tokens macros a b h k =
+    let e : roomLayout a ≡ roomLayout b = rw (lt-leb a limit h, roomLayout) (sym (rw (lt-leb b limit k, roomLayout))) in
+    ap (λ (x : Layout). andThen (layoutVerdict 0 (tokenLayout tokens)) (andThen (layoutVerdict 1 (macroLayout macros)) (andThen (layoutVerdict 2 x) (nameVerdict 1 (macroRepeat macros))))) e
+
 -- ---- the outcome
 module _ (tokens macros out : List ℕ) where
   abbrev steps : List Step

@@ -12,7 +12,7 @@ use Rattle.record.specs.Bytes.{locationAt}
 use Rattle.record.specs.Stores.{append}
 use Rattle.record.specs.StoresLaws.{append-none}
 use Rattle.refusal.specs.declared.Refusal.{Refusal}
-use Rattle.refusal.specs.declared.Refusal.the-variants.{NoTokenSpace as NoWrittenSpace}
+use Rattle.refusal.specs.declared.Refusal.the-variants.{NoWrittenSpace}
 use Rattle.written_out.specs.declared.WriteOutAnswer.{WriteOutAnswer}
 use Rattle.written_out.specs.declared.WriteOutAnswer.the-variants.{Written, Refused}
 use Rattle.written_out.specs.Written.{Step, write, stop}

@@ -8,7 +8,7 @@ use lib.ListN.{length}
 use Rattle.record.specs.Bytes.{locationAt}
 use Rattle.record.specs.Stores.{append}
 use Rattle.refusal.specs.declared.Refusal.{Refusal}
-use Rattle.refusal.specs.declared.Refusal.the-variants.{NoTokenSpace as NoWrittenSpace}
+use Rattle.refusal.specs.declared.Refusal.the-variants.{NoWrittenSpace}
 use Rattle.written_out.specs.declared.WriteOutAnswer.{WriteOutAnswer}
 use Rattle.written_out.specs.declared.WriteOutAnswer.the-variants.{Written, Refused}
 use Rattle.written_out.specs.Written.{Step, write, stop}

@@ -39,10 +39,10 @@ fn call_verdict(location: Location, given: usize, count: usize, levels: usize) -
     ensures { λ r. ⌜ r ≡ callVerdict location given count levels ⌝ }
 {
     if given != count {
-        return Verdict::Stop(Refusal::BadByte(location));
+        return Verdict::Stop(Refusal::WrongArguments(location));
     }
     if levels == 0 {
-        return Verdict::Stop(Refusal::BadToken(location));
+        return Verdict::Stop(Refusal::NinthLevel(location));
     }
     Verdict::Pass
 }
@@ -109,7 +109,7 @@ fn write_body(
                 let size = macro_tokens::size_of(text, macros, place);
                 if out.len() - fill < size {
                     let location = macro_tokens::location_of(text, macros, place);
-                    return WriteOutAnswer::Refused(Refusal::NoTokenSpace(location));
+                    return WriteOutAnswer::Refused(Refusal::NoWrittenSpace(location));
                 }
                 macro_tokens::put_token(text, macros, place, really, &mut *out, fill);
                 fill = fill + size;

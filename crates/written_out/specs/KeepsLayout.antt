@@ -15,7 +15,7 @@ use Rattle.record.specs.Stores.{append}
 use Rattle.record.specs.StoresLaws.{filled-append}
 use Rattle.record.specs.declared.Layout.{Layout}
 use Rattle.record.specs.declared.Layout.the-variants.{Good, Bad}
-use Rattle.refusal.specs.declared.Refusal.the-variants.{NoTokenSpace as NoWrittenSpace}
+use Rattle.refusal.specs.declared.Refusal.the-variants.{NoWrittenSpace}
 use Rattle.refusal.specs.declared.Verdict.{Verdict}
 use Rattle.refusal.specs.declared.Verdict.the-variants.{Pass, Stop}
 use Rattle.refusal.specs.Verdicts.{layoutVerdict, nameVerdict, andThen}
@@ -122,6 +122,9 @@ module _ (tokens macros out : List ℕ) (f : ℕ) where
         room = limit-good out Good (layout-pass 2 (withinLimit out Good) (c .0)) .0;
         answered = p .1;
       }
+
+  pub fill-within : writeOutOutcome tokens macros out .answer ≡ Written f → f ≤ length out
+  fill-within e = fill-is (length out) 0 f steps (omega arith) (accepted e .answered) .1
 
   -- the filled part is the written records
   pub filled-is : writeOutOutcome tokens macros out .answer ≡ Written f → take f (writeOutOutcome tokens macros out .out) ≡ bytesOf steps

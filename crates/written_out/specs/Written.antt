@@ -6,9 +6,8 @@ use lib.ListN.{length, getD, take, drop}
 use lib.Dec.{eqb}
 use Rattle.record.specs.Bytes.{sameBytes, locationAt}
 use Rattle.record.specs.declared.Location.{Location}
--- DRAFT: the cases are `WrongArguments`, `NinthLevel` and `NoWrittenSpace`, rows 24, 25 and 26 of `numbered`
 use Rattle.refusal.specs.declared.Refusal.{Refusal}
-use Rattle.refusal.specs.declared.Refusal.the-variants.{BadByte as WrongArguments, BadToken as NinthLevel}
+use Rattle.refusal.specs.declared.Refusal.the-variants.{WrongArguments, NinthLevel}
 use Rattle.lexer.specs.Tokens.{textOf}
 use Rattle.line_heads.specs.Lines.{Line, isComment, isParameter, isSymbol, isComma, lines, leads, recordsOf}
 use Rattle.macros.specs.Macros.{Macro, indexOf, macrosOf}

@@ -16,7 +16,7 @@ use Rattle.refusal.specs.declared.Verdict.the-variants.{Pass}
 use Rattle.macros.specs.Macros.{bodyAt}
 use Rattle.macros.specs.LayoutLaws.{body-part}
 use Rattle.record.specs.declared.Location.{Location}
-use Rattle.refusal.specs.declared.Refusal.the-variants.{NoTokenSpace as NoWrittenSpace}
+use Rattle.refusal.specs.declared.Refusal.the-variants.{NoWrittenSpace}
 use Rattle.written_out.specs.declared.WriteOutAnswer.the-variants.{Written, Refused}
 use Rattle.written_out.specs.declared.Mode.the-variants.{Leading, LeftOut}
 use Rattle.written_out.specs.Written.{Step, replaced}

@@ -1,0 +1,2 @@
+pub mod LinkedMacros
+pub mod LinkedMacrosLaws

@@ -1,0 +1,2 @@
+pub mod MacroText
+pub mod MacroTextLaws
