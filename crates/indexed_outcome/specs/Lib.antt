@@ -1,0 +1,9 @@
+pub mod Indexed
+pub mod Make
+pub mod Beside
+pub mod BesideLaws
+pub mod SameCall
+pub mod AsWithout
+pub mod NextTakes
+pub mod MakeLaws
+pub mod MakeTakes

@@ -1,0 +1,4 @@
+pub mod Adding
+pub mod AddingLaws
+pub mod Making
+pub mod MakingLaws
