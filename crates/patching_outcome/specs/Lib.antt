@@ -1,0 +1,5 @@
+pub mod Patching
+pub mod Step
+pub mod Grown
+pub mod Line
+pub mod LayoutLaws
