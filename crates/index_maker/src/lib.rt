@@ -33,13 +33,13 @@ fn check_layouts(pending: &[u8], fill: usize, labels: &[u8], index: &[u8]) -> Ve
 
 // Refusal 17. Until `Refusal` has its case, that of 27 stands for it.
 fn no_space() -> IndexAnswer
-    ensures { λ r. ⌜ r ≡ IndexAnswer.Refused (Refusal.DroppedInstruction (record { source = 0; index = 0 })) ⌝ }
+    ensures { λ r. ⌜ r ≡ IndexAnswer.Refused (Refusal.NoIndexSpace (record { source = 0; index = 0 })) ⌝ }
 {
     let nowhere = Location {
         source: 0,
         index: 0,
     };
-    IndexAnswer::Refused(Refusal::DroppedInstruction(nowhere))
+    IndexAnswer::Refused(Refusal::NoIndexSpace(nowhere))
 }
 
 // The index into a buffer shorter than the pending list: it is made beside it, and copied if it has room.

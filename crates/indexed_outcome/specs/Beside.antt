@@ -4,8 +4,7 @@ use mathlib.Core.Path.{_≡_}
 use Rattle.jobs.specs.declared.Job.{Job}
 use Rattle.record.specs.declared.Location.{Location}
 use Rattle.refusal.specs.declared.Refusal.{Refusal}
--- until `Refusal` has the case `NoIndexSpace` of 17, that of 27 stands for it
-use Rattle.refusal.specs.declared.Refusal.the-variants.{BadLayout, DuplicateName, DroppedInstruction as NoIndexSpace}
+use Rattle.refusal.specs.declared.Refusal.the-variants.{BadLayout, DuplicateName, NoIndexSpace}
 use Rattle.emit_outcome.specs.Emit.{emitOutcome}
 use Rattle.indexed_outcome.specs.Indexed.{IndexedCall, indexedOutcome}
 

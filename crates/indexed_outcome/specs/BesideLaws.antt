@@ -15,8 +15,7 @@ use Rattle.names.specs.declared.Repeat.{Repeat}
 use Rattle.names.specs.declared.Repeat.the-variants.{None, Later}
 use Rattle.refusal.specs.Verdicts.{andThen, layoutVerdict, nameVerdict}
 use Rattle.refusal.specs.declared.Refusal.{Refusal}
--- until `Refusal` has the case `NoIndexSpace` of 17, that of 27 stands for it
-use Rattle.refusal.specs.declared.Refusal.the-variants.{BadLayout, DuplicateName, DroppedInstruction as NoIndexSpace}
+use Rattle.refusal.specs.declared.Refusal.the-variants.{BadLayout, DuplicateName, NoIndexSpace}
 use Rattle.refusal.specs.declared.Verdict.{Verdict}
 use Rattle.refusal.specs.declared.Verdict.the-variants.{Pass, Stop}
 use Rattle.labels.specs.Labels.{labelLayout, labelRepeat}

@@ -7,8 +7,7 @@ use lib.Dec.{leb}
 use Rattle.jobs.specs.declared.Job.{Job}
 use Rattle.record.specs.Stores.{append}
 use Rattle.refusal.specs.Verdicts.{andThen, layoutVerdict, nameVerdict}
--- until `Refusal` has the case `NoIndexSpace` of 17, that of 27 stands for it
-use Rattle.refusal.specs.declared.Refusal.the-variants.{DroppedInstruction as NoIndexSpace}
+use Rattle.refusal.specs.declared.Refusal.the-variants.{NoIndexSpace}
 use Rattle.refusal.specs.declared.Refusal.{Refusal}
 use Rattle.refusal.specs.declared.Verdict.{Verdict}
 use Rattle.refusal.specs.declared.Verdict.the-variants.{Pass, Stop}

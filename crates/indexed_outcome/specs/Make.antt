@@ -9,8 +9,7 @@ use Rattle.record.specs.Stores.{append}
 use Rattle.record.specs.declared.Layout.the-variants.{Good}
 use Rattle.refusal.specs.Numbers.{zeroLocation}
 use Rattle.refusal.specs.Verdicts.{andThen, layoutVerdict, nameVerdict}
--- until `Refusal` has the case `NoIndexSpace` of 17, that of 27 stands for it
-use Rattle.refusal.specs.declared.Refusal.the-variants.{DroppedInstruction as NoIndexSpace}
+use Rattle.refusal.specs.declared.Refusal.the-variants.{NoIndexSpace}
 use Rattle.refusal.specs.declared.Verdict.{Verdict}
 use Rattle.refusal.specs.declared.Verdict.the-variants.{Pass, Stop}
 use Rattle.labels.specs.Labels.{labelLayout, labelRepeat}

@@ -11,8 +11,7 @@ use Rattle.record.specs.Records.{limit}
 use Rattle.record.specs.declared.Layout.{Layout}
 use Rattle.record.specs.declared.Layout.the-variants.{Good}
 use Rattle.refusal.specs.VerdictsLaws.{both-pass, layout-pass}
--- until `Refusal` has the case `NoIndexSpace` of 17, that of 27 stands for it
-use Rattle.refusal.specs.declared.Refusal.the-variants.{DroppedInstruction as NoIndexSpace}
+use Rattle.refusal.specs.declared.Refusal.the-variants.{NoIndexSpace}
 use Rattle.refusal.specs.declared.Verdict.{Verdict}
 use Rattle.refusal.specs.declared.Verdict.the-variants.{Pass, Stop}
 use Rattle.descriptors.specs.Mnemonics.{mnemonicLocation}

@@ -42,6 +42,8 @@ pub enum Refusal {
     WrongArguments(Location),
     NinthLevel(Location),
     NoWrittenSpace(Location),
+    // the index of a pending list is longer than its buffer
+    NoIndexSpace(Location),
     // a dry run's pc is no multiple of four, or has no whole word
     BadStart,
     // a range of constants to count
@@ -107,6 +109,7 @@ pub fn numbers(refusal: Refusal) -> Numbered
         Refusal::WrongArguments(l) => with(24, l, none),
         Refusal::NinthLevel(l) => with(25, l, none),
         Refusal::NoWrittenSpace(l) => with(26, l, none),
+        Refusal::NoIndexSpace(l) => with(17, l, none),
         Refusal::BadStart => with(28, zero, none),
         Refusal::StartPastEnd => with(30, zero, none),
     }
