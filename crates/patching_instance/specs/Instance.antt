@@ -10,7 +10,7 @@ use Rattle.record.specs.Records.{placesF, placesFrom, places, firstBad, firstBa
 use Rattle.record.specs.Stores.{le16Bytes, le32Bytes, le64Bytes, locationBytes, recordBytes, append}
 use Rattle.record.specs.declared.Location.{Location}
 use Rattle.refusal.specs.Verdicts.{firstStop}
-use Rattle.refusal.specs.declared.Refusal.the-variants.{PatchPastEnd, DroppedInstruction as LateLine}
+use Rattle.refusal.specs.declared.Refusal.the-variants.{PatchPastEnd, LateLine}
 use Rattle.names.specs.Names.{firstWhere, firstLater}
 use Rattle.loading.specs.declared.LoadForm.the-variants.{Nothing as Unloaded}
 use Rattle.loading.specs.Load.{isSmall, formOf, loadWords}

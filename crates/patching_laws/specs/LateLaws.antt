@@ -12,7 +12,7 @@ use Rattle.refusal.specs.Verdicts.{layoutVerdict, nameVerdict}
 use Rattle.refusal.specs.VerdictsLaws.{both-pass}
 use Rattle.refusal.specs.declared.Refusal.the-variants.{MissingRegion}
 -- as in Line
-use Rattle.refusal.specs.declared.Refusal.the-variants.{DroppedInstruction as LateLine}
+use Rattle.refusal.specs.declared.Refusal.the-variants.{LateLine}
 use Rattle.refusal.specs.declared.Verdict.{Verdict}
 use Rattle.refusal.specs.declared.Verdict.the-variants.{Pass, Stop}
 use Rattle.lexer.specs.Tokens.{tokenLayout, tokens}

@@ -44,6 +44,8 @@ pub enum Refusal {
     NoWrittenSpace(Location),
     // the index of a pending list is longer than its buffer
     NoIndexSpace(Location),
+    // a line for a region that patching has passed, or behind its end
+    LateLine(Location),
     // a dry run's pc is no multiple of four, or has no whole word
     BadStart,
     // a range of constants to count
@@ -110,6 +112,7 @@ pub fn numbers(refusal: Refusal) -> Numbered
         Refusal::NinthLevel(l) => with(25, l, none),
         Refusal::NoWrittenSpace(l) => with(26, l, none),
         Refusal::NoIndexSpace(l) => with(17, l, none),
+        Refusal::LateLine(l) => with(29, l, none),
         Refusal::BadStart => with(28, zero, none),
         Refusal::StartPastEnd => with(30, zero, none),
     }
