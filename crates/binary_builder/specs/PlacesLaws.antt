@@ -1,27 +1,19 @@
 -- A place that a layout names is at most the limit, and the layouts of the four lists one after the other. Assumes nothing.
 use Prim.Native.Nat.{ℕ, _≤_}
-use native.Mathlib.Omega.{arith}
 use mathlib.Core.List.{List}
 use mathlib.Core.Path.{_≡_}
-use Rattle.record.specs.Records.{places, firstBad, firstBadOf, limit}
-use Rattle.record.specs.RecordsLaws.{of-place, limit-bad, limit-good, first-limit}
+use Rattle.record.specs.Records.{places, firstBadOf, limit}
+use Rattle.record.specs.RecordsLaws.{of-place, limit-bad, first-limit}
 use Rattle.record.specs.declared.Layout.{Layout}
 use Rattle.record.specs.declared.Layout.the-variants.{Good, Bad}
 use Rattle.refusal.specs.Verdicts.{andThen, layoutVerdict}
 use Rattle.refusal.specs.VerdictsLaws.{both-pass, layout-pass}
 use Rattle.refusal.specs.declared.Verdict.the-variants.{Pass}
-use Rattle.labels.specs.Labels.{labelOk, labelLayout, labelRepeat, tableOf}
-use Rattle.names.specs.NamesLaws.{later-place}
-use Rattle.names.specs.Owners.{sameOwned}
-use Rattle.names.specs.declared.Repeat.the-variants.{Later}
+use Rattle.labels.specs.Labels.{labelLayout, tableOf}
 use Rattle.regions.specs.Regions.{regionLayout, regionCount}
 use Rattle.address_label.specs.Entries.{entryOk, entryLayout}
 use Rattle.pending.specs.Pendings.{pendingOk, pendingLayout}
 use Rattle.build_outcome.specs.Build.{layoutVerdicts}
-
-pub label-place : (s : List ℕ) (p : ℕ) → labelLayout s ≡ Bad p → p ≤ limit
-unfolding labelLayout
-label-place s p e = first-limit (labelOk s) s p e
 
 pub entry-place : (s : List ℕ) (p : ℕ) → entryLayout s ≡ Bad p → p ≤ limit
 unfolding entryLayout
@@ -30,10 +22,6 @@ entry-place s p e = limit-bad s (firstBadOf 1 (entryOk s) (places s)) p e (of-pl
 pub pending-place : (count : ℕ) (s : List ℕ) (p : ℕ) → pendingLayout count s ≡ Bad p → p ≤ limit
 unfolding pendingLayout
 pending-place count s p e = first-limit (pendingOk count s) s p e
-
-pub repeat-place : (s : List ℕ) (p : ℕ) → labelLayout s ≡ Good → labelRepeat s ≡ Later p → p ≤ limit
-unfolding labelLayout
-repeat-place s p g e = omega (arith, limit-good s (firstBad (labelOk s) (places s)) g .0, later-place (sameOwned 4 s) s p e)
 
 -- ---- the layouts one after the other
 module _ (labels entry regions pending : List ℕ) where

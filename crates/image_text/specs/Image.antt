@@ -1,20 +1,19 @@
 -- What `finish` prints (document 01, `finish`), in each sort of job (document 02, P5). Assumes nothing.
 use Prim.Native.Nat.{ℕ, _+_}
-use mathlib.Core.List.{List, [], _∷_, _++_}
+use mathlib.Core.List.{List, [], _∷_, _++_, map, flatten}
 use Rattle.io.specs.Digits.{digits}
 use Rattle.jobs.specs.declared.Job.{Job}
 use Rattle.jobs.specs.declared.Job.the-variants.{Commit}
-use Rattle.record.specs.Bytes.{le32}
 use Rattle.pseudo_names.specs.PseudoNames.{bytesOf}
 use Rattle.labels.specs.Labels.{tableOf}
 use Rattle.refusal.specs.Numbers.{numbered}
-use Rattle.patch.specs.Patches.{wrap32}
 use Rattle.build_outcome.specs.declared.Built.{Built}
 use Rattle.build_outcome.specs.declared.Built.the-variants.{Entry, Refused}
 use Rattle.build_outcome.specs.Build.{BuildOutcome, buildOutcome}
 use Rattle.reading.specs.Reading.{ImageRegion, Image, imageOf}
+use Rattle.reading.specs.Rows.{Row, rows}
 use Rattle.input.specs.Input.{listOf}
-use Rattle.text.specs.Text.{field, hexBytes, refusedLine}
+use Rattle.text.specs.Text.{field, wordText, refusedLine}
 
 -- "Entry, address, pc and word have eight lower-case hexadecimal digits each"
 abbrev pub eight : ℕ → List ℕ
@@ -27,20 +26,16 @@ entryLine entry = bytesOf "entry " ++ eight entry ++ bytesOf "\n"
 unfoldable pub regionLine : (number address : ℕ) → List ℕ
 regionLine number address = bytesOf "region" ++ field number ++ bytesOf " " ++ eight address ++ bytesOf "\n"
 
-unfoldable pub wordLine : (pc word : ℕ) → List ℕ
-wordLine pc word = eight pc ++ bytesOf " " ++ eight word ++ bytesOf "\n"
+unfoldable pub wordLine : (pc : ℕ) (word : List ℕ) → List ℕ
+wordLine pc word = eight pc ++ bytesOf " " ++ word ++ bytesOf "\n"
 
--- "(a last part word: its bytes, two digits each)"
-unfoldable pub partLine : (pc : ℕ) → List ℕ → List ℕ
-partLine pc bytes = eight pc ++ bytesOf " " ++ hexBytes bytes ++ bytesOf "\n"
+abbrev pub rowLine : Row → List ℕ
+rowLine r = wordLine (r .pc) (wordText (r .bytes))
 
--- data from offset i on; "pc, which is region address plus offset", wraps at 2^32
+-- data from offset i on
 unfoldable pub dataLines : (address i : ℕ) → List ℕ → List ℕ
-dataLines address i [] = []
-dataLines address i (a ∷ []) = partLine (wrap32 (address + i)) (a ∷ [])
-dataLines address i (a ∷ b ∷ []) = partLine (wrap32 (address + i)) (a ∷ b ∷ [])
-dataLines address i (a ∷ b ∷ c ∷ []) = partLine (wrap32 (address + i)) (a ∷ b ∷ c ∷ [])
-dataLines address i (a ∷ b ∷ c ∷ d ∷ rest) = wordLine (wrap32 (address + i)) (le32 (a ∷ b ∷ c ∷ d ∷ []) 0) ++ dataLines address (i + 4) rest
+unfolding flatten rows wordLine wordText
+dataLines address i bytes = flatten (map rowLine (rows address i bytes))
 
 abbrev pub regionText : (number : ℕ) → ImageRegion → List ℕ
 regionText number r = regionLine number (r .address) ++ dataLines (r .address) 0 (r .bytes)

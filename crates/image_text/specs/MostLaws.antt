@@ -1,31 +1,35 @@
 -- How long an image's text is at most: six times as long as its region list, and the entry's line. Assumes nothing.
 use Prim.Native.Nat.{ℕ, _+_, _-_, _*_, _≤_}
 use native.Mathlib.Omega.{arith}
-use mathlib.Core.List.{List, [], _∷_, _++_, map}
+use mathlib.Core.List.{List, [], _∷_, _++_, map, flatten}
 use mathlib.Core.Logic.{⊎-elim}
 use mathlib.Core.Path.{_≡_, refl, sym}
 use lib.ListN.{length, length-append, length-take}
-use Rattle.record.specs.Bytes.{le32, part}
+use Rattle.record.specs.Bytes.{part}
 use Rattle.record.specs.Records.{bodyLen, next, places, placesFrom, firstBad}
 use Rattle.record.specs.RecordsLaws.{places-all, places-cons, first-good}
 use Rattle.record.specs.declared.Layout.the-variants.{Good}
-use Rattle.patch.specs.Patches.{wrap32}
 use Rattle.regions.specs.Regions.{regionOk, regionLayout}
 use Rattle.regions.specs.RegionsLaws.{RegionIs, region-is, region-good}
 use Rattle.reading.specs.Reading.{ImageRegion, imageRegion, imageOf}
-use Rattle.text.specs.TextLaws.{field-most}
-use Rattle.image_text.specs.Image.{entryLine, regionLine, wordLine, partLine, dataLines, regionText, regionsText, imageText}
-use Rattle.image_text.specs.ImageLaws.{entry-length, region-length, word-length, part-length}
+use Rattle.reading.specs.Rows.{Row, row, rows}
+use Rattle.text.specs.Text.{wordText}
+use Rattle.text.specs.TextLaws.{field-most, text-length}
+use Rattle.image_text.specs.Image.{entryLine, regionLine, rowLine, dataLines, regionText, regionsText, imageText}
+use Rattle.image_text.specs.ImageLaws.{entry-length, region-length, word-length}
+
+-- a word's line, and lines behind it
+row-most : (r : Row) (lines : List ℕ) → length (rowLine r ++ lines) ≡ 10 + 2 * length (r .bytes) + length lines
+row-most r lines = omega (arith, length-append (rowLine r) lines, word-length (r .pc) (wordText (r .bytes)), text-length (r .bytes))
 
 data-most : (address i : ℕ) (bytes : List ℕ) → length (dataLines address i bytes) ≤ 5 * length bytes + 7
-unfolding dataLines
+unfolding dataLines flatten rows
 data-most address i [] = omega arith
-data-most address i (a ∷ []) = omega (arith, part-length (wrap32 (address + i)) (a ∷ []))
-data-most address i (a ∷ b ∷ []) = omega (arith, part-length (wrap32 (address + i)) (a ∷ b ∷ []))
-data-most address i (a ∷ b ∷ c ∷ []) = omega (arith, part-length (wrap32 (address + i)) (a ∷ b ∷ c ∷ []))
+data-most address i (a ∷ []) = omega (arith, row-most (row address i (a ∷ [])) [])
+data-most address i (a ∷ b ∷ []) = omega (arith, row-most (row address i (a ∷ b ∷ [])) [])
+data-most address i (a ∷ b ∷ c ∷ []) = omega (arith, row-most (row address i (a ∷ b ∷ c ∷ [])) [])
 data-most address i (a ∷ b ∷ c ∷ d ∷ rest) =
-    let w = wordLine (wrap32 (address + i)) (le32 (a ∷ b ∷ c ∷ d ∷ []) 0) in
-    omega (arith, length-append w (dataLines address (i + 4) rest), word-length (wrap32 (address + i)) (le32 (a ∷ b ∷ c ∷ d ∷ []) 0), data-most address (i + 4) rest)
+    omega (arith, row-most (row address i (a ∷ b ∷ c ∷ d ∷ [])) (dataLines address (i + 4) rest), data-most address (i + 4) rest)
 
 region-most : (number : ℕ) (r : ImageRegion) → length (regionText number r) ≤ 5 * length (r .bytes) + 44
 region-most number r =

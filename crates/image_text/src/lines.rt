@@ -1,8 +1,8 @@
 // The lines of an image. Each function answers where its line ends.
 ghost use Prim.Native.Nat.{_+_, _≤_};
 ghost use lib.ListN.{length};
-ghost use Rattle.text.specs.Text.{Put};
-ghost use Rattle.image_text.specs.Image.{entryLine, regionLine, wordLine, partLine};
+ghost use Rattle.text.specs.Text.{Put, hexBytes};
+ghost use Rattle.image_text.specs.Image.{eight, entryLine, regionLine, wordLine};
 
 pub(crate) fn put_entry(out: &mut [u8], at: usize, entry: u32) -> usize
     requires { ⌜ at + length (entryLine entry) ≤ length (now out) ⌝ }
@@ -25,8 +25,8 @@ pub(crate) fn put_region_line(out: &mut [u8], at: usize, number: u64, address: u
 }
 
 pub(crate) fn put_word(out: &mut [u8], at: usize, pc: u32, word: u32) -> usize
-    requires { ⌜ at + length (wordLine pc word) ≤ length (now out) ⌝ }
-    ensures { λ r. ⌜ Put (now (out .entry)) at (wordLine pc word) (now (out .exit)) r ⌝ }
+    requires { ⌜ at + length (wordLine pc (eight word)) ≤ length (now out) ⌝ }
+    ensures { λ r. ⌜ Put (now (out .entry)) at (wordLine pc (eight word)) (now (out .exit)) r ⌝ }
 {
     let blank_at = text::put_hex(&mut *out, at, pc, 8);
     let word_at = text::put_byte(&mut *out, blank_at, b' ');
@@ -36,8 +36,8 @@ pub(crate) fn put_word(out: &mut [u8], at: usize, pc: u32, word: u32) -> usize
 
 // A last part word: its bytes in the order of memory.
 pub(crate) fn put_part(out: &mut [u8], at: usize, pc: u32, bytes: &[u8]) -> usize
-    requires { ⌜ at + length (partLine pc (now bytes)) ≤ length (now out) ⌝ }
-    ensures { λ r. ⌜ Put (now (out .entry)) at (partLine pc (now (bytes .entry))) (now (out .exit)) r ⌝ }
+    requires { ⌜ at + length (wordLine pc (hexBytes (now bytes))) ≤ length (now out) ⌝ }
+    ensures { λ r. ⌜ Put (now (out .entry)) at (wordLine pc (hexBytes (now (bytes .entry)))) (now (out .exit)) r ⌝ }
 {
     let blank_at = text::put_hex(&mut *out, at, pc, 8);
     let bytes_at = text::put_byte(&mut *out, blank_at, b' ');

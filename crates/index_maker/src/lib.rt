@@ -31,7 +31,7 @@ fn check_layouts(pending: &[u8], fill: usize, labels: &[u8], index: &[u8]) -> Ve
     Verdict::Pass
 }
 
-// Refusal 17. Until `Refusal` has its case, that of 27 stands for it.
+// Refusal 17, with a location of zeros.
 fn no_space() -> IndexAnswer
     ensures { λ r. ⌜ r ≡ IndexAnswer.Refused (Refusal.NoIndexSpace (record { source = 0; index = 0 })) ⌝ }
 {

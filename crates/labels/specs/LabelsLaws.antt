@@ -9,14 +9,15 @@ use lib.Dec.{leb, ltb, eqb}
 use borrow.Author.Tests.{leb-true}
 use Rattle.record.specs.Bytes.{isText, all}
 use Rattle.record.specs.Records.{bodyLen, kindAt, next, whole, places, firstBad, limit}
-use Rattle.record.specs.RecordsLaws.{places-all, whole-is, layoutFrom, limit-kept, limit-passed, limit-good}
+use Rattle.record.specs.RecordsLaws.{places-all, whole-is, layoutFrom, limit-kept, limit-passed, limit-good, first-limit}
 use Rattle.record.specs.declared.Layout.the-variants.{Good, Bad}
-use Rattle.names.specs.NamesLaws.{has-name, all-named, named-ok}
-use Rattle.names.specs.Owners.{hasOwner, forAll, ownerOf, beforeName, ownedName, hasOwnedName, isOwned, firstOwned}
+use Rattle.names.specs.NamesLaws.{has-name, all-named, named-ok, later-place}
+use Rattle.names.specs.Owners.{hasOwner, forAll, ownerOf, beforeName, ownedName, hasOwnedName, sameOwned, isOwned, firstOwned}
 use Rattle.names.specs.OwnersLaws.{without-owner, before-least}
 use Rattle.names.specs.declared.Named.{Named}
 use Rattle.names.specs.declared.Named.the-variants.{At, Missing}
-use Rattle.labels.specs.Labels.{labelKind, labelBody, labelOk, labelLayout, orElse, labelled, addressOf, resolve}
+use Rattle.names.specs.declared.Repeat.the-variants.{Later}
+use Rattle.labels.specs.Labels.{labelKind, labelBody, labelOk, labelLayout, labelRepeat, orElse, labelled, addressOf, resolve}
 
 -- what a label's test says, in facts
 pub record LabelIs (s : List ℕ) (at : ℕ) : Type 0 where
@@ -75,6 +76,14 @@ labels-good s g = limit-good s (firstBad (labelOk s) (places s)) g .1
 pub labels-within : (s : List ℕ) → labelLayout s ≡ Good → length s ≤ limit
 unfolding labelLayout
 labels-within s g = limit-good s (firstBad (labelOk s) (places s)) g .0
+
+-- the place of a label that breaks the layout, and of one that repeats another's name
+pub label-place : (s : List ℕ) (p : ℕ) → labelLayout s ≡ Bad p → p ≤ limit
+unfolding labelLayout
+label-place s p e = first-limit (labelOk s) s p e
+
+pub repeat-place : (s : List ℕ) (p : ℕ) → labelLayout s ≡ Good → labelRepeat s ≡ Later p → p ≤ limit
+repeat-place s p g e = omega (arith, labels-within s g, later-place (sameOwned 4 s) s p e)
 
 pub labels-named : (s : List ℕ) → labelLayout s ≡ Good → firstBad (hasOwnedName 4 s) (places s) ≡ Good
 labels-named s g = all-named (labelOk s) (hasOwnedName 4 s) (λ p e. label-is s p e .named) (places s) (labels-good s g)

@@ -1,4 +1,4 @@
-// The library to link: a build and a line in each sort of job, the counts of a range, a text's tokens, a dry run and a list with its macros written out by the C calling convention, where a slice goes as a pointer and a length.
+// The library to link: a build and a line in each sort of job, the counts of a range, a text's tokens, a dry run, a list with its macros written out and a page by the C calling convention, where a slice goes as a pointer and a length.
 ghost use mathlib.Core.Path.{_≡_};
 ghost use Prim.Native.Nat.{_≤_};
 ghost use lib.ListN.{length};
@@ -8,6 +8,7 @@ ghost use Rattle.nazgwern.specs.Answer.{countsBytes, countsAt, countsAft
 ghost use Rattle.linked_text.specs.LinkedText.{linkedText};
 ghost use Rattle.linked_dry_run.specs.LinkedDryRun.{linkedDryRun};
 ghost use Rattle.linked_macros.specs.LinkedMacros.{linkedMacros};
+ghost use Rattle.linked_page.specs.LinkedPage.{linkedPage};
 
 pub mod answer;
 
@@ -376,4 +377,18 @@ pub extern "C" fn nazgwern_write_out(
         ≡ (record { result = r; out = now (out .exit); answer = now (answer .exit) }) ⌝ }
 {
     linked_macros::write_out(tokens, macros, out, answer)
+}
+
+// Lays a region list out with its labels or refuses: linked_page says how.
+#[no_mangle]
+pub extern "C" fn nazgwern_lay_out(
+    labels: &[u8],
+    regions: &[u8],
+    page: &mut [u8],
+    answer: &mut [u8],
+) -> u32
+    ensures { λ r. ⌜ linkedPage (now (labels .entry)) (now (regions .entry)) (now (page .entry)) (now (answer .entry))
+        ≡ (record { result = r; page = now (page .exit); answer = now (answer .exit) }) ⌝ }
+{
+    linked_page::lay_out(labels, regions, page, answer)
 }

@@ -13,7 +13,6 @@ use Rattle.record.specs.declared.Layout.the-variants.{Good, Bad}
 use Rattle.refusal.specs.Numbers.{numbered}
 use Rattle.refusal.specs.Verdicts.{andThen, layoutVerdict}
 use Rattle.refusal.specs.declared.Refusal.{Refusal}
--- "29": until the refusals have its own case, another with a location alone stands for it
 use Rattle.refusal.specs.declared.Refusal.the-variants.{LateLine}
 use Rattle.refusal.specs.declared.Verdict.{Verdict}
 use Rattle.refusal.specs.declared.Verdict.the-variants.{Pass, Stop}

@@ -1,11 +1,12 @@
--- The image of a finished region list: each region's address, and its words. Assumes nothing.
+-- The image of a finished region list: each region's address, and its words; an image region by region. Assumes nothing.
 use Prim.Native.Nat.{ℕ, zero, suc, _+_, _-_, _<_, _≤_}
 use native.Mathlib.Omega.{arith}
 use native.Mathlib.Nat.{add-assoc}
+use native.Mathlib.Numerals.{add-one}
 use mathlib.Core.List.{List, [], _∷_, map}
-use mathlib.Core.Path.{_≡_, refl, sym, ap, _∙_}
-use lib.ListN.{length, getD, length-map, length-take, length-drop}
-use lib.Seq.{getD-take, getD-drop}
+use mathlib.Core.Path.{_≡_, refl, sym, ap, ap₂, _∙_}
+use lib.ListN.{length, drop, getD, length-map, length-take, length-drop, drop-of-length-le}
+use lib.Seq.{drop-cons, getD-take, getD-drop}
 use Rattle.record.specs.Bytes.{byteAt, le32, part}
 use Rattle.record.specs.Records.{bodyLen, places}
 use Rattle.regions.specs.declared.Region.{Region}
@@ -36,10 +37,27 @@ region-of-image : (s : List ℕ) (n : ℕ) → n < length (places s) → regionI
 unfolding imageOf
 region-of-image s n h = getD-map (imageRegion s) (places s) n missingRegion h
 
+-- ---- the regions from a number on
+image-length : (s : List ℕ) → length (imageOf s) ≡ regionCount s
+unfolding imageOf
+image-length s = length-map (places s) (imageRegion s)
+
+pub image-next : (s : List ℕ) (n : ℕ) → n < regionCount s → drop n (imageOf s) ≡ imageRegion s (regionPlace s n) ∷ drop (n + 1) (imageOf s)
+image-next s n h =
+    let l : n < length (imageOf s) = rw (image-length s) h in
+    drop-cons (imageOf s) n missingRegion l
+    ∙ ap₂ (λ (r : ImageRegion) (k : ℕ). r ∷ drop k (imageOf s)) (region-of-image s n h) (sym (add-one n))
+
+pub image-end : (s : List ℕ) (n : ℕ) → regionCount s ≤ n → drop n (imageOf s) ≡ []
+image-end s n h =
+    let l : length (imageOf s) ≤ n = rw (image-length s) h in
+    drop-of-length-le (imageOf s) l
+
+-- ---- the words of a region of a finished list
+
 module _ (regions d : List ℕ) (k : Kept regions d) (r : ℕ) (h : r < regionCount regions) where
   pub image-listed : r < length (imageOf d)
-  unfolding imageOf
-  image-listed = let e : length (map (imageRegion d) (places d)) ≡ length (places d) = simp length-map in rw (e, k .places-same) h
+  image-listed = rw (image-length d, k .places-same) h
 
   here : regionIn (imageOf d) r ≡ imageRegion d (regionPlace d r)
   here = region-of-image d r (rw (k .places-same) h)

@@ -1,7 +1,9 @@
 pub mod Reading
+pub mod Rows
 pub mod Premises
 pub mod ArithmeticLaws
 pub mod ImageLaws
+pub mod RowsLaws
 pub mod ReadBackLaws
 pub mod Used
 pub mod TablesLaws

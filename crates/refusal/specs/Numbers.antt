@@ -4,7 +4,7 @@ use lib.IntN.{pos, negsuc}
 use Rattle.record.specs.declared.Location.{Location}
 use Rattle.refusal.specs.declared.Numbered.{Numbered}
 use Rattle.refusal.specs.declared.Refusal.{Refusal}
-use Rattle.refusal.specs.declared.Refusal.the-variants.{BadLayout, DuplicateName, UnknownInstruction, EndOfFile, ExpectedRegister, ExpectedConstant, ExpectedLabel, ExpectedRightBrace, ConstantOutOfRange, MissingRegion, OverwriteEdge, NoSpace, UnknownEntry, PatchPastEnd, UnknownLabel, JumpOutOfRange, ShiftOutOfRange, CodeOutOfRange, DroppedInstruction, BadByte, BadToken, NoTokenSpace, WrongArguments, NinthLevel, NoWrittenSpace, NoIndexSpace, LateLine, BadStart, StartPastEnd}
+use Rattle.refusal.specs.declared.Refusal.the-variants.{BadLayout, DuplicateName, UnknownInstruction, EndOfFile, ExpectedRegister, ExpectedConstant, ExpectedLabel, ExpectedRightBrace, ConstantOutOfRange, MissingRegion, OverwriteEdge, NoSpace, UnknownEntry, PatchPastEnd, UnknownLabel, JumpOutOfRange, ShiftOutOfRange, CodeOutOfRange, DroppedInstruction, BadByte, BadToken, NoTokenSpace, WrongArguments, NinthLevel, NoWrittenSpace, NoIndexSpace, LateLine, NoPageSpace, BadStart, StartPastEnd}
 
 abbrev pub zeroLocation : Location
 zeroLocation = record { source = 0; index = 0 }
@@ -48,7 +48,9 @@ numbered (NoWrittenSpace l) = refusal 26 l 0 0
 numbered (NoIndexSpace l) = refusal 17 l 0 0
 -- document 02, P12: "29, a line for a region below that of a patched pending, or after patching ended or refused"
 numbered (LateLine l) = refusal 29 l 0 0
--- document 02, P10; the location is "zero in a call without" a mnemonic
+-- document 02, P3: "18, the page buffer ... is too short"; the location is "zero in a call without" a mnemonic
+numbered NoPageSpace = refusal 18 zeroLocation 0 0
+-- document 02, P10, likewise
 numbered BadStart = refusal 28 zeroLocation 0 0
 -- document 02, P14: "30, the range's start exceeds its end"
 numbered StartPastEnd = refusal 30 zeroLocation 0 0

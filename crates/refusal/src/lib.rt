@@ -46,6 +46,8 @@ pub enum Refusal {
     NoIndexSpace(Location),
     // a line for a region that patching has passed, or behind its end
     LateLine(Location),
+    // a page for the wall is longer than its buffer
+    NoPageSpace,
     // a dry run's pc is no multiple of four, or has no whole word
     BadStart,
     // a range of constants to count
@@ -113,6 +115,7 @@ pub fn numbers(refusal: Refusal) -> Numbered
         Refusal::NoWrittenSpace(l) => with(26, l, none),
         Refusal::NoIndexSpace(l) => with(17, l, none),
         Refusal::LateLine(l) => with(29, l, none),
+        Refusal::NoPageSpace => with(18, zero, none),
         Refusal::BadStart => with(28, zero, none),
         Refusal::StartPastEnd => with(30, zero, none),
     }

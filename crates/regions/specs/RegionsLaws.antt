@@ -13,7 +13,7 @@ use Rattle.record.specs.Bytes.{byteAt, le16}
 use Rattle.record.specs.Records.{bodyLen, kindAt, whole, next, places, placesFrom, firstBad, firstBadOf, limit, withinLimit}
 use Rattle.record.specs.RecordsLaws.{places-end, places-step, places-cut, places-all, places-cons, whole-is, good-at, of-good, of-place, limit-bad, limit-good, limit-kept, limit-passed}
 use Rattle.record.specs.declared.Layout.the-variants.{Good, Bad}
-use Rattle.regions.specs.Regions.{regionOk, regionRecords, regionLayout, regionCount, regionPlace}
+use Rattle.regions.specs.Regions.{regionOk, regionRecords, regionLayout, regionCount, regionPlace, regionAt}
 
 -- ---- one region
 
@@ -172,6 +172,11 @@ layout-some s h l = limit-kept s (regionRecords s (places s)) l ∙ rw (places-a
     go : (ps : List ℕ) → 0 < length ps → regionRecords s ps ≡ firstBadOf 16 (regionOk s) ps
     go [] h = absurd (omega arith)
     go (p ∷ ps) h = refl
+
+-- a region's data is in the list
+pub region-within : (s : List ℕ) (r : ℕ) → regionLayout s ≡ Good → r < regionCount s
+    → regionAt s (regionPlace s r) .start + regionAt s (regionPlace s r) .size ≤ length s
+region-within s r g h = let f = region-is s (regionPlace s r) (region-place-ok s r g h) in omega arith
 
 -- ---- a change of four bytes within one region's data
 module _ (s t : List ℕ) (r i : ℕ) (l : length s ≡ length t) (g : regionLayout s ≡ Good) (hr : r < regionCount s) (lo : regionPlace s r + 8 ≤ i)

@@ -3,10 +3,11 @@ use Prim.Native.Nat.{ℕ, zero, suc, _+_, _/_, _%_, _≤_}
 use mathlib.Core.Path.{_≡_}
 use mathlib.Core.Bool.{true, false}
 use mathlib.Core.List.{List, [], _∷_, _++_}
-use lib.Dec.{ltb}
+use lib.Dec.{ltb, eqb}
 use lib.IntN.{ℤ, pos, negsuc}
 use lib.ListN.{length}
 use Rattle.io.specs.Digits.{glyph, digits}
+use Rattle.record.specs.Bytes.{le32}
 use Rattle.record.specs.Stores.{append}
 use Rattle.record.specs.declared.Location.{Location}
 use Rattle.pseudo_names.specs.PseudoNames.{bytesOf}
@@ -31,6 +32,11 @@ decimal n = decimalIn 20 n
 unfoldable pub hexBytes : List ℕ → List ℕ
 hexBytes [] = []
 hexBytes (b ∷ bs) = digits 16 2 b ++ hexBytes bs
+
+-- a word of an image: "eight lower-case hexadecimal digits" of the number, "(a last part word: its bytes, two digits each)"
+unfoldable pub wordText : List ℕ → List ℕ
+unfolding hexBytes
+wordText bytes = elim (eqb (length bytes) 4) [ true ↦ digits 16 8 (le32 bytes 0) | false ↦ hexBytes bytes ]
 
 -- a field behind "single blanks between fields"
 abbrev pub field : ℕ → List ℕ

@@ -6,19 +6,20 @@ use native.Mathlib.Omega.{arith}
 use mathlib.Core.Path.{_≡_, refl, sym, ap, _∙_}
 use mathlib.Core.List.{List, [], _∷_, _++_}
 use mathlib.Core.Bool.{Bool, true, false}
-use lib.Dec.{ltb}
+use lib.Dec.{ltb, eqb}
 use lib.IntN.{ℤ, pos, negsuc}
 use lib.ListN.{length, take, drop, getD, length-append, length-take, length-drop, drop-of-length-le}
 use lib.Seq.{drop-cons, length-take-le}
-use borrow.Author.Tests.{ltb-true, ltb-false, lt-ltb, le-ltb}
+use borrow.Author.Tests.{ltb-true, ltb-false, lt-ltb, le-ltb, eqb-true, ne-eqb}
 use Rattle.io.specs.Counts.{Counts}
 use Rattle.io.specs.Digits.{glyph, digits, Fewest}
+use Rattle.record.specs.Bytes.{le32}
 use Rattle.record.specs.Stores.{append}
 use Rattle.record.specs.StoresLaws.{append-none, append-append, append-then}
 use Rattle.refusal.specs.Split.{isNegative, size}
 use Rattle.refusal.specs.declared.Numbered.{Numbered}
 use Rattle.pseudo_names.specs.PseudoNames.{bytesOf}
-use Rattle.text.specs.Text.{Put, decimalIn, decimal, hexBytes, field, signedField, lastField, locationFields, refusedLine}
+use Rattle.text.specs.Text.{Put, decimalIn, decimal, hexBytes, wordText, field, signedField, lastField, locationFields, refusedLine}
 
 append-length : (d : List ℕ) (at : ℕ) (xs : List ℕ) → at + length xs ≤ length d → length (append d at xs) ≡ length d
 unfolding append
@@ -156,6 +157,19 @@ hex-next bs i h = rw (add-one, drop-cons bs i 0)
 pub hex-end : (bs : List ℕ) (i : ℕ) → length bs ≤ i → hexBytes (drop i bs) ≡ []
 unfolding hexBytes
 hex-end bs i h = rw (drop-of-length-le bs h)
+
+-- ---- a word of an image
+pub text-part : (bytes : List ℕ) → (length bytes ≡ 4 → ⊥) → wordText bytes ≡ hexBytes bytes
+unfolding wordText
+text-part bytes h = rw (ne-eqb (length bytes) 4 h, wordText)
+
+pub text-length : (bytes : List ℕ) → length (wordText bytes) ≡ 2 * length bytes
+unfolding wordText
+text-length bytes = go (eqb (length bytes) 4) refl
+  where
+    go : (b : Bool) → eqb (length bytes) 4 ≡ b → length (wordText bytes) ≡ 2 * length bytes
+    go true e = rw (e, wordText) (omega (arith, eqb-true (length bytes) 4 e, digits-length 16 8 (le32 bytes 0)))
+    go false e = rw (e, wordText) (hex-length bytes)
 
 -- ---- the sign
 pub signed-from : (z : ℤ) → isNegative z ≡ false → signedField z ≡ field (size z)

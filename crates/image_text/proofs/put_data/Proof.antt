@@ -5,8 +5,9 @@ use mathlib.Core.List.{_++_}
 use lib.ListN.{length, take, drop, length-drop}
 use lib.Seq.{take-all}
 use borrow.Author.Needs.{needs}
+use Rattle.text.specs.Text.{hexBytes}
 use Rattle.text.specs.TextLaws.{Left, left-first, left-room, left-next, left-last, left-none}
-use Rattle.image_text.specs.Image.{wordLine, partLine, dataLines}
+use Rattle.image_text.specs.Image.{eight, wordLine, dataLines}
 use Rattle.image_text.specs.ImageLaws.{data-none, data-word, data-part}
 use Rattle.image_text.proofs.put_data.Statement.{statement}
 use Rattle.image_text.proofs.put_data.Tie as tie
@@ -27,7 +28,7 @@ loop-holds c =
 turn : (c : tie.After-word-at Inv-loop μ-loop) → let l = c .before .before .before .before .loop in
     let a = c .before .before .before .before .before .before .before .args in
     Left (a .out .now) (a .at) (dataLines (a .address) 0 (a .«data» .now)) (l .out) (l .end)
-    (wordLine (c .before .before .wrapping-add-u32 .result) (c .word-at .result) ++ dataLines (a .address) (l .i + 4) (drop (l .i + 4) (a .«data» .now)))
+    (wordLine (c .before .before .wrapping-add-u32 .result) (eight (c .word-at .result)) ++ dataLines (a .address) (l .i + 4) (drop (l .i + 4) (a .«data» .now)))
 turn c =
     let l = c .before .before .before .before .loop in
     let a = c .before .before .before .before .before .before .before .args in
@@ -38,7 +39,7 @@ turn c =
 last : (c : tie.After-put-part-arg2 Inv-loop μ-loop) → let l = c .before .before .before .before .before .loop in
     let a = c .before .before .before .before .before .before .before .before .args in
     Left (a .out .now) (a .at) (dataLines (a .address) 0 (a .«data» .now)) (l .out) (l .end)
-    (partLine (c .before .before .wrapping-add-u322 .result) (take (length (a .«data» .now) - l .i) (drop (l .i) (a .«data» .now))))
+    (wordLine (c .before .before .wrapping-add-u322 .result) (hexBytes (take (length (a .«data» .now) - l .i) (drop (l .i) (a .«data» .now)))))
 last c =
     let l = c .before .before .before .before .before .loop in
     let a = c .before .before .before .before .before .before .before .before .args in
@@ -51,7 +52,7 @@ put-word-requires : tie.Need-put-word-requires Inv-loop μ-loop
 put-word-requires c κs =
     let l = c .before .before .before .before .loop in
     let a = c .before .before .before .before .before .before .before .args in
-    left-room (l .out) (l .end) (wordLine (c .before .before .wrapping-add-u32 .result) (c .word-at .result)) (dataLines (a .address) (l .i + 4) (drop (l .i + 4) (a .«data» .now))) (turn c)
+    left-room (l .out) (l .end) (wordLine (c .before .before .wrapping-add-u32 .result) (eight (c .word-at .result))) (dataLines (a .address) (l .i + 4) (drop (l .i + 4) (a .«data» .now))) (turn c)
 
 loop-again : tie.Need-loop-again Inv-loop μ-loop
 loop-again c =

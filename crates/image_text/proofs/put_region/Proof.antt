@@ -6,9 +6,8 @@ use mathlib.Core.Path.{_≡_}
 use lib.ListN.{length, take, drop, length-take, length-drop}
 use borrow.Author.Needs.{needs}
 use Rattle.regions.specs.Regions.{regionPlace}
-use Rattle.regions.specs.RegionsLaws.{region-good}
+use Rattle.regions.specs.RegionsLaws.{region-good, region-within}
 use Rattle.reading.specs.Reading.{imageRegion}
-use Rattle.binary_builder.specs.WritesLaws.{region-within}
 use Rattle.text.specs.TextLaws.{put-then, put-room, front-room}
 use Rattle.image_text.specs.Image.{regionLine, dataLines, regionText}
 use Rattle.image_text.proofs.put_region.Statement.{statement}

@@ -1,7 +1,7 @@
 -- Four texts, each behind the one before. Assumes nothing.
 use borrow.Author.Needs.{needs}
 use Rattle.text.specs.TextLaws.{put-then}
-use Rattle.image_text.specs.Image.{wordLine}
+use Rattle.image_text.specs.Image.{eight, wordLine}
 use Rattle.image_text.specs.ImageLaws.{word-length}
 use Rattle.image_text.proofs.lines.put_word.Statement.{statement}
 use Rattle.image_text.proofs.lines.put_word.Tie as tie
@@ -20,9 +20,9 @@ pub put-word-spec : {M : Type 1} → statement M
 put-word-spec =
     tie.close
     (tie.spec
-    (λ c κs. let l = word-length (c .before .before .args .pc) (c .before .before .args .word) in search needs)
-    (λ c κs. let l = word-length (c .before .before .before .before .before .before .args .pc) (c .before .before .before .before .before .before .args .word) in search needs)
-    (λ c κs. let l = word-length (c .before .before .before .before .before .before .before .before .before .before .args .pc) (c .before .before .before .before .before .before .before .before .before .before .args .word) in search needs)
-    (λ c κs. let l = word-length (c .before .before .before .before .before .before .before .before .before .before .before .before .before .before .args .pc) (c .before .before .before .before .before .before .before .before .before .before .before .before .before .before .args .word) in search needs)
+    (λ c κs. let l = word-length (c .before .before .args .pc) (eight (c .before .before .args .word)) in search needs)
+    (λ c κs. let l = word-length (c .before .before .before .before .before .before .args .pc) (eight (c .before .before .before .before .before .before .args .word)) in search needs)
+    (λ c κs. let l = word-length (c .before .before .before .before .before .before .before .before .before .before .args .pc) (eight (c .before .before .before .before .before .before .before .before .before .before .args .word)) in search needs)
+    (λ c κs. let l = word-length (c .before .before .before .before .before .before .before .before .before .before .before .before .before .before .args .pc) (eight (c .before .before .before .before .before .before .before .before .before .before .before .before .before .before .args .word)) in search needs)
     (λ c. search needs)
     returns)

@@ -1,0 +1,2 @@
+pub mod LinkedPage
+pub mod LinkedPageLaws

@@ -1,0 +1,9 @@
+pub mod Page
+pub mod Outcome
+pub mod LinesLaws
+pub mod Length
+pub mod Longest
+pub mod Shown
+pub mod DeterminedLaws
+pub mod Determined
+pub mod Worked
