@@ -12,7 +12,7 @@ const JOBS: [(&str, &str); 3] = [
 
 fn main() {
     println!("cargo:rustc-check-cfg=cfg(library_build, library_line, library_count, library_text)");
-    println!("cargo:rustc-check-cfg=cfg(library_dry_run, library_macros)");
+    println!("cargo:rustc-check-cfg=cfg(library_dry_run, library_macros, library_page)");
     for name in [
         "NAZGWERN_FOLDER",
         "NAZGWERN_BUILD",
@@ -21,6 +21,7 @@ fn main() {
         "NAZGWERN_TEXT",
         "NAZGWERN_DRY_RUN",
         "NAZGWERN_MACROS",
+        "NAZGWERN_PAGE",
     ] {
         println!("cargo:rerun-if-env-changed={name}");
     }
@@ -60,5 +61,8 @@ fn main() {
     }
     if env::var("NAZGWERN_MACROS").is_ok() {
         println!("cargo:rustc-cfg=library_macros");
+    }
+    if env::var("NAZGWERN_PAGE").is_ok() {
+        println!("cargo:rustc-cfg=library_page");
     }
 }

@@ -19,7 +19,7 @@
 #include <sys/mman.h>
 #include <unistd.h>
 
-enum { PAGE = 4096, ROOM = 18 * PAGE, EDGE = 64, MARK = 0xa5, REFUSALS = 30 };
+enum { PAGE = 4096, ROOM = 294 * PAGE, EDGE = 64, MARK = 0xa5, REFUSALS = 30 };
 enum { PSEUDOS = 29, ENCODINGS = 21, NAMES = 4 };
 
 /* A letter stands for an operand: r and f registers, v a register or number, i a number, c a shift
@@ -108,6 +108,7 @@ static struct buffer typed, records;                  /* a text, and the records
 static struct buffer defined, written;                /* macros, and the tokens written out */
 
 static struct buffer image, held;                     /* a dry run's regions and registers */
+static struct buffer wall;                            /* a page for the wall */
 
 static void *mapped(void *at, size_t size, int protection, int flags, int file)
 {
@@ -817,6 +818,89 @@ static void write_out(void)
     kept(&written, 0, fill, "a byte behind the records was changed");
 }
 
+/* ---- a page for the wall */
+
+static void put_label(void)
+{
+    bool owned = once_in(2);
+    size_t length = 1 + below(once_in(4) ? 64 : 22);
+
+    put_head(&labels, (owned ? 8 : 4) + length, owned ? 41 : 34);
+    put(&labels, 0x00400000 + (once_in(4) ? below(64) : 4 * below(16)), 4);
+    if (owned)
+        put(&labels, below(once_in(100) ? 2 : 1u << 20), 4);
+    for (; length > 0; length--)
+        put(&labels, 0x20 + below(0x5f), 1);
+}
+
+/* A line for each region, and one for each four bytes and for what is left behind them. */
+static size_t page_length(void)
+{
+    size_t lines = 0;
+
+    for (size_t place = 0; place < image.length;) {
+        size_t body = image.bytes[place] + 256 * (size_t)image.bytes[place + 1];
+        lines += 1 + (body - 4 + 3) / 4;
+        place += 4 + body;
+    }
+
+    return 73 * lines;
+}
+
+/* The exact length of the page, or some more or less; now and then the limit, or over it. */
+static size_t some_page_length(void)
+{
+    size_t exact = page_length();
+
+    switch (below(6)) {
+    case 0: return exact > 0 ? exact - 1 : 0;
+    case 1: return below((uint32_t)exact);
+    case 2: return exact + below(100);
+    case 3:
+        if (once_in(500))
+            return NAZGWERN_MOST_PAGE + below(3);
+    }
+
+    return exact;
+}
+
+static void lay_out(void)
+{
+    labels.length = 0;
+    for (uint32_t left = once_in(1000) ? 900 : below(12); left > 0; left--)
+        put_label();
+    if (once_in(10000)) { /* the longest page */
+        image.length = 0;
+        put_head(&image, 4 + NAZGWERN_MOST_DATA, 35);
+        put_any(&image, 4 + NAZGWERN_MOST_DATA);
+    } else {
+        some_image();
+    }
+    wall.length = some_page_length();
+    memset(wall.bytes, (int)below(256), wall.length);
+    some_room(&answer, NAZGWERN_ANSWER_BYTES);
+    if (once_in(5))
+        damage(once_in(2) ? &labels : &image);
+    lend(&labels);
+    lend(&image);
+    lend(&wall);
+    lend(&answer);
+
+    uint32_t number = nazgwern_lay_out(labels.lent, labels.length, image.lent, image.length,
+                                       wall.lent, wall.length, answer.lent, answer.length);
+
+    unchanged(&labels);
+    unchanged(&image);
+    if (!answered(number, answer.length >= NAZGWERN_ANSWER_BYTES) || number != 0) {
+        unchanged(&wall);
+        return;
+    }
+    uint32_t length = number_at(answer.lent, 20);
+    if (length != page_length() || length > wall.length)
+        fail("a length that the page has not");
+    kept(&wall, 0, length, "a byte behind the page was changed");
+}
+
 /* ---- the entries, each with how many calls */
 
 static const struct {
@@ -833,6 +917,7 @@ static const struct {
     {"nazgwern_read_text", read_text, 500000},
     {"nazgwern_dry_run", dry_run, 500000},
     {"nazgwern_write_out", write_out, 500000},
+    {"nazgwern_lay_out", lay_out, 500000},
 };
 
 static void report(const struct tally *tally)
@@ -857,6 +942,7 @@ int main(int count, char **words)
     make(&typed, only_read), make(&records, lent);
     make(&image, only_read), make(&held, lent);
     make(&defined, only_read), make(&written, lent);
+    make(&wall, lent);
     signal(SIGSEGV, touched);
     signal(SIGBUS, touched);
 

@@ -38,10 +38,11 @@
    patch kind    0 Branch, 1 Jump, 2 Lower, 3 Upper, 4 Full
    form          0 constant: the name's location is zero and there is no name; 1 name
 
-   LIMITS. A buffer has at most 65,536 bytes, and a region's data at most 65,528. One accepted line
-   adds at most 20 bytes to the data (five words), 200 to the pending list (two records with names
-   of 64 bytes) and 32 to the breakpoints (a record of five pcs); and with as much room left in
-   each, and data of at most 65,508 bytes, no line is refused with 12. Both are proved: line-grows
+   LIMITS. A buffer has at most 65,536 bytes, a page's alone 1,195,959, as many as the longest page
+   has, and a region's data at most 65,528. One accepted line adds at most 20 bytes to the data
+   (five words), 200 to the pending list (two records with names of 64 bytes) and 32 to the
+   breakpoints (a record of five pcs); and with as much room left in each, and data of at most
+   65,508 bytes, no line is refused with 12. Both are proved: line-grows
    and room-enough in crates/routine/specs. A refused call adds nothing.
 
    BUFFERS. Each goes as a pointer, then its length in bytes. The caller answers for three things
@@ -52,8 +53,8 @@
    all state is in the buffers.
 
    ANSWER. Six numbers of four bytes: number, source, index, a, b, and a line's position, a build's
-   entry, a text's or a written-out list's fill or a dry run's pc. Number 0 is an accepted call, 1
-   to 16, 19 to 28 and 30 are refusals; source and index are the refusal's location, a is given by its low 32 bits,
+   entry, a text's or a written-out list's fill, a dry run's pc or a page's length. Number 0 is an accepted call, 1
+   to 16, 18 to 28 and 30 are refusals; source and index are the refusal's location, a is given by its low 32 bits,
    and numbers that are not named here are 0. Of an accepted line a says how its constant is
    loaded: 0 none is, 1 addiu alone, 2 ori alone, 3 lui alone, 4 both halves. The number is
    returned too. On refusal the answer is written and no other lent byte changes. If the answer has
@@ -61,7 +62,7 @@
    fewer than 128, the call returns NAZGWERN_TOO_SHORT and changes nothing at all. Bytes behind
    these stay as they are.
 
-      1  A record breaks the layout or sits in the wrong list, a buffer is over 65,536 bytes, a fill
+      1  A record breaks the layout or sits in the wrong list, a buffer is over its limit, a fill
          count is over its buffer's length, or the region's number is none (a: buffer in argument
          order from 0, b: the byte place in it).
       2  Two descriptors or two macros share a name, or two labels a name and an owner, or a name
@@ -82,6 +83,7 @@
      14  A patch ends past its region's data.
      15  A patch's name is unknown.
      16  A branch or jump is out of range (a: destination, b: pc).
+     18  The page buffer is too short for the page.
      19  In a manual job, the shift amount of encoding 5 lies outside 0 to 31.
      20  In a manual job, the condition code of encoding 17, 18 or 20 lies outside 0 to 7.
      21  A byte starts no token, a byte of a comment or string lies outside 0x20 to 0x7E, or a
@@ -97,7 +99,7 @@
      28  A dry run's pc is no multiple of four, or no whole word stands there.
      30  The range's start exceeds its end.
 
-   The location is zero for 1, 2, 28 and 30; the mnemonic's for 3, 4, 9 to 12, 19, 20 and 27; for 5
+   The location is zero for 1, 2, 18, 28 and 30; the mnemonic's for 3, 4, 9 to 12, 19, 20 and 27; for 5
    to 8 that of the token that was met, or the mnemonic's at a NewLine; the name's for 13 and 15,
    and the pending's for 14 and 16; for 21 to 23 the call's source and the place of the token's
    first byte; for 24 and 25 that of the call's name, and for 26 that of the token without room.
@@ -105,12 +107,14 @@
 
    STACK. Measured, not proved, on x86-64 with gcc as the caller's compiler: link/stack ran over a
    million calls of nazgwern_do_instruction, of which none took more than 24,088 bytes of stack, 777
-   of nazgwern_build, of which none took more than 37,760, as many by the manual and lines for
+   of nazgwern_build, of which none took more than 38,112, as many by the manual and lines for
    Release 6, of which none took more than these, 20,506 of nazgwern_read_text, of which none took
-   more than 928, and 1,338 of nazgwern_dry_run, of which none took more than 680; arguments and
-   return address counted. A build's stack is mostly the index of its labels, 29,124 bytes, and a
-   line's that of its descriptors, 20,164; short lists take them too. The code may also use the 128
-   bytes below its stack pointer, as the x86-64 convention allows. */
+   more than 928, 1,338 of nazgwern_dry_run, of which none took more than 680, and 1,608 of
+   nazgwern_lay_out, of which none took more than 51,984; arguments and return address counted. A
+   build's stack is mostly the index of its labels, 29,124 bytes, a line's that of its descriptors,
+   20,164, and a page's has beside the labels' index 32,768 bytes for the labels of a region's
+   words; short lists take them too. The code may also use the 128 bytes below its stack pointer, as
+   the x86-64 convention allows. */
 #ifndef NAZGWERN_H
 #define NAZGWERN_H
 
@@ -131,6 +135,7 @@ extern "C" {
 /* The limits above. */
 #define NAZGWERN_MOST_BYTES 65536
 #define NAZGWERN_MOST_DATA 65528
+#define NAZGWERN_MOST_PAGE 1195959
 #define NAZGWERN_LINE_DATA 20
 #define NAZGWERN_LINE_PENDING 200
 #define NAZGWERN_LINE_BREAKPOINTS 32
@@ -262,6 +267,19 @@ uint32_t nazgwern_dry_run(
     const uint8_t *regions, size_t regions_length,
     uint8_t *registers, size_t registers_length,
     uint32_t pc, uint32_t allowance,
+    uint8_t *answer, size_t answer_length);
+
+/* Lays an image out as a page for the wall, from the start of the page buffer on: for each region
+   a line of its number, then a line of pc, word and label for each four bytes, each line 72 bytes
+   and a newline. docs/PAGE.md shows pages.
+   labels       kinds 34 and 41, as for a build; of those at a pc the smallest name is shown
+   regions      1 to 16 records of kind 35, numbered from 0
+   page         only written, and what stands behind the page stays; 73 bytes for each line
+   The last number of the answer is the page's length, and 0 on refusal. */
+uint32_t nazgwern_lay_out(
+    const uint8_t *labels, size_t labels_length,
+    const uint8_t *regions, size_t regions_length,
+    uint8_t *page, size_t page_length,
     uint8_t *answer, size_t answer_length);
 
 #ifdef __cplusplus

@@ -5,8 +5,8 @@
    Stack goes by the branches that a call takes, and by the length of its lists only where labels or
    descriptors are sorted. So most lists are short and the calls are many: each encoding and each
    pseudo-instruction with every line of up to four operands, each patch, every text of up to three
-   pieces, each instruction of a dry run at both ends of its registers, and each refusal. A few
-   calls have as many labels, pendings or descriptors as a list can have, in falling order. */
+   pieces, each instruction of a dry run at both ends of its registers, pages of every count of
+   regions, and each refusal. A few calls have as many labels, pendings or descriptors as a list can have, in falling order. */
 #define _XOPEN_SOURCE 700
 #include "nazgwern.h"
 
@@ -56,13 +56,21 @@ static uint8_t registers[NAZGWERN_REGISTERS_BYTES];
 static size_t registers_length = sizeof registers;
 static uint32_t allowance;
 
+/* A page for the wall, and one byte more than its limit. */
+static uint8_t wall[NAZGWERN_MOST_PAGE + 1];
+static size_t wall_length;
+
 /* A text that is too long. */
 static const uint8_t over[NAZGWERN_MOST_BYTES + 1];
 
-/* 40 KiB, painted but for what the call has written. */
-static uint64_t area[5120];
+/* 80 KiB, painted but for what the call has written. */
+static uint64_t area[10240];
 static uint8_t *frame;
 static size_t greatest, calls;
+
+/* What a call may take: a page has the slots of its words beside an index. */
+enum { MOST = 40 * 1024, MOST_OF_PAGE = 56 * 1024 };
+static size_t most = MOST;
 static bool seen[GREATEST_NUMBER + 1], short_seen;
 
 /* The entries of the job that is measured. */
@@ -110,6 +118,13 @@ static void write_out(void)
                                 written.bytes, written.length, answer, answer_length);
 }
 
+static void lay_out(void)
+{
+    frame = __builtin_frame_address(0);
+    number = nazgwern_lay_out(labels.bytes, labels.length, regions.bytes, regions.length, wall,
+                              wall_length, answer, answer_length);
+}
+
 static void paint(size_t from)
 {
     for (size_t i = from; i < sizeof area / sizeof *area; i++)
@@ -143,6 +158,10 @@ static void measure(void (*call)(void))
     }
 
     size_t taken = (size_t)(frame - (uint8_t *)&area[word]);
+    if (taken > most) {
+        printf("a call took %zu bytes\n", taken);
+        exit(1);
+    }
     greatest = taken > greatest ? taken : greatest;
     paint(word);
     if (number == NAZGWERN_TOO_SHORT)
@@ -569,6 +588,62 @@ static void all_runs(void)
     registers_length++;
 }
 
+/* Pages with these labels, of 1 to 16 regions with 0 to 9 bytes each, in enough room and in one byte
+   less. */
+static void pages(void)
+{
+    for (uint32_t count = 1; count <= 16; count++)
+        for (uint32_t bytes = 0; bytes < 10; bytes++) {
+            regions.length = 0;
+            for (uint32_t i = 0; i < count; i++) {
+                put_head(&regions, 4 + bytes, 35);
+                put(&regions, NEAR + 4 * i, 4);
+                for (uint32_t j = 0; j < bytes; j++)
+                    put(&regions, 0xa5, 1);
+            }
+            wall_length = 73 * count * (1 + (bytes + 3) / 4);
+            measure(lay_out);
+            wall_length--;
+            measure(lay_out);
+        }
+}
+
+/* Names that are whole and cut, the most labels, the longest page, refusals 1, 2 and 18, and an
+   answer that is too short. */
+static void all_pages(void)
+{
+    labels.length = 0;
+    pages();
+    label(NEAR, "x");
+    label(NEAR + 4, "0123456789abcdef0123");
+    label(NEAR + 8, "0123456789abcdef01234");
+    label(NEAR, "seam");
+    pages();
+    damaged(&labels, lay_out);
+    damaged(&regions, lay_out);
+    label(NEAR, "x");
+    measure(lay_out);
+    wall_length = sizeof wall;
+    measure(lay_out);
+    answer_length--;
+    measure(lay_out);
+    answer_length++;
+
+    fill(&labels, 8, add_label);
+    pages();
+    fill_long(&labels, 8, add_label);
+    pages();
+    fill_owners();
+    pages();
+
+    regions.length = 0;
+    put_head(&regions, 4 + NAZGWERN_MOST_DATA, 35);
+    put(&regions, NEAR, 4);
+    regions.length += NAZGWERN_MOST_DATA;
+    wall_length = NAZGWERN_MOST_PAGE;
+    measure(lay_out);
+}
+
 /* Measures the entries of a job, from empty lists on; of Release 6 the build is the manual one, and
    its name NULL. */
 static void job(const char *line_name, const char *build_name)
@@ -661,6 +736,10 @@ int main(void)
 
     all_macros();
     report("nazgwern_write_out");
+
+    most = MOST_OF_PAGE;
+    all_pages();
+    report("nazgwern_lay_out");
 
     return 0;
 }

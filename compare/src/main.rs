@@ -57,6 +57,11 @@ mod operands;
 mod options;
 mod other;
 mod owners;
+mod page_generate;
+mod page_input;
+mod page_library;
+mod page_plain;
+mod page_run;
 mod random;
 mod records;
 mod run_build;
@@ -105,7 +110,8 @@ fn main() -> ExitCode {
         "text" if text_library::HAS_TEXT => text_run::run(&options),
         "dry_run" if dry_run_library::HAS_DRY_RUN => dry_run::run(&options),
         "macros" if macro_library::HAS_MACROS => macro_run::run(&options),
-        "bench" | "build" | "count_forms" | "dry_run" | "line" | "list" | "macros" | "text" => {
+        "page" if page_library::HAS_PAGE => page_run::run(&options),
+        "bench" | "build" | "count_forms" | "dry_run" | "line" | "list" | "macros" | "page" | "text" => {
             eprintln!("the library has no entry for {}", options.mode);
             return ExitCode::from(2);
         }

@@ -27,7 +27,7 @@ fn refusal(number: u32, a: u32, b: u32) -> Answer {
 
 /// "Label: address (4), name of 1 to 64." "a new kind 41 has a 4-byte owner after its address, a
 /// source number below 0xFFFFFFFF"
-fn is_label(kind: u16, body: &[u8]) -> bool {
+pub fn is_label(kind: u16, body: &[u8]) -> bool {
     match kind {
         34 => body.len() > 4 && is_name(&body[4..], 1..=64),
         41 => body.len() > 8 && body[4..8] != [0xff; 4] && is_name(&body[8..], 1..=64),
@@ -37,7 +37,7 @@ fn is_label(kind: u16, body: &[u8]) -> bool {
 
 /// What two labels may not share: "Two labels of one name get refusal 2 only with the same owner
 /// or none."
-fn owner_and_name(kind: u16, body: &[u8]) -> (Option<Vec<u8>>, Vec<u8>) {
+pub fn owner_and_name(kind: u16, body: &[u8]) -> (Option<Vec<u8>>, Vec<u8>) {
     match kind {
         41 => (Some(body[4..8].to_vec()), body[8..].to_vec()),
         _ => (None, body[4..].to_vec()),
@@ -45,7 +45,7 @@ fn owner_and_name(kind: u16, body: &[u8]) -> (Option<Vec<u8>>, Vec<u8>) {
 }
 
 /// "Region: address (4), data."
-fn is_region(body: &[u8]) -> bool {
+pub fn is_region(body: &[u8]) -> bool {
     body.len() >= 4
 }
 
