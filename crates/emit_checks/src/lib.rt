@@ -20,7 +20,7 @@ use refusal::Refusal;
 use refusal::Verdict;
 
 // Refusal 1: the first list or buffer that breaks its layout.
-fn check_layouts(
+pub fn check_layouts(
     tokens: &[u8],
     mnemonic: &[u8],
     descriptors: &[u8],

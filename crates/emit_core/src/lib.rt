@@ -3,8 +3,9 @@ ghost use mathlib.Core.Path.{_≡_};
 ghost use Prim.Native.Nat.{_+_, _≤_};
 ghost use lib.ListN.{length};
 ghost use Rattle.refusal.specs.declared.Verdict.the-variants.{Pass};
-ghost use Rattle.lexer.specs.Tokens.{tokens as tokensOf};
+ghost use Rattle.lexer.specs.Tokens.{tokenLayout, tokens as tokensOf};
 ghost use Rattle.cursor.specs.Reads.{Placed};
+ghost use Rattle.descriptors.specs.Mnemonics.{mnemonicLayout};
 ghost use Rattle.descriptors.specs.Descriptors.{descriptorLayout};
 ghost use Rattle.emit_dispatch.specs.Contract.{LineAs};
 ghost use Rattle.emit_outcome.specs.Dispatch.{meaning, tableLine};
@@ -12,7 +13,9 @@ ghost use Rattle.emit_outcome.specs.Call.{lentOf, callOf, outcomeOf};
 ghost use Rattle.emit_outcome.specs.Checks.{listStop};
 ghost use Rattle.emit_outcome.specs.Emit.{emitOutcome};
 ghost use Rattle.emit_outcome.specs.Contract.{EmittedBy, EmittedIs};
+ghost use Rattle.emit_core.specs.Read.{ReadIs};
 use cursor::Cursor;
+use emit_dispatch::LineAnswer;
 use emit_dispatch::LineEmit;
 use emit_outcome::Emitted;
 use emit_outcome::FillCounts;
@@ -23,8 +26,16 @@ use jobs::Job;
 use names::Named;
 use pseudo_names::MaybePseudo;
 use record::Layout;
+use record::Location;
 use refusal::Refusal;
 use refusal::Verdict;
+
+// A line that was read: whether its mnemonic is known, where that stands, and what was made of the operands. Nothing is made of one that is unknown.
+pub struct LineRead {
+    pub known: bool,
+    pub line: Location,
+    pub made: LineEmit,
+}
 
 // A descriptor goes before a pseudo-instruction of its name.
 fn find_meaning(descriptors: &[u8], name: &[u8]) -> Meaning
@@ -59,6 +70,51 @@ fn dispatch_instruction(
     emit_dispatch::dispatch_encoding(job, encoding, opcode, tokens, at)
 }
 
+// Refusal 3, or the line that is made of the operands from the position on.
+pub fn read_line(
+    job: Job,
+    tokens: &[u8],
+    mnemonic: &[u8],
+    descriptors: &[u8],
+    position: u32,
+) -> LineRead
+    requires { ⌜ (tokenLayout (now tokens) ≡ Layout.Good) × (mnemonicLayout (now mnemonic) ≡ Layout.Good) × (descriptorLayout (now descriptors) ≡ Layout.Good) ⌝ }
+    ensures { λ r. ⌜ ReadIs job (now (tokens .entry)) (now (mnemonic .entry)) (now (descriptors .entry)) position (r .known) (r .line) (r .made) ⌝ }
+{
+    let named = descriptors::read_mnemonic(mnemonic);
+    let bytes = named.bytes;
+    let len = named.len;
+    let line = named.location;
+    let start = cursor::start(tokens, position as usize);
+    match find_meaning(descriptors, &bytes[..len]) {
+        Meaning::Neither => LineRead {
+            known: false,
+            line,
+            made: LineEmit {
+                answer: LineAnswer::Made,
+                emit: emit_pairs::none(),
+                cursor: start,
+            },
+        },
+        Meaning::Table(place) => {
+            let made = dispatch_instruction(job, descriptors, tokens, place, start);
+            LineRead {
+                known: true,
+                line,
+                made,
+            }
+        }
+        Meaning::Builtin(pseudo) => {
+            let made = emit_dispatch::dispatch_pseudo(job, pseudo, tokens, start);
+            LineRead {
+                known: true,
+                line,
+                made,
+            }
+        }
+    }
+}
+
 // Refusals 3 to 12 of lists that keep their layouts, or the line appended.
 fn emit_named(
     job: Job,
@@ -76,29 +132,18 @@ fn emit_named(
         (lentOf (now («data» .entry)) (now (pending .entry)) (now (breakpoints .entry))) (numbers .counts) (numbers .place))
         ≡ outcomeOf (r .answer) (r .counts) (lentOf (now («data» .exit)) (now (pending .exit)) (now (breakpoints .exit))) ⌝ }
 {
-    let named = descriptors::read_mnemonic(mnemonic);
-    let bytes = named.bytes;
-    let len = named.len;
-    let line = named.location;
-    let start = cursor::start(tokens, numbers.place.position as usize);
-    match find_meaning(descriptors, &bytes[..len]) {
-        Meaning::Neither => {
-            let counts = numbers.counts;
-            emit_made::refused(
-                Refusal::UnknownInstruction(line),
-                numbers.place.position,
-                counts,
-            )
-        }
-        Meaning::Table(place) => {
-            let made = dispatch_instruction(job, descriptors, tokens, place, start);
-            emit_made::append_or_refuse(tokens, data, pending, breakpoints, numbers, line, made)
-        }
-        Meaning::Builtin(pseudo) => {
-            let made = emit_dispatch::dispatch_pseudo(job, pseudo, tokens, start);
-            emit_made::append_or_refuse(tokens, data, pending, breakpoints, numbers, line, made)
-        }
+    let read = read_line(job, tokens, mnemonic, descriptors, numbers.place.position);
+    let line = read.line;
+    if !read.known {
+        let counts = numbers.counts;
+        return emit_made::refused(
+            Refusal::UnknownInstruction(line),
+            numbers.place.position,
+            counts,
+        );
     }
+    let made = read.made;
+    emit_made::append_or_refuse(tokens, data, pending, breakpoints, numbers, line, made)
 }
 
 // Emits the line of one mnemonic, or refuses it and leaves every lent byte and count as it was.

@@ -26,7 +26,7 @@ pub fn refused(refusal: Refusal, position: u32, counts: FillCounts) -> Emitted
 }
 
 // Appends a line that has room: its words, its pending records and its breakpoint.
-fn append_line(
+pub fn append_line(
     tokens: &[u8],
     data: &mut [u8],
     pending: &mut [u8],

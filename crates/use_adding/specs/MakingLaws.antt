@@ -84,7 +84,7 @@ pub record Making (d₀ labels pending d : List ℕ) (at n fill : ℕ) : Type 0 
   pub good : firstBad (pendingOk 16 pending) (placesFrom pending at) ≡ Good
   pub rest : usesFrom labels pending n (placesFrom pending at) us ≡ usesOf labels pending
 
-append-again : (d x y : List ℕ) → length x ≤ length y → append (append d 0 x) 0 y ≡ append d 0 y
+pub append-again : (d x y : List ℕ) → length x ≤ length y → append (append d 0 x) 0 y ≡ append d 0 y
 unfolding append
 append-again d x y h =
     let j : 0 + length y ≡ length x + (length y - length x) = omega arith in

@@ -1,0 +1,5 @@
+pub mod LineUses
+pub mod LineIndex
+pub mod HasLaws
+pub mod KeyLaws
+pub mod LineLaws
