@@ -1,0 +1,5 @@
+pub mod Undo
+pub mod UndoLaws
+pub mod Steps
+pub mod NextLaws
+pub mod StepLaws
