@@ -1,7 +1,7 @@
 -- Laws of the fill: steps one after the other, with their answer and the records that they write. Assumes nothing.
 use Prim.Native.Nat.{ℕ, _+_, _≤_, _<_}
 use native.Mathlib.Omega.{arith}
-use mathlib.Core.List.{List, [], _∷_, _++_, append-assoc}
+use mathlib.Core.List.{List, [], _∷_, _++_, append-assoc, append-nil}
 use mathlib.Core.Bool.{Bool, true, false}
 use mathlib.Core.Path.{_≡_, refl, sym, ap, ap₂, _∙_}
 use lib.ListN.{length, take, drop, length-append, length-take}
@@ -124,3 +124,29 @@ split-only false d at bs cs k e h = append-none (append d at []) k
 pub none-only : (really : Bool) (d : List ℕ) (at : ℕ) → d ≡ append d at (only really [])
 none-only true d at = append-none d at
 none-only false d at = append-none d at
+
+-- ---- one token, and none
+module _ (really : Bool) (d : List ℕ) (fill : ℕ) (t : List ℕ) where
+  abbrev one : List Step
+  one = write t ∷ []
+
+  pub one-answered : fill + length t ≤ length d → answerFrom (length d) fill one ≡ Written (fill + length t)
+  one-answered h = answer-write (length d) fill t [] h ∙ answer-none (length d) (fill + length t)
+
+  pub one-left : fill + length t ≤ length d → append d fill (only really t) ≡ append d fill (only really (writtenFrom (length d) fill one))
+  one-left h =
+      ap (λ (x : List ℕ). append d fill (only really x))
+      (sym (append-nil t) ∙ sym (written-write (length d) fill t [] h ∙ ap (λ (x : List ℕ). t ++ x) (written-none (length d) (fill + length t))))
+
+  pub short-left : length d < fill + length t → d ≡ append d fill (only really (writtenFrom (length d) fill one))
+  short-left h = none-only really d fill ∙ ap (λ (x : List ℕ). append d fill (only really x)) (sym (written-short (length d) fill t [] h))
+
+pub none-left : (really : Bool) (d : List ℕ) (fill : ℕ) → d ≡ append d fill (only really (writtenFrom (length d) fill []))
+none-left really d fill = none-only really d fill ∙ ap (λ (x : List ℕ). append d fill (only really x)) (sym (written-none (length d) fill))
+
+pub stop-left : (really : Bool) (d : List ℕ) (fill : ℕ) (r : Refusal) (steps : List Step) → steps ≡ stop r ∷ []
+    → (Refused r ≡ answerFrom (length d) fill steps) × (d ≡ append d fill (only really (writtenFrom (length d) fill steps)))
+stop-left really d fill r steps e = (
+  sym (ap (answerFrom (length d) fill) e ∙ answer-stop (length d) fill r []),
+  none-only really d fill ∙ ap (λ (x : List ℕ). append d fill (only really x)) (sym (ap (writtenFrom (length d) fill) e ∙ written-stop (length d) fill r [])),
+)

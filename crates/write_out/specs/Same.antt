@@ -1,21 +1,19 @@
 -- Writing steps from a fill on is writing the whole: what a loop keeps. Assumes nothing.
-use Prim.Native.Nat.{ℕ, _+_, _≤_, _<_}
+use Prim.Native.Nat.{ℕ, _≤_}
 use native.Mathlib.Omega.{arith}
 use mathlib.Core.List.{List, [], _∷_, _++_, append-nil}
 use mathlib.Core.Bool.{Bool}
 use mathlib.Core.Path.{_≡_, refl, sym, ap, _∙_}
 use lib.ListN.{length}
-use Rattle.record.specs.Bytes.{locationAt}
 use Rattle.record.specs.Stores.{append}
 use Rattle.refusal.specs.declared.Refusal.{Refusal}
-use Rattle.refusal.specs.declared.Refusal.the-variants.{NoWrittenSpace}
 use Rattle.written_out.specs.declared.WriteOutAnswer.{WriteOutAnswer}
 use Rattle.written_out.specs.declared.WriteOutAnswer.the-variants.{Written, Refused}
-use Rattle.written_out.specs.Written.{Step, write, stop}
+use Rattle.written_out.specs.Written.{Step}
 use Rattle.written_out.specs.Outcome.{answerFrom}
 use Rattle.macro_tokens.specs.Places.{only}
 use Rattle.write_out.specs.Body.{writtenFrom}
-use Rattle.write_out.specs.FillLaws.{answer-write, answer-short, written-write, written-short, answer-stop, written-stop, answer-none, written-none, thenAnswer, thenBytes, both, fill-written, split-only, none-only}
+use Rattle.write_out.specs.FillLaws.{answer-none, written-none, thenAnswer, thenBytes, both, fill-written, split-only, none-only}
 
 -- all steps, from `from` on into the buffer, and whether it is really written
 module _ (really : Bool) (out₀ : List ℕ) (from : ℕ) (all : List Step) where
@@ -39,25 +37,6 @@ module _ (really : Bool) (out₀ : List ℕ) (from : ℕ) (all : List Step) wher
   module _ (out : List ℕ) (fill : ℕ) (steps : List Step) (s : Same out fill steps) where
     abbrev shown : List Step → List ℕ
     shown x = append out fill (only really (writtenFrom room fill x))
-
-    pub same-pass : (on : List Step) → steps ≡ on → Same out fill on
-    same-pass on e = record {
-      within = s .within;
-      kept = s .kept;
-      answer = s .answer ∙ ap (answerFrom room fill) e;
-      bytes = s .bytes ∙ ap shown e;
-    }
-
-    pub same-write : (t : List ℕ) (on : List Step) (out′ : List ℕ) → steps ≡ write t ∷ on → fill + length t ≤ length out₀ → out′ ≡ append out fill (only really t)
-        → length out′ ≡ length out → Same out′ (fill + length t) on
-    same-write t on out′ e h w l = record {
-      within = h;
-      kept = l ∙ s .kept;
-      answer = s .answer ∙ ap (answerFrom room fill) e ∙ answer-write room fill t on h;
-      bytes = s .bytes ∙ ap shown e ∙ ap (λ (x : List ℕ). append out fill (only really x)) (written-write room fill t on h)
-          ∙ split-only really out fill t (writtenFrom room (fill + length t) on) (fill + length t) refl (omega (arith, s .within, s .kept))
-          ∙ ap (λ (x : List ℕ). append x (fill + length t) (only really (writtenFrom room (fill + length t) on))) (sym w);
-    }
 
     -- a part of the steps, with its own answer
     module _ (part on : List Step) (e : steps ≡ part ++ on) (r : WriteOutAnswer) (out′ : List ℕ) (a : r ≡ answerFrom (length out) fill part)
@@ -96,21 +75,9 @@ module _ (really : Bool) (out₀ : List ℕ) (from : ℕ) (all : List Step) wher
             ∙ sym (bytes-on ∙ ap (λ (y : WriteOutAnswer). append out fill (only really (writtenFrom room fill part ++ thenBytes y (λ f. writtenFrom room f on)))) g);
       }
 
-    -- nothing more is written
-    ends : (r : WriteOutAnswer) → answerFrom room fill steps ≡ r → writtenFrom room fill steps ≡ [] → Ends r out
-    ends r e w = record {
-      answered = sym (s .answer ∙ e);
-      left = none-only really out fill ∙ sym (s .bytes ∙ ap (λ (x : List ℕ). append out fill (only really x)) w);
-    }
-
+    -- nothing is left
     pub ends-all : steps ≡ [] → Ends (Written fill) out
-    ends-all e = ends (Written fill) (ap (answerFrom room fill) e ∙ answer-none room fill) (ap (writtenFrom room fill) e ∙ written-none room fill)
-
-    pub ends-short : (t : List ℕ) (on : List Step) → steps ≡ write t ∷ on → length out₀ < fill + length t → Ends (Refused (NoWrittenSpace (locationAt t 4))) out
-    ends-short t on e h =
-        ends (Refused (NoWrittenSpace (locationAt t 4))) (ap (answerFrom room fill) e ∙ answer-short room fill t on h) (ap (writtenFrom room fill) e ∙ written-short room fill t on h)
-
-    pub ends-stop : (x : Refusal) (part on : List Step) → steps ≡ part ++ on → part ≡ stop x ∷ [] → Ends (Refused x) out
-    ends-stop x part on e f =
-        let g : steps ≡ stop x ∷ on = e ∙ ap (λ (y : List Step). y ++ on) f in
-        ends (Refused x) (ap (answerFrom room fill) g ∙ answer-stop room fill x on) (ap (writtenFrom room fill) g ∙ written-stop room fill x on)
+    ends-all e = record {
+      answered = sym (s .answer ∙ ap (answerFrom room fill) e ∙ answer-none room fill);
+      left = none-only really out fill ∙ sym (s .bytes ∙ ap (λ (x : List ℕ). append out fill (only really x)) (ap (writtenFrom room fill) e ∙ written-none room fill));
+    }

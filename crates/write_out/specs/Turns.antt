@@ -2,27 +2,23 @@
 use Prim.Native.Nat.{ℕ, _+_, _-_, _≤_, _<_}
 use native.Mathlib.Omega.{arith}
 use mathlib.Core.List.{List, [], _∷_, _++_}
-use mathlib.Core.Bool.{Bool, true}
 use mathlib.Core.Path.{_≡_, refl, sym, ap, subst, _∙_}
 use lib.ListN.{length}
-use Rattle.record.specs.Bytes.{locationAt}
 use Rattle.record.specs.Records.{next}
 use Rattle.lexer.specs.Tokens.{TokenIs}
-use Rattle.macros.specs.Macros.{macroAtOk}
 use Rattle.written_out.specs.declared.Mode.{Mode}
-use Rattle.written_out.specs.declared.Mode.the-variants.{LeftOut}
-use Rattle.written_out.specs.Written.{Step, write, replaced}
+use Rattle.written_out.specs.Written.{Step, replaced}
 use Rattle.written_out.specs.Walk.{walk}
 use Rattle.written_out.specs.Acts.{Act as Done, actOf, byAct, walk-act}
-use Rattle.written_out.specs.Above.{macroAt, above}
+use Rattle.written_out.specs.Above.{above}
 use Rattle.macro_tokens.specs.declared.Act.{Act}
 use Rattle.macro_tokens.specs.declared.Act.the-variants.{Write, Pass, Call}
 use Rattle.macro_tokens.specs.declared.Body.{Body}
 use Rattle.macro_tokens.specs.Places.{recordOf, TokenIn, placeOf, readFrom, ReadableFrom}
 use Rattle.macro_tokens.specs.PlacesLaws.{token, read-on, read-here, read-end, place-in}
-use Rattle.macro_tokens.specs.Arguments.{argumentsFrom}
-use Rattle.macro_tokens.specs.Meant.{meant, Inside, ActIs}
+use Rattle.macro_tokens.specs.Meant.{meant, ActIs}
 use Rattle.write_out.specs.Body.{stepsFrom}
+use Rattle.write_out.specs.Calls.{actSteps, modeAfter}
 
 -- the token at `at` of the body's list, at its place; `n` is behind it
 pub record Turn (text macros : List ℕ) (most : ℕ) (list : List ℕ) (b : Body) (mode : Mode) (at n place : ℕ) (act : Act) : Type 0 where
@@ -60,18 +56,14 @@ module _ {text macros : List ℕ} {most : ℕ} {list : List ℕ} {b : Body} {mod
         ap (walk (replaced levels) (above macros most) mode) reads ∙ walk-act (replaced levels) (above macros most) record-of (readFrom text macros list b n) mode
         ∙ ap (byAct (replaced levels) (above macros most) record-of (readFrom text macros list b n)) (t .act-is .is ∙ ap (meant macros) e)
 
-    pub turn-write : (m : Mode) → act ≡ Write m → steps mode at ≡ write record-of ∷ steps m n
-    turn-write m e = by (Write m) e
+    split : (a : Act) → byAct (replaced levels) (above macros most) record-of (readFrom text macros list b n) (meant macros a)
+        ≡ actSteps text macros levels list b place n a ++ steps (modeAfter a) n
+    split (Write m) = refl
+    split Pass = refl
+    split (Call k) = refl
 
-    pub turn-pass : act ≡ Pass → steps mode at ≡ steps LeftOut n
-    turn-pass e = by Pass e
-
-    pub turn-call : (k : ℕ) → act ≡ Call k
-        → steps mode at ≡ replaced levels (locationAt record-of 4) (macroAt macros k) (above macros k) (argumentsFrom text macros list b n) ++ steps LeftOut n
-    turn-call k e = by (Call k) e
-
-  pub turn-above : (k : ℕ) → act ≡ Call k → (k < most) × (macroAtOk macros k ≡ true)
-  turn-above k e = subst (Inside macros most) e (t .act-is .inside)
+    pub turn-act : steps mode at ≡ actSteps text macros levels list b place n act ++ steps (modeAfter act) n
+    turn-act = by act refl ∙ split act
 
 -- nothing is left of the list
 pub turn-end : (text macros : List ℕ) (most levels : ℕ) (list : List ℕ) (b : Body) (mode : Mode) (at : ℕ) → length list ≤ at

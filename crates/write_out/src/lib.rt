@@ -1,7 +1,8 @@
 // Writes macros out. A first pass over the token list finds the answer; a second one writes, and only where the first refused nothing.
 ghost use mathlib.Core.Path.{_≡_};
 ghost use mathlib.Core.Bool.{true};
-ghost use Prim.Native.Nat.{_≤_, _<_};
+ghost use mathlib.Core.List.{[], _∷_};
+ghost use Prim.Native.Nat.{_≤_};
 ghost use lib.ListN.{length};
 ghost use Rattle.record.specs.Bytes.{locationAt};
 ghost use Rattle.record.specs.Records.{limit};
@@ -10,13 +11,13 @@ ghost use Rattle.record.specs.declared.Layout.the-variants.{Good};
 ghost use Rattle.lexer.specs.Tokens.{tokenLayout};
 ghost use Rattle.macros.specs.Macros.{macroAtOk, macroLayout};
 ghost use Rattle.written_out.specs.declared.Mode.the-variants.{Leading};
-ghost use Rattle.written_out.specs.Written.{replaced, writtenOut};
+ghost use Rattle.written_out.specs.Written.{write, replaced, writtenOut};
 ghost use Rattle.written_out.specs.Outcome.{answerFrom, writeOutOutcome};
 ghost use Rattle.written_out.specs.Above.{macroAt, above};
 ghost use Rattle.macro_tokens.specs.Places.{recordOf, TokenIn, only, ReadableFrom};
 ghost use Rattle.macro_tokens.specs.Arguments.{argumentsFrom};
 ghost use Rattle.write_out.specs.Body.{stepsFrom, Ready, writtenFrom};
-ghost use Rattle.write_out.specs.Calls.{callVerdict, CallIs};
+ghost use Rattle.write_out.specs.Calls.{callVerdict, CallIs, actSteps, modeAfter, Acting};
 ghost use Rattle.write_out.specs.Entry.{stopBy, isWritten};
 use macro_tokens::Act;
 use macro_tokens::Body;
@@ -81,6 +82,76 @@ fn call_at(
     }
 }
 
+// A token written at `fill`, where there is room for it: the new fill.
+fn write_token(
+    text: &[u8],
+    macros: &[u8],
+    place: usize,
+    really: bool,
+    out: &mut [u8],
+    fill: usize,
+) -> WriteOutAnswer
+    requires { ⌜ TokenIn (now text) (now macros) place × (fill ≤ length (now out)) × (length (now out) ≤ limit) ⌝ }
+    ensures { λ r. ⌜ r ≡ answerFrom (length (now (out .entry))) fill (write (recordOf (now (text .entry)) (now (macros .entry)) place) ∷ []) ⌝ }
+    ensures { λ _. ⌜ now (out .exit) ≡ append (now (out .entry)) fill (only really (writtenFrom (length (now (out .entry))) fill (write (recordOf (now (text .entry)) (now (macros .entry)) place) ∷ []))) ⌝ }
+{
+    let size = macro_tokens::size_of(text, macros, place);
+    if out.len() - fill < size {
+        let location = macro_tokens::location_of(text, macros, place);
+        return WriteOutAnswer::Refused(Refusal::NoWrittenSpace(location));
+    }
+    macro_tokens::put_token(text, macros, place, really, out, fill);
+    WriteOutAnswer::Written((fill + size) as u32)
+}
+
+// What is done with the token at `place`, behind which its body goes on from `next` on: the new fill, or the first refusal.
+fn write_act(
+    text: &[u8],
+    macros: &[u8],
+    most: usize,
+    levels: usize,
+    list: &[u8],
+    body: Body,
+    place: usize,
+    next: usize,
+    act: Act,
+    really: bool,
+    out: &mut [u8],
+    fill: usize,
+) -> WriteOutAnswer
+    requires { ⌜ Acting (now text) (now macros) most (now list) body place next act × (fill ≤ length (now out)) × (length (now out) ≤ limit) ⌝ }
+    ensures { λ r. ⌜ r ≡ answerFrom (length (now (out .entry))) fill (actSteps (now (text .entry)) (now (macros .entry)) levels (now (list .entry)) body place next act) ⌝ }
+    ensures { λ _. ⌜ now (out .exit) ≡ append (now (out .entry)) fill (only really (writtenFrom (length (now (out .entry))) fill (actSteps (now (text .entry)) (now (macros .entry)) levels (now (list .entry)) body place next act))) ⌝ }
+{
+    match act {
+        Act::Write(_) => write_token(text, macros, place, really, out, fill),
+        Act::Pass => WriteOutAnswer::Written(fill as u32),
+        Act::Call(k) => {
+            let called = call_at(text, macros, levels, list, body, place, next, k);
+            let verdict = called.verdict;
+            let inner = called.body;
+            match verdict {
+                Verdict::Stop(r) => WriteOutAnswer::Refused(r),
+                Verdict::Pass => {
+                    let end = record::next(macros, k);
+                    let bytes = &macros[k + 4..end];
+                    write_body(text, macros, k, levels - 1, bytes, inner, really, out, fill)
+                }
+            }
+        }
+    }
+}
+
+fn mode_after(act: Act) -> Mode
+    ensures { λ r. ⌜ r ≡ modeAfter act ⌝ }
+{
+    match act {
+        Act::Write(mode) => mode,
+        Act::Pass => Mode::LeftOut,
+        Act::Call(_) => Mode::LeftOut,
+    }
+}
+
 // A body written out from `from` on: the new fill, or the first refusal. Nothing is written where `really` is false. The body may call the
 // macros before the place `most`, which falls at each call: it is the place of the macro whose body it is.
 fn write_body(
@@ -104,54 +175,28 @@ fn write_body(
     while at < list.len() {
         let next = record::next(list, at);
         let place = macro_tokens::place_at(list, body, at);
-        match macro_tokens::act_at(text, macros, most, list, body, mode, place, next) {
-            Act::Write(m) => {
-                let size = macro_tokens::size_of(text, macros, place);
-                if out.len() - fill < size {
-                    let location = macro_tokens::location_of(text, macros, place);
-                    return WriteOutAnswer::Refused(Refusal::NoWrittenSpace(location));
-                }
-                macro_tokens::put_token(text, macros, place, really, &mut *out, fill);
-                fill = fill + size;
-                mode = m;
+        let act = macro_tokens::act_at(text, macros, most, list, body, mode, place, next);
+        match write_act(
+            text,
+            macros,
+            most,
+            levels,
+            list,
+            body,
+            place,
+            next,
+            act,
+            really,
+            &mut *out,
+            fill,
+        ) {
+            WriteOutAnswer::Written(f) => {
+                fill = f as usize;
+                mode = mode_after(act);
                 at = next;
             }
-            Act::Pass => {
-                mode = Mode::LeftOut;
-                at = next;
-            }
-            Act::Call(k) => {
-                let called = call_at(text, macros, levels, list, body, place, next, k);
-                let verdict = called.verdict;
-                let inner = called.body;
-                match verdict {
-                    Verdict::Stop(r) => {
-                        return WriteOutAnswer::Refused(r);
-                    }
-                    Verdict::Pass => {
-                        let end = record::next(macros, k);
-                        match write_body(
-                            text,
-                            macros,
-                            k,
-                            levels - 1,
-                            &macros[k + 4..end],
-                            inner,
-                            really,
-                            &mut *out,
-                            fill,
-                        ) {
-                            WriteOutAnswer::Written(f) => {
-                                fill = f as usize;
-                                mode = Mode::LeftOut;
-                                at = next;
-                            }
-                            WriteOutAnswer::Refused(r) => {
-                                return WriteOutAnswer::Refused(r);
-                            }
-                        }
-                    }
-                }
+            WriteOutAnswer::Refused(r) => {
+                return WriteOutAnswer::Refused(r);
             }
         }
     }

@@ -135,6 +135,9 @@ module _ (tokens macros out : List ℕ) (f : ℕ) where
       let l : writeOutOutcome tokens macros out .out ≡ append out 0 (bytesOf steps) = ap (λ (x : WriteOutAnswer). leaves x (bytesOf steps) out) e in
       ap₂ take (r .0) l ∙ filled-append out 0 (bytesOf steps) (omega arith)
 
+  pub filled-length : writeOutOutcome tokens macros out .answer ≡ Written f → length (take f (writeOutOutcome tokens macros out .out)) ≡ f
+  filled-length e = omega (arith, ap length (filled-is e), fill-is (length out) 0 f steps (omega arith) (accepted e .answered) .0)
+
   pub keeps-layout : writeOutOutcome tokens macros out .answer ≡ Written f → tokenLayout (take f (writeOutOutcome tokens macros out .out)) ≡ Good
   keeps-layout e =
       let a = accepted e in

@@ -10,3 +10,6 @@ pub mod KeepsLayout
 pub mod Above
 pub mod AboveLaws
 pub mod OwnName
+pub mod Levels
+pub mod Again
+pub mod WholeText
