@@ -42,8 +42,8 @@
    has, and a region's data at most 65,528. One accepted line adds at most 20 bytes to the data
    (five words), 200 to the pending list (two records with names of 64 bytes) and 32 to the
    breakpoints (a record of five pcs); and with as much room left in each, and data of at most
-   65,508 bytes, no line is refused with 12. Both are proved: line-grows
-   and room-enough in crates/routine/specs. A refused call adds nothing.
+   65,508 bytes, no line is refused with 12. Both are proved: line-grows and room-enough in
+   crates/routine/specs. A refused call adds nothing.
 
    BUFFERS. Each goes as a pointer, then its length in bytes. The caller answers for three things
    that no call can test: a pointer is not null, also where the length is 0; behind it are as many
@@ -53,9 +53,9 @@
    all state is in the buffers.
 
    ANSWER. Six numbers of four bytes: number, source, index, a, b, and a line's position, a build's
-   entry, a text's or a written-out list's fill, a dry run's pc or a page's length. Number 0 is an accepted call, 1
-   to 16, 18 to 28 and 30 are refusals; source and index are the refusal's location, a is given by its low 32 bits,
-   and numbers that are not named here are 0. Of an accepted line a says how its constant is
+   entry, a text's or a written-out list's fill, a dry run's pc or a page's length. Number 0 is an
+   accepted call, 1 to 16, 18 to 28 and 30 are refusals; source and index are the refusal's location,
+   a is given by its low 32 bits, and numbers that are not named here are 0. Of an accepted line a says how its constant is
    loaded: 0 none is, 1 addiu alone, 2 ori alone, 3 lui alone, 4 both halves. The number is
    returned too. On refusal the answer is written and no other lent byte changes. If the answer has
    fewer than 24 bytes, or the counts fewer than 12 (a range's fewer than 32), or the registers
@@ -99,9 +99,9 @@
      28  A dry run's pc is no multiple of four, or no whole word stands there.
      30  The range's start exceeds its end.
 
-   The location is zero for 1, 2, 18, 28 and 30; the mnemonic's for 3, 4, 9 to 12, 19, 20 and 27; for 5
-   to 8 that of the token that was met, or the mnemonic's at a NewLine; the name's for 13 and 15,
-   and the pending's for 14 and 16; for 21 to 23 the call's source and the place of the token's
+   The location is zero for 1, 2, 18, 28 and 30; the mnemonic's for 3, 4, 9 to 12, 19, 20 and 27;
+   for 5 to 8 that of the token that was met, or the mnemonic's at a NewLine; the name's for 13 and
+   15, and the pending's for 14 and 16; for 21 to 23 the call's source and the place of the token's
    first byte; for 24 and 25 that of the call's name, and for 26 that of the token without room.
    docs/REFUSALS.md says what to do about each.
 

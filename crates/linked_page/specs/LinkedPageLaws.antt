@@ -1,13 +1,13 @@
 -- Laws of the linked call for a page: too short an answer, and an answered call. Assumes nothing.
 use Prim.Native.Nat.{ℕ, _≤_, _<_}
-use mathlib.Core.Path.{_≡_, sym}
+use mathlib.Core.Path.{_≡_}
 use mathlib.Core.List.{List}
 use lib.ListN.{length}
 use borrow.Author.Tests.{le-leb, lt-leb}
 use Rattle.record.specs.Stores.{append}
 use Rattle.linked_answer.specs.Words.{answerBytes, tooShort, numberOf, wordsAsBytes}
 use Rattle.page_outcome.specs.declared.LaidOut.{LaidOut}
-use Rattle.page_outcome.specs.Outcome.{PageOutcome, pageOutcome}
+use Rattle.page_outcome.specs.Outcome.{pageOutcome}
 use Rattle.linked_page.specs.LinkedPage.{pageWords, linkedPage}
 
 module _ (labels regions page answer : List ℕ) where

@@ -1,9 +1,8 @@
 -- Laws of a page's checks, and of the count of its lines. Assumes nothing.
-use Prim.Native.Nat.{ℕ, _+_, _-_, _*_, _/_, _≤_, _<_}
+use Prim.Native.Nat.{ℕ, _+_, _-_, _/_, _≤_, _<_}
 use native.Mathlib.Omega.{arith}
 use mathlib.Core.List.{List, [], map}
-use mathlib.Core.Path.{_≡_, refl, sym, ap, _∙_}
-use lib.Dec.{leb}
+use mathlib.Core.Path.{_≡_, sym, ap}
 use lib.ListN.{length, length-take, length-drop}
 use borrow.Author.Tests.{le-leb, lt-leb}
 use Rattle.record.specs.Bytes.{part}

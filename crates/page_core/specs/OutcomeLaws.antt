@@ -1,13 +1,12 @@
 -- The outcome of a page by its checks. Assumes nothing.
-use Prim.Native.Nat.{ℕ, _+_, _*_, _≤_, _<_}
+use Prim.Native.Nat.{ℕ, _*_, _≤_, _<_}
 use native.Mathlib.Omega.{arith}
 use mathlib.Core.List.{List}
-use mathlib.Core.Path.{_≡_, refl, sym, ap, ap₂, _∙_}
-use lib.Dec.{leb}
+use mathlib.Core.Path.{_≡_, ap, _∙_}
 use lib.ListN.{length}
 use borrow.Author.Tests.{le-leb, lt-leb}
 use Rattle.record.specs.Stores.{append}
-use Rattle.record.specs.declared.Layout.the-variants.{Good, Bad}
+use Rattle.record.specs.declared.Layout.the-variants.{Good}
 use Rattle.names.specs.declared.Repeat.the-variants.{None, Later}
 use Rattle.refusal.specs.Verdicts.{andThen, layoutVerdict, nameVerdict}
 use Rattle.refusal.specs.VerdictsLaws.{both-pass, layout-pass}
@@ -21,7 +20,6 @@ use Rattle.reading.specs.Reading.{imageOf}
 use Rattle.page_outcome.specs.Page.{pageOf}
 use Rattle.page_outcome.specs.Length.{lineCount, page-length}
 use Rattle.page_outcome.specs.Outcome.{PageOutcome, pageLayout, layoutVerdicts, roomVerdict, pageVerdict, outcomeBy, pageOutcome}
-use Rattle.page_outcome.specs.declared.LaidOut.{LaidOut}
 use Rattle.page_outcome.specs.declared.LaidOut.the-variants.{Length, Refused}
 
 -- where the layouts pass, both lists are good

@@ -3,8 +3,7 @@ use Prim.Native.Nat.{ℕ, zero, suc, _+_, _-_, _*_, _/_, _%_, _≤_, _<_}
 use native.Mathlib.Nat.{mod-eq-of-lt}
 use native.Mathlib.Omega.{arith}
 use mathlib.Core.List.{List, [], _∷_, _++_, append-nil, append-assoc}
-use mathlib.Core.Path.{_≡_, refl, sym, ap, ap₂, _∙_}
-use lib.Dec.{ltb}
+use mathlib.Core.Path.{_≡_, refl, ap, ap₂, _∙_}
 use lib.ListN.{length, take, length-append, length-take}
 use borrow.Author.Tests.{lt-ltb}
 use Rattle.io.specs.Digits.{glyph, digits}
@@ -13,6 +12,7 @@ use Rattle.text.specs.Text.{hexBytes}
 use Rattle.text.specs.TextLaws.{hex-length, digits-length}
 use Rattle.page_outcome.specs.Page.{blanks, columns, line, cut, regionLine, wordLine}
 use Rattle.page_outcome.specs.LinesLaws.{front-length, cut-whole, cut-long}
+use Rattle.page_lines.specs.Pieces.{endOf}
 
 -- the first n of m blanks
 pub take-blanks : (n m : ℕ) → n ≤ m → take n (blanks m) ≡ blanks n
@@ -21,32 +21,35 @@ take-blanks zero m h = refl
 take-blanks (suc n) zero h = absurd (omega arith)
 take-blanks (suc n) (suc m) h = ap (λ (l : List ℕ). 32 ∷ l) (take-blanks n m (omega arith))
 
--- the blanks behind a label, and the end of its line
-abbrev pub tail : List ℕ
-tail = bytesOf "                                \n"
-
+-- ---- a word's line, as it is put
 -- a line of 40 bytes and blanks
-line-40 : (text : List ℕ) → length text ≡ 40 → line text ≡ text ++ tail
+line-40 : (text : List ℕ) → length text ≡ 40 → line text ≡ text ++ bytesOf "                                \n"
 unfolding blanks
 line-40 text h =
     let e : 72 - length text ≡ 32 = omega arith in
     ap (λ (n : ℕ). (text ++ blanks n) ++ bytesOf "\n") e ∙ append-assoc text (blanks 32) (bytesOf "\n")
 
-pub word-line : (pc word : ℕ) (name : List ℕ) → wordLine pc (digits 16 8 word) name ≡ digits 16 8 pc ++ bytesOf "  " ++ digits 16 8 word ++ bytesOf "  " ++ columns 20 (cut name) ++ tail
+word-line : (pc : ℕ) (word name : List ℕ) → length word ≤ 8 → wordLine pc word name ≡ (digits 16 8 pc ++ bytesOf "  " ++ columns 8 word) ++ endOf name
 unfolding wordLine
-word-line pc word name =
-    let w = digits 16 8 word in
-    let k = digits-length 16 8 word in
-    line-40 (digits 16 8 pc ++ bytesOf "  " ++ columns 8 w ++ bytesOf "  " ++ columns 20 (cut name)) (front-length pc w name (omega arith))
+word-line pc word name h =
+    let front = digits 16 8 pc ++ bytesOf "  " ++ columns 8 word in
+    let label = columns 20 (cut name) in
+    let rest = bytesOf "                                \n" in
+    line-40 (front ++ bytesOf "  " ++ label) (front-length pc word name h)
+    ∙ ap (λ (l : List ℕ). l ++ rest) (append-assoc front (bytesOf "  ") label) ∙ append-assoc front (bytesOf "  " ++ label) rest
+
+pub full-line : (pc word : ℕ) (name : List ℕ) → wordLine pc (digits 16 8 word) name ≡ (digits 16 8 pc ++ bytesOf "  " ++ digits 16 8 word) ++ endOf name
+unfolding blanks
+full-line pc word name = word-line pc (digits 16 8 word) name (omega (arith, digits-length 16 8 word))
 
 pub part-line : (pc : ℕ) (bytes name : List ℕ) → length bytes ≤ 4
-    → wordLine pc (hexBytes bytes) name ≡ digits 16 8 pc ++ bytesOf "  " ++ (hexBytes bytes ++ blanks (8 - 2 * length bytes)) ++ bytesOf "  " ++ columns 20 (cut name) ++ tail
-unfolding wordLine
+    → wordLine pc (hexBytes bytes) name ≡ (digits 16 8 pc ++ bytesOf "  " ++ (hexBytes bytes ++ blanks (8 - 2 * length bytes))) ++ endOf name
 part-line pc bytes name h =
     let k = hex-length bytes in
-    line-40 (digits 16 8 pc ++ bytesOf "  " ++ columns 8 (hexBytes bytes) ++ bytesOf "  " ++ columns 20 (cut name)) (front-length pc (hexBytes bytes) name (omega arith))
-    ∙ ap (λ (n : ℕ). digits 16 8 pc ++ bytesOf "  " ++ (hexBytes bytes ++ blanks (8 - n)) ++ bytesOf "  " ++ columns 20 (cut name) ++ tail) k
+    word-line pc (hexBytes bytes) name (omega arith)
+    ∙ ap (λ (n : ℕ). (digits 16 8 pc ++ bytesOf "  " ++ (hexBytes bytes ++ blanks (8 - n))) ++ endOf name) k
 
+-- ---- a label's columns
 pub label-long : (name : List ℕ) → 20 < length name → columns 20 (cut name) ≡ take 19 name ++ bytesOf "~"
 unfolding blanks
 label-long name h =
@@ -58,6 +61,7 @@ label-long name h =
 pub label-whole : (name : List ℕ) → length name ≤ 20 → columns 20 (cut name) ≡ name ++ blanks (20 - length name)
 label-whole name h = ap (columns 20) (cut-whole name h)
 
+-- ---- a region's line
 abbrev pub restOfNumber : List ℕ
 restOfNumber = bytesOf "                                                                      \n"
 

@@ -1,12 +1,11 @@
 -- What hangs on the wall determines the words: two images with one page, whatever their labels, have the same data in every region, and the same
 -- address where a region has data. Assumes nothing.
-use Prim.Native.Nat.{ℕ, suc, _+_, _-_, _≤_, _<_}
+use Prim.Native.Nat.{ℕ, _+_, _-_, _<_}
 use native.Mathlib.Omega.{arith}
 use mathlib.Core.List.{List, [], _∷_, _++_, map, flatten}
 use mathlib.Core.Path.{_≡_, refl, sym, ap, ap₂, _∙_}
-use lib.ListN.{length, take, drop, getD, length-append}
+use lib.ListN.{length, drop, getD, length-append}
 use lib.Seq.{getD-drop}
-use Rattle.record.specs.Bytes.{part}
 use Rattle.record.specs.Records.{bodyLen, places}
 use Rattle.finished_words.specs.Listed.{Bytes}
 use Rattle.patch.specs.Patches.{wrap32}
@@ -14,7 +13,7 @@ use Rattle.reading.specs.Reading.{ImageRegion, Image, imageRegion, imageOf}
 use Rattle.reading.specs.Rows.{Row, rows}
 use Rattle.reading.specs.RowsLaws.{Each, RowIs, rows-are, bytes-take, rows-bytes, dataOf, rows-data}
 use Rattle.text.specs.Text.{wordText}
-use Rattle.page_outcome.specs.Page.{regionLine, wordLine, rowLine, labelAt, pageLines, pageOf}
+use Rattle.page_outcome.specs.Page.{rowLine, labelAt, pageLines, pageOf}
 use Rattle.page_outcome.specs.Length.{Is73, lines-73}
 use Rattle.page_outcome.specs.DeterminedLaws.{front-same, third-blank, third-dark, row-same}
 

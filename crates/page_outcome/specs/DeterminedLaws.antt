@@ -16,9 +16,9 @@ use Rattle.pseudo_names.specs.PseudoNames.{bytesOf}
 use Rattle.reading.specs.Rows.{Row}
 use Rattle.reading.specs.RowsLaws.{Each, RowIs}
 use Rattle.text.specs.Text.{hexBytes, wordText}
-use Rattle.text.specs.TextLaws.{digits-length, hex-length, text-length, text-part}
+use Rattle.text.specs.TextLaws.{digits-length, text-length, text-part}
 use Rattle.page_outcome.specs.Page.{blanks, columns, cut, regionLine, wordLine}
-use Rattle.page_outcome.specs.LinesLaws.{columns-length, cut-most, front-length}
+use Rattle.page_outcome.specs.LinesLaws.{columns-length, front-length}
 
 -- ---- two texts, each in front of another
 pub front-same : (a b c d : List ℕ) → length a ≡ length b → a ++ c ≡ b ++ d → (a ≡ b) × (c ≡ d)

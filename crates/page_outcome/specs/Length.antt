@@ -2,7 +2,7 @@
 use Prim.Native.Nat.{ℕ, _+_, _-_, _*_, _/_, _≤_}
 use native.Mathlib.Omega.{arith}
 use mathlib.Core.List.{List, [], _∷_, _++_, map, List·Memᴰ, List·Memᴰ·not-nil, List·Memᴰ·cases-cons, flatten}
-use mathlib.Core.Logic.{_⊎_, inl, inr, ⊎-elim}
+use mathlib.Core.Logic.{_⊎_, ⊎-elim}
 use mathlib.Core.Path.{_≡_, refl, sym, ap, _∙_}
 use lib.ListN.{length, length-append, length-take, length-map}
 use Rattle.record.specs.Bytes.{part}
@@ -16,7 +16,7 @@ use Rattle.reading.specs.Rows.{Row, rows}
 use Rattle.reading.specs.RowsLaws.{Each, RowIs, rows-are, rows-count}
 use Rattle.text.specs.Text.{wordText}
 use Rattle.text.specs.TextLaws.{text-length}
-use Rattle.page_outcome.specs.Page.{regionLine, rowLine, labelAt, pageLines, pageOf}
+use Rattle.page_outcome.specs.Page.{rowLine, labelAt, pageLines, pageOf}
 use Rattle.page_outcome.specs.LinesLaws.{region-length, word-length}
 
 -- ---- every line

@@ -1,14 +1,13 @@
 -- The longest page: one region of 65,528 bytes fills a region list, and its page has 1,195,959 bytes. Assumes nothing.
-use Prim.Native.Nat.{ℕ, _+_, _-_, _*_, _/_, _<_, _≤_}
+use Prim.Native.Nat.{ℕ, _+_, _-_}
 use native.Mathlib.Omega.{arith}
 use mathlib.Core.List.{List, [], _∷_, _++_, map}
-use mathlib.Core.Bool.{true, _&&_}
-use mathlib.Core.Path.{_≡_, refl, sym, ap, _∙_}
-use lib.Dec.{eqb, leb}
-use lib.ListN.{length, replicate, length-append, length-take, length-drop, length-replicate}
+use mathlib.Core.Bool.{true}
+use mathlib.Core.Path.{_≡_, ap, _∙_}
+use lib.ListN.{length, replicate, length-take, length-drop, length-replicate}
 use borrow.Author.Tests.{le-leb}
 use Rattle.record.specs.Bytes.{part}
-use Rattle.record.specs.Records.{bodyLen, kindAt, next, whole, places, placesFrom, firstBadOf}
+use Rattle.record.specs.Records.{bodyLen, next, whole, places, firstBadOf}
 use Rattle.record.specs.RecordsLaws.{places-all, places-step, places-end, limit-kept}
 use Rattle.record.specs.OneMoreLaws.{is-whole}
 use Rattle.record.specs.Stores.{le32Bytes, recordBytes}

@@ -14,13 +14,13 @@ use Rattle.name_order.specs.Order.{order}
 use Rattle.labels.specs.Labels.{labelOk, labelLayout}
 use Rattle.regions.specs.Regions.{regionOk, regionRecords, regionLayout}
 use Rattle.finished_words.specs.Listed.{Bytes}
-use Rattle.finished_words.specs.Instance.{bytes}
+use Rattle.finished_words.specs.ListedLaws.{of-bytes}
 use Rattle.reading.specs.Reading.{imageOf}
 use Rattle.reading.specs.Rows.{rows}
 use Rattle.text.specs.Text.{hexBytes, wordText}
 use Rattle.page_outcome.specs.declared.LaidOut.the-variants.{Length, Refused}
 use Rattle.page_outcome.specs.Page.{blanks, regionLine, wordLine, namesAt, smaller, smallest, labelAt, pageLines, pageOf}
-use Rattle.page_outcome.specs.Outcome.{PageOutcome, pageLayout, layoutVerdicts, pageVerdict, pageOutcome}
+use Rattle.page_outcome.specs.Outcome.{pageLayout, layoutVerdicts, pageVerdict, pageOutcome}
 use Rattle.page_outcome.specs.Determined.{SameData, page-determines}
 
 abbrev forAll : (address : ℕ) (name : List ℕ) → List ℕ
@@ -86,7 +86,7 @@ same-page = refl
 
 no-data-bytes : Bytes (noData 0x00400000) × Bytes (noData 4)
 unfolding all
-no-data-bytes = (bytes (noData 0x00400000) refl, bytes (noData 4) refl)
+no-data-bytes = (of-bytes (noData 0x00400000) refl, bytes (noData 4) refl)
 
 pub instance-determines : SameData (imageOf (noData 0x00400000)) (imageOf (noData 4))
 instance-determines = page-determines labels [] (noData 0x00400000) (noData 4) (no-data-bytes .0) (no-data-bytes .1) same-page

@@ -1,14 +1,14 @@
 -- What is still to be put is the lines of the data from `i` on. Assumes nothing.
-use Prim.Native.Nat.{ℕ, _+_, _-_, _*_, _/_, _%_, _≤_, _<_}
+use Prim.Native.Nat.{_+_, _-_, _/_, _%_, _≤_, _<_}
 use native.Mathlib.Omega.{arith}
-use mathlib.Core.List.{List, _++_}
-use mathlib.Core.Path.{_≡_, refl, sym, ap, _∙_, subst}
+use mathlib.Core.List.{_++_}
+use mathlib.Core.Path.{_≡_, refl, _∙_}
 use lib.ListN.{length, take, drop, getD, length-drop, length-take}
 use lib.Seq.{take-all}
 use borrow.Author.Needs.{needs}
 use Rattle.io.specs.Digits.{digits}
 use Rattle.patch.specs.Patches.{wrap32}
-use Rattle.text.specs.Text.{Put, hexBytes}
+use Rattle.text.specs.Text.{hexBytes}
 use Rattle.text.specs.TextLaws.{Left, left-first, left-room, left-next, left-last, left-none, digits-length, hex-length}
 use Rattle.page_outcome.specs.Page.{wordLine, labelAt}
 use Rattle.page_outcome.specs.LinesLaws.{word-length}

@@ -1,8 +1,8 @@
 -- The line of the region's number, and those of its words. Assumes nothing.
-use Prim.Native.Nat.{ℕ, _+_, _-_, _*_, _≤_, _<_}
+use Prim.Native.Nat.{ℕ, _+_, _-_, _≤_}
 use native.Mathlib.Omega.{arith}
 use mathlib.Core.List.{List, _++_}
-use mathlib.Core.Path.{_≡_, sym, ap, subst}
+use mathlib.Core.Path.{_≡_, sym, subst}
 use lib.ListN.{length, take, drop, length-take, length-drop, length-replicate}
 use borrow.Author.Needs.{needs}
 use Rattle.regions.specs.Regions.{regionPlace}

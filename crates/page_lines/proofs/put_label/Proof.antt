@@ -1,9 +1,9 @@
 -- A name of more than 20 bytes is cut, another followed by blanks. Assumes nothing.
-use Prim.Native.Nat.{ℕ, _≤_, _<_}
+use Prim.Native.Nat.{ℕ}
 use mathlib.Core.List.{List}
 use native.Mathlib.Omega.{arith}
-use mathlib.Core.Path.{_≡_, sym, subst}
-use lib.ListN.{length, length-take}
+use mathlib.Core.Path.{sym, subst}
+use lib.ListN.{length-take}
 use lib.Seq.{length-take-le}
 use borrow.Author.Needs.{needs}
 use Rattle.text.specs.TextLaws.{put-then, put-length}

@@ -1,7 +1,7 @@
 -- Two digits, and the blanks behind them. Assumes nothing.
 use Prim.Native.Nat.{ℕ}
 use mathlib.Core.List.{List}
-use mathlib.Core.Path.{_≡_, sym, subst}
+use mathlib.Core.Path.{sym, subst}
 use borrow.Author.Needs.{needs}
 use Rattle.text.specs.Text.{Put}
 use Rattle.text.specs.TextLaws.{put-then}

@@ -1,6 +1,5 @@
 -- The lists and the length are those of the input; of the page buffer one byte more than the limit is held. Assumes nothing.
 use Prim.Native.Nat.{ℕ, min}
-use native.Mathlib.Omega.{arith}
 use mathlib.Core.Path.{_≡_, ap, _∙_, subst}
 use mathlib.Core.List.{List}
 use lib.ListN.{length, take}

@@ -1,17 +1,16 @@
 -- The page stands in the first bytes; where it is refused they are as they were. Assumes nothing.
-use Prim.Native.Nat.{ℕ, _≤_}
 use native.Mathlib.Omega.{arith}
-use mathlib.Core.List.{List, _++_}
-use mathlib.Core.Path.{_≡_, sym, ap, _∙_, subst}
+use mathlib.Core.List.{_++_}
+use mathlib.Core.Path.{_≡_, sym, ap, _∙_}
 use lib.ListN.{length, take, drop}
-use lib.Seq.{length-take-le, length-front}
+use lib.Seq.{length-take-le}
 use borrow.Author.Needs.{needs}
 use Rattle.refusal.specs.Numbers.{numbered}
-use Rattle.text.specs.Text.{Put, refusedLine}
+use Rattle.text.specs.Text.{refusedLine}
 use Rattle.text.specs.TextLaws.{refused-most}
 use Rattle.page_outcome.specs.declared.LaidOut.{LaidOut}
 use Rattle.page_outcome.specs.declared.LaidOut.the-variants.{Length, Refused}
-use Rattle.page_outcome.specs.Outcome.{PageOutcome, pageOutcome}
+use Rattle.page_outcome.specs.Outcome.{pageOutcome}
 use Rattle.page_text.specs.PageText.{outcomeText}
 use Rattle.page_text.specs.PageTextLaws.{page-put, page-refused}
 use Rattle.page_text.proofs.put_page.Statement.{statement}
