@@ -91,7 +91,7 @@ fn put_page(out: &mut [u8], labels: &[u8], regions: &[u8]) -> usize
     end
 }
 
-// How many lines a page has: one for each region, and one for each of its words.
+// How many lines a page has: one for each region, for which the four bytes of its address are counted, and one for each of its words.
 fn count_lines(regions: &[u8]) -> usize
     requires { ⌜ regionLayout (now regions) ≡ Layout.Good ⌝ }
     ensures { λ r. ⌜ (r ≡ lineCount (imageOf (now (regions .entry)))) × (r < 16384) ⌝ }

@@ -86,7 +86,7 @@ same-page = refl
 
 no-data-bytes : Bytes (noData 0x00400000) × Bytes (noData 4)
 unfolding all
-no-data-bytes = (of-bytes (noData 0x00400000) refl, bytes (noData 4) refl)
+no-data-bytes = (of-bytes (noData 0x00400000) refl, of-bytes (noData 4) refl)
 
 pub instance-determines : SameData (imageOf (noData 0x00400000)) (imageOf (noData 4))
 instance-determines = page-determines labels [] (noData 0x00400000) (noData 4) (no-data-bytes .0) (no-data-bytes .1) same-page

@@ -10,7 +10,7 @@ use page_outcome::LaidOut;
 // Room for a page buffer of one byte more than its limit.
 pub const MOST: usize = page_core::LIMIT + 1;
 
-// The length of the page buffer, of which `rest` are the bytes.
+// The length of the page buffer, from the bytes behind the two lists.
 fn length_in(rest: &[u8]) -> usize
     ensures { λ r. ⌜ r ≡ lengthIn (now (rest .entry)) ⌝ }
 {
