@@ -110,7 +110,7 @@
    of nazgwern_build, of which none took more than 38,112, as many by the manual and lines for
    Release 6, of which none took more than these, 20,506 of nazgwern_read_text, of which none took
    more than 928, 1,338 of nazgwern_dry_run, of which none took more than 680, 4,623 of
-   nazgwern_write_out, of which none took more than 7,184, and 1,608 of nazgwern_lay_out, of which
+   nazgwern_write_out, of which none took more than 7,176, and 1,608 of nazgwern_lay_out, of which
    none took more than 51,984; arguments and return address counted. A
    build's stack is mostly the index of its labels, 29,124 bytes, a line's that of its descriptors,
    20,164, and a page's has beside the labels' index 32,768 bytes for the labels of a region's
