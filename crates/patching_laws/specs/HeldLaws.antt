@@ -78,7 +78,7 @@ module _ (job : Job) (labels : Table) (entry : List ℕ) where
     fitting at m = let p = pendingAt waiting at in reached job labels waiting (regionFor base p) p (h .passed at m) .inside
 
     pub inside : (at : ℕ) → List·Memᴰ at (doneIn q b) → InData (regionsOf b) (pendingAt (pendingsOf b) at .region) (slotOf (regionsOf b) (pendingAt (pendingsOf b) at))
-    inside at m = in-data base (pendingAt waiting at) (h .good) (listed at (take-member (q .counts .patches) (orderOf b) at m) .1) (fitting at m)
+    inside at m = in-data base (pendingAt waiting at .region) (pendingAt waiting at .offset) (h .good) (listed at (take-member (q .counts .patches) (orderOf b) at m) .1) (fitting at m)
 
     pub base-holds : Holds labels (regionsOf b) (pendingsOf b) (b .counts .regions) (b .regions)
     base-holds = record { filled = h .regions-within .1; heads = kept-first base (h .good) }

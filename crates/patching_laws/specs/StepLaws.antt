@@ -192,7 +192,7 @@ module _ (job : Job) (labels : Table) (entry : List ℕ) where
         fits = let p = pendingAt waiting at in reached job labels waiting (regionFor base p) p pass .inside
 
         data-at : InData (regionsOf b) (pendingAt (pendingsOf b) at .region) (slotOf (regionsOf b) (pendingAt (pendingsOf b) at))
-        data-at = in-data base (pendingAt waiting at) (h .good) (listed job labels entry q b h at in-order .1) fits
+        data-at = in-data base (pendingAt waiting at .region) (pendingAt waiting at .offset) (h .good) (listed job labels entry q b h at in-order .1) fits
 
         room : slotOf (regionsOf b) (pendingAt (pendingsOf b) at) + 4 ≤ length (q .regions)
         room =

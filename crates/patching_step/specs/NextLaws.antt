@@ -20,7 +20,7 @@ use Rattle.labels.specs.Labels.{Table}
 use Rattle.labels.specs.declared.Address.{Address}
 use Rattle.regions.specs.declared.Region.{Region}
 use Rattle.regions.specs.Regions.{regionLayout, regionCount, regionPlace, regionAt}
-use Rattle.regions.specs.RegionsLaws.{region-good}
+use Rattle.regions.specs.RegionsLaws.{region-good, region-within}
 use Rattle.pending.specs.Pendings.{pendingAt}
 use Rattle.pending.specs.declared.Pending.{Pending}
 use Rattle.patch.specs.Patches.{destination, regionFor, slotOf, pcOf, reachVerdict, patchStop, writeWord, writePending}
@@ -28,7 +28,6 @@ use Rattle.patch.specs.PatchesLaws.{verdict-is}
 use Rattle.build_outcome.specs.Build.{patchOrder, patchVerdict}
 use Rattle.binary_builder.specs.Steps.{mostPendings}
 use Rattle.binary_builder.specs.OrderLaws.{order-count, order-pending, order-region, pendings-few}
-use Rattle.binary_builder.specs.WritesLaws.{region-within}
 use Rattle.patching_outcome.specs.declared.PatchCounts.{PatchCounts}
 use Rattle.patching_outcome.specs.declared.StepAnswer.the-variants.{Patched, Refused}
 use Rattle.patching_outcome.specs.Patching.{patchingOf}

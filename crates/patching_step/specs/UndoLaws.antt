@@ -17,12 +17,11 @@ use Rattle.record.specs.declared.Layout.the-variants.{Good}
 use Rattle.record_growth.specs.PutLaws.{put-length, put-out, take-put}
 use Rattle.regions.specs.declared.Region.{Region}
 use Rattle.regions.specs.Regions.{regionLayout, regionCount, regionPlace, regionAt}
-use Rattle.regions.specs.RegionsLaws.{region-is, region-place-ok, places-apart, places-kept}
+use Rattle.regions.specs.RegionsLaws.{region-is, region-place-ok, region-within, places-apart, places-kept}
 use Rattle.pending.specs.Pendings.{pendingAt}
 use Rattle.pending.specs.declared.Pending.{Pending}
 use Rattle.patch.specs.Patches.{regionFor, slotOf}
 use Rattle.build_outcome.specs.KeptLaws.{InData, in-data, Kept, kept-first, region-same}
-use Rattle.binary_builder.specs.WritesLaws.{region-within}
 use Rattle.patching_outcome.specs.Step.{putBack}
 use Rattle.patching_step.specs.Undo.{backAt, PatchAt, FilledRegions, PatchesAt}
 
@@ -162,7 +161,7 @@ module _ (regions pending kept order whole : List ℕ) (fill n : ℕ) (d : List 
       go false b = (u .filled, u .heads)
       go true b =
           let p = pendingAt pending (getD order n 0) in
-          let i = in-data regions p (u .heads .regions-good) (each .each n here .region-is) (leb-true (p .offset + 4) (regionFor regions p .size) b) in
+          let i = in-data regions (p .region) (p .offset) (u .heads .regions-good) (each .each n here .region-is) (leb-true (p .offset + 4) (regionFor regions p .size) b) in
           let f = bytes-four in
           let l : length (take fill d) ≡ fill = length-take-le fill d (u .filled) in
           let s : slotOf regions p + length (part kept (4 * n) 4) ≤ fill = omega (arith, i .within, u .heads .length-same) in (

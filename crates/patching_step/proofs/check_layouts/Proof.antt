@@ -14,7 +14,8 @@ use Rattle.address_label.specs.Entries.{entryLayout}
 use Rattle.pending.specs.Pendings.{pendingLayout}
 use Rattle.breakpoints.specs.Breakpoints.{filledLayout}
 use Rattle.breakpoints.specs.BreakpointsLaws.{filled-good}
-use Rattle.binary_builder.specs.PlacesLaws.{label-place, entry-place}
+use Rattle.labels.specs.LabelsLaws.{label-place}
+use Rattle.binary_builder.specs.PlacesLaws.{entry-place}
 use Rattle.patching_outcome.specs.Patching.{hasPatched}
 use Rattle.patching_checks.specs.PlacesLaws.{regions-place, pendings-place, kept-place}
 use Rattle.patching_step.specs.Steps.{filledRegions, filledPendings}

@@ -10,7 +10,7 @@ use Rattle.refusal.specs.Verdicts.{nameVerdict}
 use Rattle.refusal.specs.declared.Verdict.the-variants.{Pass, Stop}
 use Rattle.labels.specs.Labels.{labelRepeat, tableOf}
 use Rattle.labels.specs.Lookup.{mostLabels}
-use Rattle.binary_builder.specs.PlacesLaws.{repeat-place}
+use Rattle.labels.specs.LabelsLaws.{repeat-place}
 use Rattle.patching_step.specs.Steps.{LayoutsAre}
 use Rattle.patching_step.specs.StepLaws.{ListsPass, lists-pass, checks-are, step-refuses}
 use Rattle.patching_step.proofs.patch_step.Statement.{statement}
