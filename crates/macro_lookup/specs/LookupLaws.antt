@@ -1,12 +1,12 @@
 -- Laws of a walk over the macro list. Assumes nothing.
 use Prim.Native.Nat.{ℕ, _+_, _-_, _≤_, _<_, min}
 use native.Mathlib.Omega.{arith}
-use mathlib.Core.List.{List, map}
-use mathlib.Core.Bool.{Bool, true, false, _&&_, and-eq-true-iff}
-use mathlib.Core.Path.{_≡_, refl, sym, ap, _∙_}
+use mathlib.Core.List.{List}
+use mathlib.Core.Bool.{true, false, _&&_, and-eq-true-iff}
+use mathlib.Core.Path.{_≡_, sym, ap, _∙_}
 use lib.ListN.{length}
-use lib.Dec.{leb, ltb, eqb}
-use Rattle.record.specs.Bytes.{part, all, sameBytes}
+use lib.Dec.{eqb}
+use Rattle.record.specs.Bytes.{part, sameBytes}
 use Rattle.record.specs.Records.{bodyLen, kindAt, next, whole, places, firstBad, limit}
 use Rattle.record.specs.RecordsLaws.{layoutFrom, places-all, whole-is, good-ok, good-next, limit-good}
 use Rattle.record.specs.declared.Layout.the-variants.{Good}

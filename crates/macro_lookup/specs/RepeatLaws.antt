@@ -1,7 +1,7 @@
 -- Laws of the first macro that has the name of one above it. Assumes nothing.
 use Prim.Native.Nat.{ℕ, _+_, _-_, _≤_, _<_}
 use native.Mathlib.Omega.{arith}
-use mathlib.Core.List.{List, [], _∷_, List·Memᴰ, List·Memᴰ·head, List·Memᴰ·tail}
+use mathlib.Core.List.{List, _∷_, List·Memᴰ, List·Memᴰ·head, List·Memᴰ·tail}
 use mathlib.Core.Bool.{Bool, true, false, not}
 use mathlib.Core.Path.{_≡_, refl, sym, ap, subst, _∙_}
 use lib.ListN.{length}
@@ -11,13 +11,13 @@ use Rattle.record.specs.Bytes.{byteAt, part}
 use Rattle.record.specs.Records.{next, whole, placesFrom, places, firstBad}
 use Rattle.record.specs.RecordsLaws.{layoutFrom, places-all, places-step, places-end, good-ok, good-next, limit-good}
 use Rattle.record.specs.declared.Layout.the-variants.{Good}
-use Rattle.names.specs.Names.{firstWhere, isAt, firstLater}
-use Rattle.names.specs.declared.Repeat.{Repeat}
+use Rattle.names.specs.Names.{firstLater}
+use Rattle.names.specs.NamesLaws.{later-hit, later-pass}
 use Rattle.names.specs.declared.Repeat.the-variants.{None, Later}
-use Rattle.macros.specs.Macros.{nameAt, nameOk, macroOf, bodyAt, macroAtOk, macroLayout, sameMacro, macroRepeat}
+use Rattle.macros.specs.Macros.{nameAt, macroOf, bodyAt, macroAtOk, macroLayout, sameMacro, macroRepeat}
 use Rattle.written_out.specs.Above.{macroAt, above, Found, missing, found}
 use Rattle.written_out.specs.OwnName.{first-if, later-if}
-use Rattle.macro_lookup.specs.Lookup.{MacroIs, At, later}
+use Rattle.macro_lookup.specs.Lookup.{At, later}
 use Rattle.macro_lookup.specs.LookupLaws.{macro-is}
 
 pub later-is : (s : List ℕ) (at k : ℕ) → At s at → Found s (macroAt s at .name) at at k → ltb k at ≡ later s at
@@ -38,12 +38,12 @@ turned false true e = refl
 turned false false e = sym e
 
 by-hit : (s : List ℕ) (at : ℕ) (ps : List ℕ) → later s at ≡ true → firstLater (sameMacro s) (places s) (at ∷ ps) ≡ Later at
-unfolding later firstLater
-by-hit s at ps e = let f : isAt (firstWhere (sameMacro s at) (places s)) at ≡ false = turned _ true e in rw (f, firstLater)
+unfolding later
+by-hit s at ps e = later-hit (sameMacro s) (places s) at ps (turned _ true e)
 
 by-pass : (s : List ℕ) (at : ℕ) (ps : List ℕ) → later s at ≡ false → firstLater (sameMacro s) (places s) (at ∷ ps) ≡ firstLater (sameMacro s) (places s) ps
-unfolding later firstLater
-by-pass s at ps e = let f : isAt (firstWhere (sameMacro s at) (places s)) at ≡ true = turned _ false e in rw (f, firstLater)
+unfolding later
+by-pass s at ps e = later-pass (sameMacro s) (places s) at ps (turned _ false e)
 
 -- ---- from a place on
 pub record Looked (s : List ℕ) (at : ℕ) : Type 0 where

@@ -1,5 +1,4 @@
 // What `expand` does (document 02, P8), from the bytes that it reads to those that it prints.
-ghost use mathlib.Core.Path.{_≡_};
 ghost use Prim.Native.Nat.{_≤_};
 ghost use lib.ListN.{length};
 ghost use Rattle.text.specs.Text.{Put};

@@ -1,7 +1,7 @@
 -- A call's arguments by their places. Assumes nothing.
 use Prim.Native.Nat.{ℕ, _+_, _≤_, _<_}
 use mathlib.Core.List.{List, map}
-use mathlib.Core.Bool.{Bool, true, false, _||_}
+use mathlib.Core.Bool.{true, false, _||_}
 use mathlib.Core.Path.{_≡_}
 use lib.ListN.{length, getD, take, set}
 use lib.Dec.{ltb, eqb}

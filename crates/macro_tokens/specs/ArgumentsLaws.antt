@@ -1,23 +1,22 @@
 -- Laws of a call's arguments, one token after the other. Assumes nothing.
-use Prim.Native.Nat.{ℕ, zero, suc, _+_, _-_, _≤_, _<_}
+use Prim.Native.Nat.{ℕ, _+_, _-_, _≤_, _<_}
 use native.Mathlib.Numerals.{add-one}
 use native.Mathlib.Omega.{arith}
 use mathlib.Core.List.{List, [], _∷_, _++_, map, map-append, append-assoc, append-nil}
 use mathlib.Core.Bool.{Bool, true, false, _||_}
-use mathlib.Core.Logic.{⊎-elim}
-use mathlib.Core.Path.{_≡_, refl, sym, ap, ap₂, subst, _∙_}
+use mathlib.Core.Path.{_≡_, refl, sym, ap, subst, _∙_}
 use lib.ListN.{length, getD, take, set, length-set}
 use lib.Seq.{take-suc-set, getD-set-same, getD-set-other}
 use lib.Dec.{ltb, eqb}
 use borrow.Author.Tests.{lt-ltb, le-ltb, ltb-true, ltb-false, eq-eqb, ne-eqb, eqb-true, eqb-false}
-use Rattle.record.specs.Records.{kindAt, next, limit}
+use Rattle.record.specs.Records.{kindAt, next}
 use Rattle.line_heads.specs.Lines.{isComment, isComma, isNewLine}
 use Rattle.written_out.specs.Written.{arguments}
 use Rattle.written_out.specs.Walk.{lineOf}
 use Rattle.macro_tokens.specs.declared.Body.{Body}
 use Rattle.macro_tokens.specs.declared.Taken.{Taken}
 use Rattle.macro_tokens.specs.Places.{recordOf, TokenIn, placeOf, readFrom, ReadableFrom}
-use Rattle.macro_tokens.specs.PlacesLaws.{token, read-on, read-here, read-end, place-in}
+use Rattle.macro_tokens.specs.PlacesLaws.{read-on, read-here, read-end, place-in}
 use Rattle.macro_tokens.specs.Arguments.{withOne, withToken, argumentsFrom, Takes}
 
 -- ---- one token more

@@ -1,20 +1,20 @@
 -- Laws of what is done with a token. Assumes nothing.
 use Prim.Native.Nat.{ℕ, _≤_, _<_}
 use native.Mathlib.Omega.{arith}
-use mathlib.Core.List.{List, [], _∷_}
-use mathlib.Core.Bool.{Bool, true, false, _||_}
+use mathlib.Core.List.{List}
+use mathlib.Core.Bool.{Bool, true, false}
 use mathlib.Core.Path.{_≡_, refl, sym, ap, subst, _∙_}
 use lib.Dec.{eqb}
 use borrow.Author.Tests.{eq-eqb, ne-eqb}
 use Rattle.record.specs.Records.{kindAt}
 use Rattle.lexer.specs.Tokens.{textOf}
-use Rattle.line_heads.specs.Lines.{isComment, isSymbol, isNewLine, startsColon}
+use Rattle.line_heads.specs.Lines.{startsColon}
 use Rattle.written_out.specs.declared.Mode.{Mode}
 use Rattle.written_out.specs.declared.Mode.the-variants.{Leading, Labelled, Copied, LeftOut}
-use Rattle.written_out.specs.Written.{Called, no-macro, macro, called}
+use Rattle.written_out.specs.Written.{no-macro, macro, called}
 use Rattle.written_out.specs.Above.{macroAt, above, Found, missing, found}
 use Rattle.macro_lookup.specs.Lookup.{CalleeIs}
-use Rattle.written_out.specs.Acts.{Act as Done, write-on, pass, call, actByName, leadingOf, actOf}
+use Rattle.written_out.specs.Acts.{Act as Done, write-on, actByName, leadingOf, actOf}
 use Rattle.macro_tokens.specs.declared.Act.{Act}
 use Rattle.macro_tokens.specs.declared.Act.the-variants.{Write, Pass, Call}
 use Rattle.macro_tokens.specs.Meant.{ActIs}

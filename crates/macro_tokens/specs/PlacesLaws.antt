@@ -9,19 +9,16 @@ use lib.Seq.{length-take-le, getD-take}
 use lib.Dec.{ltb, eqb}
 use borrow.Author.Tests.{lt-ltb, le-ltb, ltb-true, ltb-false, eq-eqb, ne-eqb, eqb-true, eqb-false}
 use Rattle.record.specs.Bytes.{locationAt}
-use Rattle.record.specs.Records.{bodyLen, kindAt, next, placesFrom}
-use Rattle.record.specs.RecordsLaws.{layoutFrom, good-ok, good-next, places-step, places-end}
-use Rattle.record.specs.declared.Layout.the-variants.{Good}
-use Rattle.record.specs.declared.Location.{Location}
+use Rattle.record.specs.Records.{bodyLen, kindAt, next}
+use Rattle.record.specs.RecordsLaws.{good-ok, good-next, places-step, places-end}
 use Rattle.lexer.specs.Tokens.{textOf, tokenOk, TokenIs}
 use Rattle.lexer.specs.TokensLaws.{token-is}
 use Rattle.line_heads.specs.Lines.{recordAt, isParameter}
 use Rattle.line_heads.specs.RecordLaws.{kind-in, location-in, text-in, length-in, recordsFrom, records-end, records-step}
-use Rattle.macros.specs.Macros.{Macro, nameAt, namePlaces, indexOf}
-use Rattle.macros.specs.NamesLaws.{names-length}
+use Rattle.macros.specs.Macros.{indexOf}
 use Rattle.written_out.specs.Written.{putIn}
 use Rattle.macro_tokens.specs.declared.Body.{Body}
-use Rattle.macro_tokens.specs.Places.{recordOf, TokenIn, parametersIn, numberAt, placeOf, readFrom, Readable, ReadableFrom}
+use Rattle.macro_tokens.specs.Places.{recordOf, TokenIn, parametersIn, numberAt, placeOf, readFrom, ReadableFrom}
 
 -- ---- what is read at a place of either list
 module _ (text macros : List ℕ) (p : ℕ) where

@@ -1,5 +1,5 @@
 -- Laws of the layout of a macro list: each way that the test of a macro goes. Assumes nothing.
-use Prim.Native.Nat.{ℕ, suc, _+_, _-_, _≤_, _<_}
+use Prim.Native.Nat.{ℕ, _+_, _-_, _≤_, _<_}
 use native.Mathlib.Omega.{arith}
 use mathlib.Core.List.{List, map}
 use mathlib.Core.Bool.{Bool, true, false, _&&_, and-eq-true-iff}
@@ -8,14 +8,14 @@ use lib.ListN.{length, take, drop, length-drop}
 use lib.Seq.{take-all}
 use lib.Dec.{leb, ltb, eqb}
 use borrow.Author.Tests.{lt-ltb, le-ltb, le-leb, lt-leb, ltb-true, leb-true, eq-eqb, ne-eqb}
-use Rattle.record.specs.Bytes.{byteAt, part, all}
+use Rattle.record.specs.Bytes.{part, all}
 use Rattle.record.specs.Records.{bodyLen, kindAt, next, whole, places, firstBad, limit}
 use Rattle.record.specs.RecordsLaws.{layoutFrom, places-all, limit-kept, limit-passed}
 use Rattle.record.specs.declared.Layout.{Layout}
 use Rattle.record.specs.declared.Layout.the-variants.{Good, Bad}
 use Rattle.lexer.specs.Tokens.{tokenLayout}
 use Rattle.line_heads.specs.Lines.{recordsOf}
-use Rattle.macros.specs.Macros.{nameAt, behindName, nameOk, namePlaces, behindNames, countOf, parameterPlaces, bodyTokens, macroOf, different, known, isGood, namesOk, macroOk, bodyAt, macroAtOk, macroLayout}
+use Rattle.macros.specs.Macros.{nameAt, behindName, nameOk, behindNames, countOf, parameterPlaces, bodyTokens, macroOf, different, known, isGood, macroOk, bodyAt, macroAtOk, macroLayout}
 
 module _ (b : List ℕ) where
   -- the tests, in order

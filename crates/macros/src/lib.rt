@@ -4,7 +4,7 @@ ghost use mathlib.Core.Bool.{true};
 ghost use mathlib.Core.List.{map};
 ghost use Prim.Native.Nat.{_+_, _≤_, _<_};
 ghost use lib.ListN.{length};
-ghost use Rattle.record.specs.Bytes.{part, all};
+ghost use Rattle.record.specs.Bytes.{all};
 ghost use Rattle.record.specs.declared.Layout.the-variants.{Good};
 ghost use Rattle.lexer.specs.Tokens.{TokenIs, tokenLayout};
 ghost use Rattle.line_heads.specs.Lines.{recordAt, recordsOf};

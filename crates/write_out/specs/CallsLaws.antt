@@ -1,14 +1,14 @@
 -- Laws of calls: the body of a macro, and the token list itself, as bodies that are read. Assumes nothing.
-use Prim.Native.Nat.{ℕ, zero, suc, _+_, _-_, _*_, _≤_, _<_}
+use Prim.Native.Nat.{ℕ, zero, suc, _+_, _-_, _≤_, _<_}
 use native.Mathlib.Omega.{arith}
-use mathlib.Core.List.{List, [], _∷_, _++_, map, reverse}
+use mathlib.Core.List.{List, [], _∷_, map, reverse}
 use mathlib.Core.Bool.{Bool, true, false, _&&_, and-eq-true-iff}
 use mathlib.Core.Path.{_≡_, refl, sym, ap, ap₂, subst, _∙_}
-use lib.ListN.{length, getD, take, drop}
+use lib.ListN.{length, take}
 use lib.Dec.{eqb}
-use borrow.Author.Tests.{eq-eqb, ne-eqb, eqb-true, eqb-false}
-use Rattle.record.specs.Bytes.{all, part}
-use Rattle.record.specs.Records.{bodyLen, kindAt, next, whole, places, placesFrom, firstBad, limit}
+use borrow.Author.Tests.{eqb-true, eqb-false}
+use Rattle.record.specs.Bytes.{all}
+use Rattle.record.specs.Records.{bodyLen, kindAt, next, whole, places, firstBad, limit}
 use Rattle.record.specs.RecordsLaws.{places-all, whole-is, limit-good}
 use Rattle.record.specs.declared.Layout.the-variants.{Good}
 use Rattle.record.specs.declared.Location.{Location}
@@ -16,29 +16,27 @@ use Rattle.refusal.specs.declared.Refusal.{Refusal}
 use Rattle.refusal.specs.declared.Refusal.the-variants.{WrongArguments, NinthLevel}
 use Rattle.refusal.specs.declared.Verdict.{Verdict}
 use Rattle.refusal.specs.declared.Verdict.the-variants.{Pass, Stop}
-use Rattle.lexer.specs.Tokens.{TokenIs, tokenLayout, textOf}
+use Rattle.lexer.specs.Tokens.{TokenIs, tokenLayout}
 use Rattle.lexer.specs.TokensLaws.{token-good}
-use Rattle.line_heads.specs.Lines.{recordAt, recordsOf, lines, isParameter}
+use Rattle.line_heads.specs.Lines.{recordAt, recordsOf, isParameter}
 use Rattle.line_heads.specs.RecordLaws.{recordsFrom}
-use Rattle.macros.specs.Macros.{Macro, nameAt, behindName, nameOk, namePlaces, behindNames, countOf, parameterPlaces, bodyTokens, indexOf, macroOf, macroOk, bodyAt, macroAtOk, macroLayout, macrosOf, headOf}
+use Rattle.macros.specs.Macros.{Macro, nameAt, behindName, namePlaces, countOf, parameterPlaces, indexOf, macroOf, macroOk, bodyAt, macroAtOk, macroLayout, macrosOf, headOf}
 use Rattle.macros.specs.NamesLaws.{names-length}
 use Rattle.macros.specs.KnownLaws.{good-first}
 use Rattle.macros.specs.LayoutLaws.{Parts, parts-of}
-use Rattle.macros.specs.declared.Head.{Head}
 use Rattle.written_out.specs.declared.Mode.the-variants.{Leading}
-use Rattle.written_out.specs.Written.{Step, stop, Replacing, putIn, counted, linesSteps, replaced, writtenOut}
+use Rattle.written_out.specs.Written.{Step, stop, putIn, counted, replaced, writtenOut}
 use Rattle.written_out.specs.Walk.{walk, walk-is}
 use Rattle.written_out.specs.Above.{macroAt, above}
 use Rattle.written_out.specs.AboveLaws.{above-end}
 use Rattle.macro_tokens.specs.declared.Body.{Body}
 use Rattle.macro_tokens.specs.declared.Taken.{Taken}
-use Rattle.macro_tokens.specs.Places.{recordOf, TokenIn, readFrom, Readable, ReadableFrom}
+use Rattle.macro_tokens.specs.Places.{recordOf, readFrom, ReadableFrom}
 use Rattle.macro_tokens.specs.PlacesLaws.{record-text, record-macros, read-is}
 use Rattle.macro_tokens.specs.PartLaws.{length-part, token-part, record-part, records-drop, good-drop}
 use Rattle.macro_tokens.specs.Arguments.{Takes}
-use Rattle.write_out.specs.declared.Called.{Called}
 use Rattle.write_out.specs.Body.{stepsFrom, Ready}
-use Rattle.write_out.specs.Calls.{callVerdict, Opened, CallIs}
+use Rattle.write_out.specs.Calls.{callVerdict, CallIs}
 
 -- ---- a call by its levels
 module _ (l : Location) (m : Macro) (ms : List Macro) (given : List (List ℕ)) where

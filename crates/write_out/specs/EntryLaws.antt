@@ -1,11 +1,10 @@
 -- Laws of the call's checks, and its outcome by what its two passes answer and leave. Assumes nothing.
-use Prim.Native.Nat.{ℕ, _+_, _≤_, _<_}
+use Prim.Native.Nat.{ℕ, _≤_, _<_}
 use native.Mathlib.Omega.{arith}
-use mathlib.Core.List.{List, [], _∷_}
-use mathlib.Core.Bool.{Bool, true, false, false≢true}
-use mathlib.Core.Path.{_≡_, refl, sym, ap, ap₂, _∙_}
+use mathlib.Core.List.{List}
+use mathlib.Core.Bool.{true, false, false≢true}
+use mathlib.Core.Path.{_≡_, refl, sym, ap, _∙_}
 use lib.ListN.{length}
-use lib.Dec.{leb}
 use borrow.Author.Tests.{le-leb, lt-leb}
 use Rattle.record.specs.Records.{places, firstBad, limit, withinLimit}
 use Rattle.record.specs.RecordsLaws.{limit-good, first-limit}
@@ -15,9 +14,9 @@ use Rattle.record.specs.declared.Layout.{Layout}
 use Rattle.record.specs.declared.Layout.the-variants.{Good, Bad}
 use Rattle.names.specs.NamesLaws.{later-place}
 use Rattle.names.specs.declared.Repeat.{Repeat}
-use Rattle.names.specs.declared.Repeat.the-variants.{None, Later}
+use Rattle.names.specs.declared.Repeat.the-variants.{Later}
 use Rattle.refusal.specs.declared.Refusal.{Refusal}
-use Rattle.refusal.specs.declared.Refusal.the-variants.{BadLayout, DuplicateName}
+use Rattle.refusal.specs.declared.Refusal.the-variants.{BadLayout}
 use Rattle.refusal.specs.declared.Verdict.{Verdict}
 use Rattle.refusal.specs.declared.Verdict.the-variants.{Pass, Stop}
 use Rattle.refusal.specs.Verdicts.{andThen, layoutVerdict, nameVerdict}
@@ -27,7 +26,7 @@ use Rattle.macros.specs.Macros.{macroAtOk, macroLayout, sameMacro, macroRepeat}
 use Rattle.written_out.specs.declared.WriteOutAnswer.{WriteOutAnswer}
 use Rattle.written_out.specs.declared.WriteOutAnswer.the-variants.{Written, Refused}
 use Rattle.written_out.specs.Written.{Step, writtenOut}
-use Rattle.written_out.specs.Outcome.{answerFrom, bytesOf, writeOutStop, answerAfter, leaves, WriteOutOutcome, outcomeOf, writeOutOutcome}
+use Rattle.written_out.specs.Outcome.{answerFrom, bytesOf, writeOutStop, answerAfter, leaves, outcomeOf, writeOutOutcome}
 use Rattle.macro_tokens.specs.Places.{only}
 use Rattle.write_out.specs.Body.{writtenFrom}
 use Rattle.write_out.specs.FillLaws.{written-all}

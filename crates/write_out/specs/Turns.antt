@@ -1,6 +1,5 @@
 -- One turn of the loop over a body: what the next token is met with. Assumes nothing.
 use Prim.Native.Nat.{ℕ, _+_, _-_, _≤_, _<_}
-use native.Mathlib.Omega.{arith}
 use mathlib.Core.List.{List, [], _∷_, _++_}
 use mathlib.Core.Path.{_≡_, refl, sym, ap, subst, _∙_}
 use lib.ListN.{length}
@@ -9,7 +8,7 @@ use Rattle.lexer.specs.Tokens.{TokenIs}
 use Rattle.written_out.specs.declared.Mode.{Mode}
 use Rattle.written_out.specs.Written.{Step, replaced}
 use Rattle.written_out.specs.Walk.{walk}
-use Rattle.written_out.specs.Acts.{Act as Done, actOf, byAct, walk-act}
+use Rattle.written_out.specs.Acts.{actOf, byAct, walk-act}
 use Rattle.written_out.specs.Above.{above}
 use Rattle.macro_tokens.specs.declared.Act.{Act}
 use Rattle.macro_tokens.specs.declared.Act.the-variants.{Write, Pass, Call}

@@ -6,7 +6,7 @@ use mathlib.Core.Path.{_≡_}
 use lib.Dec.{ltb}
 use Rattle.record.specs.Records.{places}
 use Rattle.macros.specs.Macros.{Macro, macroOf, bodyAt}
-use Rattle.written_out.specs.Written.{Called, no-macro, macro, called}
+use Rattle.written_out.specs.Written.{no-macro, macro, called}
 
 abbrev pub macroAt : List ℕ → ℕ → Macro
 macroAt s p = macroOf (bodyAt s p)

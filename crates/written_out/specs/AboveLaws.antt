@@ -1,18 +1,18 @@
 -- Laws of the macros before a place of the macro list, and of the one of a name, found from the first place on. Assumes nothing.
-use Prim.Native.Nat.{ℕ, zero, suc, _+_, _≤_, _<_, min}
+use Prim.Native.Nat.{ℕ, _≤_, _<_, min}
 use native.Mathlib.Omega.{arith}
-use mathlib.Core.List.{List, [], _∷_, _++_, map, reverse, reverseAux}
+use mathlib.Core.List.{List, [], _∷_, map, reverse, reverseAux}
 use mathlib.Core.Bool.{Bool, true, false}
-use mathlib.Core.Path.{_≡_, refl, sym, ap, ap₂, _∙_}
+use mathlib.Core.Path.{_≡_, refl, sym, ap, _∙_}
 use mathlib.Core.Logic.{⊎-elim}
 use lib.ListN.{length}
-use lib.Dec.{ltb, leb}
+use lib.Dec.{leb}
 use borrow.Author.Tests.{lt-ltb, le-ltb, leb-true, leb-false}
 use Rattle.record.specs.Bytes.{sameBytes}
 use Rattle.record.specs.Records.{next, whole, placesFrom, places}
-use Rattle.record.specs.RecordsLaws.{places-all, places-step, places-end, places-cons, whole-is}
-use Rattle.macros.specs.Macros.{Macro, macroOf, bodyAt, macrosOf}
-use Rattle.written_out.specs.Written.{Called, no-macro, macro, called}
+use Rattle.record.specs.RecordsLaws.{places-all, places-step, places-end, places-cons}
+use Rattle.macros.specs.Macros.{Macro, macrosOf}
+use Rattle.written_out.specs.Written.{macro, called}
 use Rattle.written_out.specs.Above.{macroAt, aboveFrom, above, Found, missing, found}
 
 module _ (s : List ℕ) where

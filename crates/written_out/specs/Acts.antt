@@ -1,8 +1,8 @@
 -- What is done with the next token, and the walk by it: one equation for each arm of a loop. Assumes nothing.
 use Prim.Native.Nat.{ℕ}
-use mathlib.Core.List.{List, [], _∷_, _++_}
+use mathlib.Core.List.{List, _∷_, _++_}
 use mathlib.Core.Bool.{Bool, true, false, _||_}
-use mathlib.Core.Path.{_≡_, refl, sym, _∙_}
+use mathlib.Core.Path.{_≡_, refl}
 use Rattle.record.specs.Bytes.{locationAt}
 use Rattle.lexer.specs.Tokens.{textOf}
 use Rattle.line_heads.specs.Lines.{isComment, isSymbol, isNewLine, startsColon}

@@ -2,10 +2,9 @@
 use Prim.Native.Nat.{ℕ, _+_, _≤_}
 use native.Mathlib.Omega.{arith}
 use mathlib.Core.List.{List, [], _∷_, _++_, map, reverse}
-use mathlib.Core.Bool.{Bool, true, false}
-use mathlib.Core.Path.{_≡_, refl, sym, ap, ap₂, _∙_}
+use mathlib.Core.Bool.{true}
+use mathlib.Core.Path.{_≡_, ap, ap₂, _∙_}
 use lib.ListN.{length, take, length-append}
-use lib.Dec.{leb}
 use borrow.Author.Tests.{le-leb}
 use Rattle.record.specs.Records.{limit, withinLimit}
 use Rattle.record.specs.RecordsLaws.{limit-kept}
@@ -19,9 +18,8 @@ use Rattle.refusal.specs.Verdicts.{andThen, layoutVerdict, nameVerdict}
 use Rattle.lexer.specs.Tokens.{tokenLayout}
 use Rattle.line_heads.specs.Lines.{lines, recordsOf}
 use Rattle.macros.specs.Macros.{macroLayout, macrosOf, macroRepeat}
-use Rattle.written_out.specs.declared.WriteOutAnswer.{WriteOutAnswer}
 use Rattle.written_out.specs.declared.WriteOutAnswer.the-variants.{Written}
-use Rattle.written_out.specs.Written.{Step, write, writtenOut}
+use Rattle.written_out.specs.Written.{write, writtenOut}
 use Rattle.written_out.specs.Outcome.{answerFrom, bytesOf, writeOutStop, answerAfter, writeOutOutcome}
 use Rattle.written_out.specs.AsItself.{noCalls, as-itself}
 use Rattle.written_out.specs.AsBytes.{joined-records}

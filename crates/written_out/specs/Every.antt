@@ -2,16 +2,15 @@
 use Prim.Native.Nat.{ℕ, zero, suc}
 use mathlib.Core.List.{List, [], _∷_, _++_, map, reverse, reverseAux, List·Memᴰ, List·Memᴰ·head, List·Memᴰ·tail}
 use mathlib.Core.Bool.{Bool, true, false, _||_}
-use mathlib.Core.Path.{_≡_, refl, sym, ap, subst, _∙_}
+use mathlib.Core.Path.{refl, sym, subst}
 use mathlib.Core.Logic.{_⊎_, inl, inr}
 use lib.ListN.{length, getD}
 use lib.Dec.{eqb}
 use Rattle.record.specs.Bytes.{sameBytes, locationAt}
-use Rattle.record.specs.Records.{places}
 use Rattle.record.specs.declared.Location.{Location}
 use Rattle.lexer.specs.Tokens.{textOf}
 use Rattle.line_heads.specs.Lines.{isComment, isParameter, isSymbol, isComma, isNewLine, startsColon, lines, recordsOf}
-use Rattle.macros.specs.Macros.{Macro, indexOf, macroOf, bodyAt, macrosOf}
+use Rattle.macros.specs.Macros.{Macro, indexOf, macrosOf}
 use Rattle.written_out.specs.Written.{Step, write, stop, Called, no-macro, macro, Replacing, arguments, putIn, called, replaced, linesSteps, writtenOut}
 use Rattle.written_out.specs.declared.Mode.{Mode}
 use Rattle.written_out.specs.declared.Mode.the-variants.{Leading, Labelled, Copied, LeftOut}

@@ -1,29 +1,27 @@
 -- What is written keeps the layout of a token list, so an emit call takes it. Assumes nothing.
-use Prim.Native.Nat.{ℕ, zero, suc, _+_, _≤_}
+use Prim.Native.Nat.{ℕ, _+_, _≤_}
 use native.Mathlib.Omega.{arith}
 use mathlib.Core.List.{List, [], _∷_, _++_, map}
-use mathlib.Core.Bool.{Bool, true, false, not, _&&_, and-eq-true-iff}
-use mathlib.Core.Path.{_≡_, refl, sym, ap, ap₂, subst, _∙_}
-use lib.ListN.{length, take, drop, length-append}
-use lib.Seq.{take-append-le}
-use lib.Dec.{leb, ltb, eqb}
+use mathlib.Core.Bool.{Bool, true, false, _&&_, and-eq-true-iff}
+use mathlib.Core.Path.{_≡_, refl, sym, ap, ap₂, _∙_}
+use lib.ListN.{length, take, length-append}
+use lib.Dec.{leb, eqb}
 use borrow.Author.Tests.{leb-true}
-use Rattle.record.specs.Bytes.{all, sameBytes, locationAt}
+use Rattle.record.specs.Bytes.{locationAt}
 use Rattle.record.specs.Records.{kindAt, whole, places, firstBad, withinLimit, limit}
 use Rattle.record.specs.RecordsLaws.{first-good, limit-good, limit-kept}
 use Rattle.record.specs.Stores.{append}
 use Rattle.record.specs.StoresLaws.{filled-append}
-use Rattle.record.specs.declared.Layout.{Layout}
-use Rattle.record.specs.declared.Layout.the-variants.{Good, Bad}
+use Rattle.record.specs.declared.Layout.the-variants.{Good}
 use Rattle.refusal.specs.declared.Refusal.the-variants.{NoWrittenSpace}
 use Rattle.refusal.specs.declared.Verdict.{Verdict}
 use Rattle.refusal.specs.declared.Verdict.the-variants.{Pass, Stop}
-use Rattle.refusal.specs.Verdicts.{layoutVerdict, nameVerdict, andThen}
+use Rattle.refusal.specs.Verdicts.{layoutVerdict, nameVerdict}
 use Rattle.refusal.specs.VerdictsLaws.{both-pass, layout-pass}
 use Rattle.lexer.specs.Tokens.{tokenOk, tokenLayout}
-use Rattle.lexer.specs.TokensLaws.{token-good, token-kept}
+use Rattle.lexer.specs.TokensLaws.{token-good}
 use Rattle.line_heads.specs.Lines.{recordAt, recordsOf}
-use Rattle.macros.specs.Macros.{Macro, bodyTokens, macroOf, macroOk, bodyAt, macroAtOk, macroLayout, macrosOf, macroRepeat}
+use Rattle.macros.specs.Macros.{bodyTokens, macroOf, macroOk, bodyAt, macroAtOk, macroLayout, macrosOf, macroRepeat}
 use Rattle.macros.specs.LayoutLaws.{parts-of}
 use Rattle.written_out.specs.declared.WriteOutAnswer.{WriteOutAnswer}
 use Rattle.written_out.specs.declared.WriteOutAnswer.the-variants.{Written, Refused}

@@ -13,7 +13,6 @@ use Rattle.refusal.specs.declared.Refusal.the-variants.{WrongArguments, NoWritt
 use Rattle.lexer.specs.Tokens.{textOf}
 use Rattle.line_heads.specs.Lines.{Line, isSymbol, lines, leads, recordsOf}
 use Rattle.macros.specs.Macros.{Macro, macrosOf}
-use Rattle.written_out.specs.declared.WriteOutAnswer.{WriteOutAnswer}
 use Rattle.written_out.specs.declared.WriteOutAnswer.the-variants.{Written, Refused}
 use Rattle.written_out.specs.Written.{Step, write, stop, macro, Replacing, arguments, putIn, called, byName, fromHead, counted, lineSteps, linesSteps, replaced, writtenOut}
 use Rattle.written_out.specs.Outcome.{answerFrom, writeOutOutcome}

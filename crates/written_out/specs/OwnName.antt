@@ -1,20 +1,21 @@
 -- "A name not above is treated as an ordinary mnemonic": in a macro's body its own name, and those of the macros below, call nothing. Assumes nothing.
-use Prim.Native.Nat.{ℕ, _+_, _≤_, _<_}
+use Prim.Native.Nat.{ℕ, _≤_, _<_}
 use native.Mathlib.Omega.{arith}
 use mathlib.Core.List.{List, [], _∷_, List·Memᴰ, List·Memᴰ·cases-cons}
 use mathlib.Core.Logic.{⊎-elim}
 use mathlib.Core.Bool.{Bool, true, false}
-use mathlib.Core.Path.{_≡_, refl, sym, ap, subst, _∙_}
-use lib.Dec.{ltb, eqb}
+use mathlib.Core.Path.{_≡_, refl, sym, ap, _∙_}
+use lib.Dec.{ltb}
 use borrow.Author.Tests.{lt-ltb, ltb-true, eq-eqb, eqb-true}
 use Rattle.record.specs.Bytes.{sameBytes}
 use Rattle.record.specs.BytesLaws.{eq-same}
 use Rattle.record.specs.Records.{next, placesFrom, places}
 use Rattle.record.specs.RecordsLaws.{places-all, places-cons}
 use Rattle.names.specs.Names.{firstWhere, isAt, firstLater}
+use Rattle.names.specs.NamesLaws.{later-hit, later-pass}
 use Rattle.names.specs.declared.Named.{Named}
 use Rattle.names.specs.declared.Named.the-variants.{At, Missing}
-use Rattle.names.specs.declared.Repeat.the-variants.{None, Later}
+use Rattle.names.specs.declared.Repeat.the-variants.{None}
 use Rattle.macros.specs.Macros.{Macro, nameAt, macroOf, bodyAt, sameMacro, macroRepeat}
 use Rattle.written_out.specs.Written.{no-macro, macro, called}
 use Rattle.written_out.specs.Above.{macroAt, aboveFrom, above}
@@ -23,14 +24,6 @@ at-is : (n : Named) (p : ℕ) → isAt n p ≡ true → n ≡ At p
 at-is (At q) p e = ap At (eqb-true q p e)
 at-is Missing p e = let z : _≡_ {A = ℕ} 0 1 = cc in absurd (omega arith)
 
-later-pass : (s list : List ℕ) (p : ℕ) (ps : List ℕ) → isAt (firstWhere (sameMacro s p) list) p ≡ true → firstLater (sameMacro s) list (p ∷ ps) ≡ firstLater (sameMacro s) list ps
-unfolding firstLater
-later-pass s list p ps e = rw (e, firstLater)
-
-later-hit : (s list : List ℕ) (p : ℕ) (ps : List ℕ) → isAt (firstWhere (sameMacro s p) list) p ≡ false → firstLater (sameMacro s) list (p ∷ ps) ≡ Later p
-unfolding firstLater
-later-hit s list p ps e = rw (e, firstLater)
-
 -- where no name repeats, the first macro of a macro's name is that macro
 first-of : (s list ps : List ℕ) → firstLater (sameMacro s) list ps ≡ None → (q : ℕ) → List·Memᴰ q ps → firstWhere (sameMacro s q) list ≡ At q
 first-of s list [] e q m = elim m [ ]
@@ -38,9 +31,9 @@ first-of s list (p ∷ ps) e q m = go (isAt (firstWhere (sameMacro s p) list) p)
   where
     go : (b : Bool) → isAt (firstWhere (sameMacro s p) list) p ≡ b
         → (firstLater (sameMacro s) list ps ≡ None → (r : ℕ) → List·Memᴰ r ps → firstWhere (sameMacro s r) list ≡ At r) → firstWhere (sameMacro s q) list ≡ At q
-    go true b ih = ⊎-elim (λ (h : q ≡ p). ap (λ (r : ℕ). firstWhere (sameMacro s r) list) h ∙ at-is _ p b ∙ ap At (sym h)) (λ t. ih (sym (later-pass s list p ps b) ∙ e) q t) (List·Memᴰ·cases-cons m)
+    go true b ih = ⊎-elim (λ (h : q ≡ p). ap (λ (r : ℕ). firstWhere (sameMacro s r) list) h ∙ at-is _ p b ∙ ap At (sym h)) (λ t. ih (sym (later-pass (sameMacro s) list p ps b) ∙ e) q t) (List·Memᴰ·cases-cons m)
     go false b ih =
-        let l = later-hit s list p ps b in
+        let l = later-hit (sameMacro s) list p ps b in
         let z : _≡_ {A = ℕ} 0 1 = cc in
         absurd (omega arith)
 

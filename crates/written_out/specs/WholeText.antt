@@ -1,12 +1,11 @@
 -- "The words equal those of the written-out text", and 24 to 26 come "before any line is emitted": over whole texts, for every way of
 -- emitting a line. Assumes nothing.
-use Prim.Native.Nat.{ℕ, _≤_}
+use Prim.Native.Nat.{ℕ}
 use native.Mathlib.Omega.{arith}
-use mathlib.Core.List.{List, [], _∷_, map, reverse}
-use mathlib.Core.Bool.{true}
+use mathlib.Core.List.{List, [], _∷_, reverse}
 use mathlib.Core.Path.{_≡_, refl, sym, ap, ap₂, _∙_}
-use lib.ListN.{length, take}
-use Rattle.record.specs.Records.{places, placesFrom, placesF, firstBad, withinLimit, limit}
+use lib.ListN.{take}
+use Rattle.record.specs.Records.{places, placesFrom, placesF, firstBad, withinLimit}
 use Rattle.record.specs.declared.Layout.the-variants.{Good}
 use Rattle.names.specs.Names.{firstLater}
 use Rattle.names.specs.declared.Repeat.the-variants.{None}

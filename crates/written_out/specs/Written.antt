@@ -1,7 +1,7 @@
 -- A token list with its macros' calls written out (document 02, P8). Assumes nothing.
 use Prim.Native.Nat.{ℕ, zero, suc}
 use mathlib.Core.List.{List, [], _∷_, _++_, map, reverse}
-use mathlib.Core.Bool.{Bool, true, false, _||_}
+use mathlib.Core.Bool.{true, false, _||_}
 use lib.ListN.{length, getD, take, drop}
 use lib.Dec.{eqb}
 use Rattle.record.specs.Bytes.{sameBytes, locationAt}

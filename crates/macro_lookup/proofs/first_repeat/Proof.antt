@@ -1,20 +1,12 @@
-use Prim.Native.Nat.{ℕ, _+_, _-_, _≤_, _<_}
+-- `first_repeat` meets its contract. Invariant: the first that repeats a name is the first from `at` on. Assumes nothing.
+use Prim.Native.Nat.{_-_, _≤_}
 use native.Mathlib.Omega.{arith}
-use mathlib.Core.List.{List}
-use mathlib.Core.Path.{_≡_, refl, sym, ap, subst, _∙_}
+use mathlib.Core.Path.{sym, subst, _∙_}
 use lib.ListN.{length}
-use Rattle.macros.specs.Macros.{nameOk}
-use Rattle.macros.specs.NamesLaws.{NameIs, name-is}
 use Rattle.macros.specs.LayoutLaws.{body-part}
-use Rattle.written_out.specs.Above.{Found}
 use Rattle.macro_lookup.specs.RepeatLaws.{Looked, looked-first, here-at, looked-later, looked-next, looked-last}
-use borrow.Author.Needs.{needs}
 use Rattle.macro_lookup.proofs.first_repeat.Statement.{statement}
 use Rattle.macro_lookup.proofs.first_repeat.Tie as tie
-use Rattle.macro_lookup.proofs.first_repeat.Reads as reads
-use Rattle.macro_lookup.proofs.first_repeat.Lts as lts
-use Rattle.macro_lookup.proofs.repeats.Reads as repeats-reads
-use Rattle.record.proofs.next.Reads as next-reads
 
 abbrev Inv-loop : tie.InvT-loop
 Inv-loop macros at₀ at =
@@ -23,45 +15,35 @@ Inv-loop macros at₀ at =
 abbrev μ-loop : tie.MeasureT-loop
 μ-loop macros at₀ at = length macros - at
 
--- src/lib.rt:56:5
 loop-holds : tie.Need-loop-holds Inv-loop μ-loop
 loop-holds c = (omega arith, looked-first (c .before .args .macros .now) (c .before .pre))
 
--- src/lib.rt:57:13
 next-requires : tie.Need-next-requires Inv-loop μ-loop
 next-requires c κs = omega (arith, here-at (c .before .before .before .args .macros .now) (c .before .loop .at) (c .before .loop .inv .1) (c .loop-test .taken) .is)
 
--- src/lib.rt:58:40
 add-repeats : tie.Need-add-repeats Inv-loop μ-loop
 add-repeats c = omega (arith, c .next .ensures .0, here-at (c .before .before .before .before .args .macros .now) (c .before .before .loop .at) (c .before .before .loop .inv .1) (c .before .loop-test .taken) .is)
 
--- src/lib.rt:58:32
 sub-repeats : tie.Need-sub-repeats Inv-loop μ-loop
 sub-repeats c = omega (arith, c .next .ensures .0, here-at (c .before .before .before .before .args .macros .now) (c .before .before .loop .at) (c .before .before .loop .inv .1) (c .before .loop-test .taken) .is)
 
--- src/lib.rt:58:32
 part-repeats-start : tie.Need-part-repeats-start Inv-loop μ-loop
 part-repeats-start c = omega (arith, c .next .ensures .0, here-at (c .before .before .before .before .args .macros .now) (c .before .before .loop .at) (c .before .before .loop .inv .1) (c .before .loop-test .taken) .is)
 
--- src/lib.rt:58:32
 part-repeats-end : tie.Need-part-repeats-end Inv-loop μ-loop
 part-repeats-end c = omega (arith, c .next .ensures .0, here-at (c .before .before .before .before .args .macros .now) (c .before .before .loop .at) (c .before .before .loop .inv .1) (c .before .loop-test .taken) .is)
 
--- src/lib.rt:58:12
 repeats-requires : tie.Need-repeats-requires Inv-loop μ-loop
 repeats-requires c κs = (c .before .before .before .before .before .pre, here-at (c .before .before .before .before .before .args .macros .now) (c .before .before .before .loop .at) (c .before .before .before .loop .inv .1) (c .before .before .loop-test .taken), body-part (c .before .before .before .before .before .args .macros .now) (c .before .before .before .loop .at) (c .before .next .result) (c .before .next .ensures .0))
 
--- src/lib.rt:59:13
 returns : tie.Need-returns Inv-loop μ-loop
 returns c =
     let l = c .before .before .before .before .before .loop in
     sym (looked-later (c .before .before .before .before .before .before .before .args .macros .now) (l .at) (l .inv .1) (c .before .before .before .before .loop-test .taken) (sym (c .before .repeats .ensures) ∙ c .if1 .taken))
 
--- src/lib.rt:56:5
 loop-less : tie.Need-loop-less Inv-loop μ-loop
 loop-less c = omega (arith, c .before .before .before .next .ensures .0, here-at (c .before .before .before .before .before .before .before .args .macros .now) (c .before .before .before .before .before .loop .at) (c .before .before .before .before .before .loop .inv .1) (c .before .before .before .before .loop-test .taken) .is)
 
--- src/lib.rt:56:5
 loop-again : tie.Need-loop-again Inv-loop μ-loop
 loop-again c =
     let l = c .before .before .before .before .before .loop in
@@ -70,7 +52,6 @@ loop-again c =
     let t = c .before .before .before .before .loop-test .taken in
     (omega (arith, n, here-at s (l .at) (l .inv .1) t .is .body), subst (Looked s) (sym n) (looked-next s (l .at) (l .inv .1) t (sym (c .before .repeats .ensures) ∙ c .if1 .left)))
 
--- src/lib.rt:51:1
 returns-2 : tie.Need-returns-2 Inv-loop μ-loop
 returns-2 c = sym (looked-last (c .before .before .before .args .macros .now) (c .before .loop .at) (c .before .loop .inv .1) (c .loop-test .left))
 

@@ -1,51 +1,26 @@
-use Prim.Native.Nat.{ℕ, _+_, _-_, _≤_, _<_}
+-- `repeats` meets its contract: the macro's own name, looked up among those above it. Assumes nothing.
+use Prim.Native.Nat.{ℕ, _+_, _-_}
 use native.Mathlib.Omega.{arith}
 use mathlib.Core.List.{List}
-use mathlib.Core.Path.{_≡_, refl, sym, ap, subst, _∙_}
-use lib.ListN.{length}
+use mathlib.Core.Path.{ap, subst, _∙_}
 use Rattle.macros.specs.Macros.{nameOk}
-use Rattle.macros.specs.NamesLaws.{NameIs, name-is}
-use Rattle.macros.specs.LayoutLaws.{body-part}
+use Rattle.macros.specs.NamesLaws.{name-is}
 use Rattle.written_out.specs.Above.{Found}
 use Rattle.macro_lookup.specs.LookupLaws.{name-ok}
 use Rattle.macro_lookup.specs.RepeatLaws.{later-is, own-part}
 use borrow.Author.Needs.{needs}
 use Rattle.macro_lookup.proofs.repeats.Statement.{statement}
 use Rattle.macro_lookup.proofs.repeats.Tie as tie
-use Rattle.macro_lookup.proofs.repeats.Reads as reads
-use Rattle.macro_lookup.proofs.repeats.Lts as lts
-use Rattle.macro_lookup.proofs.callee.Reads as callee-reads
-use Rattle.record.proofs.wide.Reads as wide-reads
 
--- src/lib.rt:46:32
 shared-slice-read-wide : tie.Need-shared-slice-read-wide
 shared-slice-read-wide c = omega (arith, name-is (c .before .before .before .args .list .now) 0 (ap (λ (x : List ℕ). nameOk x 0) (c .before .before .before .pre .2) ∙ name-ok (c .before .before .before .args .macros .now) (c .before .before .before .args .at) (c .before .before .before .pre .1 .is)) .start)
 
--- src/lib.rt:46:19
-wide-requires : tie.Need-wide-requires
-wide-requires c κs = search needs
-
--- src/lib.rt:46:15
-add-end : tie.Need-add-end
-add-end c = search needs
-
--- src/lib.rt:47:24
-sub-callee : tie.Need-sub-callee
-sub-callee c = search needs
-
--- src/lib.rt:47:24
-part-callee-start : tie.Need-part-callee-start
-part-callee-start c = search needs
-
--- src/lib.rt:47:24
 part-callee-end : tie.Need-part-callee-end
 part-callee-end c = omega (arith, c .wide .ensures .0, name-is (c .before .before .before .before .args .list .now) 0 (ap (λ (x : List ℕ). nameOk x 0) (c .before .before .before .before .pre .2) ∙ name-ok (c .before .before .before .before .args .macros .now) (c .before .before .before .before .args .at) (c .before .before .before .before .pre .1 .is)) .within)
 
--- src/lib.rt:47:5
 callee-requires : tie.Need-callee-requires
 callee-requires c κs = (c .before .before .before .before .before .pre .0, omega (arith, c .before .before .before .before .before .pre .1 .is .head))
 
--- src/lib.rt:42:1
 returns : tie.Need-returns
 returns c =
     let a = c .before .before .before .before .before .before in
@@ -59,10 +34,10 @@ repeats-spec =
     tie.close
     (tie.spec
     shared-slice-read-wide
-    wide-requires
-    add-end
-    sub-callee
-    part-callee-start
+    (λ c κs. search needs)
+    (λ c. search needs)
+    (λ c. search needs)
+    (λ c. search needs)
     part-callee-end
     callee-requires
     returns)

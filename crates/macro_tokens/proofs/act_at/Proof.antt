@@ -1,5 +1,5 @@
 -- `act_at` meets its contract: one law for each mode. Assumes nothing.
-use mathlib.Core.Path.{_≡_, sym, subst}
+use mathlib.Core.Path.{sym, subst}
 use borrow.Author.Needs.{needs}
 use Rattle.written_out.specs.declared.Mode.{Mode}
 use Rattle.written_out.specs.declared.Mode.the-variants.{Leading, Copied}

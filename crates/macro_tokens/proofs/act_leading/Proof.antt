@@ -1,6 +1,4 @@
 -- `act_leading` meets its contract: one law for each way out. Assumes nothing.
-use mathlib.Core.List.{List}
-use Prim.Native.Nat.{ℕ}
 use borrow.Author.Needs.{needs}
 use Rattle.macro_tokens.specs.Places.{recordOf}
 use Rattle.macro_tokens.specs.MeantLaws.{at-line, at-comment, at-other, at-label, at-call, at-mnemonic}

@@ -3,10 +3,8 @@ use Prim.Native.Nat.{ℕ, _-_}
 use native.Mathlib.Omega.{arith}
 use mathlib.Core.Path.{_≡_, refl, sym, ap, subst, _∙_}
 use lib.ListN.{length}
-use borrow.Author.Needs.{needs}
 use Rattle.record.specs.Records.{kindAt, next}
 use Rattle.lexer.specs.Tokens.{TokenIs}
-use Rattle.macro_tokens.specs.declared.Taken.{Taken}
 use Rattle.macro_tokens.specs.Places.{recordOf, TokenIn, placeOf}
 use Rattle.macro_tokens.specs.PlacesLaws.{token, place-in}
 use Rattle.macro_tokens.specs.Arguments.{withToken}

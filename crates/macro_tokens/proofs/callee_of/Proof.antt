@@ -2,7 +2,7 @@
 use Prim.Native.Nat.{ℕ, _-_}
 use native.Mathlib.Omega.{arith}
 use mathlib.Core.List.{List}
-use mathlib.Core.Path.{_≡_, sym, subst, _∙_}
+use mathlib.Core.Path.{sym, subst, _∙_}
 use borrow.Author.Needs.{needs}
 use Rattle.macros.specs.KnownLaws.{text-part}
 use Rattle.macro_lookup.specs.Lookup.{CalleeIs}

@@ -1,10 +1,7 @@
 -- `colon_at` meets its contract. Assumes nothing.
 use Prim.Native.Nat.{ℕ}
-use native.Mathlib.Omega.{arith}
-use mathlib.Core.List.{List}
-use mathlib.Core.Path.{_≡_, sym, ap, subst, _∙_}
+use mathlib.Core.Path.{sym, ap, subst, _∙_}
 use lib.Dec.{eqb}
-use borrow.Author.Needs.{needs}
 use Rattle.record.specs.Records.{kindAt}
 use Rattle.line_heads.specs.Lines.{startsColon}
 use Rattle.macro_tokens.specs.Places.{recordOf, TokenIn}

@@ -1,5 +1,5 @@
 -- `put_token` meets its contract: the part that is copied is the record. Assumes nothing.
-use Prim.Native.Nat.{ℕ, _+_, _-_, _≤_, _<_}
+use Prim.Native.Nat.{ℕ, _+_, _-_}
 use native.Mathlib.Omega.{arith}
 use mathlib.Core.List.{List}
 use mathlib.Core.Path.{_≡_, refl, sym, ap, _∙_}
@@ -10,10 +10,9 @@ use Rattle.record.specs.Bytes.{part}
 use Rattle.record.specs.Records.{bodyLen, next}
 use Rattle.record.specs.Stores.{append}
 use Rattle.record.specs.StoresLaws.{append-none}
-use Rattle.lexer.specs.Tokens.{TokenIs}
 use Rattle.line_heads.specs.Lines.{recordAt}
-use Rattle.macro_tokens.specs.Places.{recordOf, TokenIn, only}
-use Rattle.macro_tokens.specs.PlacesLaws.{record-text, record-macros, size-text, size-macros}
+use Rattle.macro_tokens.specs.Places.{recordOf, only}
+use Rattle.macro_tokens.specs.PlacesLaws.{record-text, record-macros}
 use Rattle.macro_tokens.proofs.put_token.Statement.{statement}
 use Rattle.macro_tokens.proofs.put_token.Tie as tie
 

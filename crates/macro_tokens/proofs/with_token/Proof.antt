@@ -1,5 +1,4 @@
 -- `with_token` meets its contract. Assumes nothing.
-use native.Mathlib.Omega.{arith}
 use mathlib.Core.Path.{sym}
 use borrow.Author.Needs.{needs}
 use Rattle.macro_tokens.specs.ArgumentsLaws.{with-comma, with-comment, with-stored, with-counted}

@@ -1,14 +1,12 @@
 -- `head_of` meets its contract: the count stands behind the macro's name. Assumes nothing.
-use Prim.Native.Nat.{ℕ, _+_, _<_}
+use Prim.Native.Nat.{ℕ, _+_}
 use native.Mathlib.Omega.{arith}
 use mathlib.Core.Path.{_≡_, ap, ap₂, _∙_}
-use mathlib.Core.List.{List}
-use lib.ListN.{length}
 use borrow.Author.Needs.{needs}
 use Rattle.record.specs.Bytes.{byteAt, all}
 use Rattle.macros.specs.Macros.{behindName, nameOk, namePlaces, behindNames, countOf}
 use Rattle.macros.specs.NamesLaws.{name-is}
-use Rattle.macros.specs.LayoutLaws.{Parts, parts-of}
+use Rattle.macros.specs.LayoutLaws.{parts-of}
 use Rattle.macros.proofs.head_of.Statement.{statement}
 use Rattle.macros.proofs.head_of.Tie as tie
 

@@ -2,8 +2,8 @@
 -- each call. Invariant: the body is read from here on, and writing its steps from here on is writing the whole. Assumes nothing.
 use Prim.Native.Nat.{ℕ, _+_, _*_, _-_, _≤_, _<_}
 use native.Mathlib.Omega.{arith}
-use mathlib.Core.List.{List, [], _∷_, _++_}
-use mathlib.Core.Path.{_≡_, refl, sym, ap, subst, _∙_}
+use mathlib.Core.List.{List}
+use mathlib.Core.Path.{_≡_, sym, ap, subst, _∙_}
 use lib.ListN.{length}
 use borrow.Author.Needs.{needs}
 use borrow.Fn.Kinds.{In}
@@ -12,23 +12,21 @@ use Rattle.record.specs.Bytes.{part}
 use Rattle.record.specs.Records.{next}
 use Rattle.record.specs.Stores.{append}
 use Rattle.refusal.specs.declared.Verdict.the-variants.{Pass}
-use Rattle.macros.specs.Macros.{bodyAt, macroAtOk}
+use Rattle.macros.specs.Macros.{bodyAt}
 use Rattle.macros.specs.LayoutLaws.{body-part}
-use Rattle.written_out.specs.declared.WriteOutAnswer.the-variants.{Written, Refused}
 use Rattle.written_out.specs.declared.Mode.{Mode}
 use Rattle.written_out.specs.declared.Mode.the-variants.{Leading}
 use Rattle.written_out.specs.Written.{Step}
 use Rattle.written_out.specs.Outcome.{answerFrom}
 use Rattle.macro_tokens.specs.declared.Act.{Act}
-use Rattle.macro_tokens.specs.declared.Act.the-variants.{Write, Pass as PassOn, Call}
-use Rattle.macro_tokens.specs.Places.{recordOf, TokenIn, only, ReadableFrom}
+use Rattle.macro_tokens.specs.Places.{TokenIn, only, ReadableFrom}
 use Rattle.macro_tokens.specs.PlacesLaws.{token, read-on, place-in}
 use Rattle.macro_tokens.specs.Meant.{Inside}
 use Rattle.write_out.specs.Body.{stepsFrom, Ready, writtenFrom}
-use Rattle.write_out.specs.Calls.{Opened, actSteps, modeAfter, Acting}
+use Rattle.write_out.specs.Calls.{Opened, actSteps, modeAfter}
 use Rattle.write_out.specs.CallsLaws.{inside}
 use Rattle.write_out.specs.FillLaws.{answer-none, none-left, stop-left}
-use Rattle.write_out.specs.Same.{Same, Ends, same-first, same-call, ends-call, ends-all}
+use Rattle.write_out.specs.Same.{Same, same-first, same-call, ends-call, ends-all}
 use Rattle.write_out.specs.Turns.{Turn, turn-in, turn-rest, turn-act, turn-end}
 use Rattle.write_out.proofs.write_act.Reads as act
 use Rattle.write_out.proofs.write_act.Kinds as act-kinds

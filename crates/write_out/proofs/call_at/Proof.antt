@@ -1,9 +1,7 @@
 -- `call_at` meets its contract: the macro's bytes, its head, the arguments and the verdict are those of `call-is`. Assumes nothing.
 use Prim.Native.Nat.{ℕ, _+_, _-_, _≤_}
 use native.Mathlib.Omega.{arith}
-use mathlib.Core.List.{List}
-use mathlib.Core.Bool.{true}
-use mathlib.Core.Path.{_≡_, refl, sym, ap, ap₂, subst, _∙_}
+use mathlib.Core.Path.{_≡_, sym, ap, ap₂, subst, _∙_}
 use lib.ListN.{length}
 use borrow.Author.Needs.{needs}
 use Rattle.record.specs.Bytes.{part, locationAt}
@@ -16,7 +14,6 @@ use Rattle.macro_tokens.specs.Places.{recordOf}
 use Rattle.macro_tokens.specs.Arguments.{argumentsFrom}
 use Rattle.written_out.specs.Written.{replaced}
 use Rattle.written_out.specs.Above.{macroAt, above}
-use Rattle.write_out.specs.declared.Called.{Called}
 use Rattle.write_out.specs.Calls.{callVerdict, CallIs}
 use Rattle.write_out.specs.CallsLaws.{bytes-ok, inside, call-is}
 use Rattle.write_out.proofs.call_at.Statement.{statement}

@@ -1,5 +1,4 @@
 -- `call_verdict` meets its contract. Assumes nothing.
-use mathlib.Core.Path.{refl}
 use borrow.Author.Tests.{eq-eqb, ne-eqb}
 use Rattle.write_out.specs.Calls.{callVerdict}
 use Rattle.write_out.proofs.call_verdict.Statement.{statement}

@@ -1,8 +1,7 @@
 -- `write_all` meets its contract: the token list is a body that is read. Assumes nothing.
-use Prim.Native.Nat.{ℕ, _≤_}
 use native.Mathlib.Omega.{arith}
 use mathlib.Core.List.{List}
-use mathlib.Core.Path.{_≡_, refl, ap, _∙_}
+use mathlib.Core.Path.{refl, ap, _∙_}
 use lib.ListN.{length, replicate}
 use borrow.Author.Needs.{needs}
 use Rattle.record.specs.Stores.{append}
