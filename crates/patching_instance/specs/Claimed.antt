@@ -6,7 +6,7 @@ use Rattle.jobs.specs.declared.Job.the-variants.{Commit}
 use Rattle.refusal.specs.declared.Refusal.the-variants.{PatchPastEnd}
 use Rattle.build_outcome.specs.declared.Built.the-variants.{Refused as BuiltRefused}
 use Rattle.record.specs.Bytes.{all}
-use Rattle.finished_words.specs.Instance.{bytes}
+use Rattle.finished_words.specs.ListedLaws.{of-bytes}
 use Rattle.patching_outcome.specs.Patching.{regionsOf}
 use Rattle.patching_laws.specs.Script.{run}
 use Rattle.patching_outcome.specs.Step.{stepOutcome}
@@ -23,10 +23,10 @@ started = record {
   kept-within = (omega arith, omega arith);
 }
 
-pub of-bytes : AllOfBytes three
+pub all-bytes : AllOfBytes three
 unfolding all
-of-bytes = (tt, (tt, ((bytes (b 0 .token-list) refl, bytes (b 0 .mnemonic) refl), (tt, tt))))
+all-bytes = (tt, (tt, ((of-bytes (b 0 .token-list) refl, of-bytes (b 0 .mnemonic) refl), (tt, tt))))
 
 pub built : buildFirst Commit labels [] three start
     ≡ (record { answer = BuiltRefused (PatchPastEnd (place 90)); regions = regionsOf (stepOutcome Commit labels [] (run Commit labels [] three start) .after) })
-built = all-finish Commit labels [] three start of-bytes started .refused (PatchPastEnd (place 90)) (computed .refuses)
+built = all-finish Commit labels [] three start all-bytes started .refused (PatchPastEnd (place 90)) (computed .refuses)
