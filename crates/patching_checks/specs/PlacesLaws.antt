@@ -19,7 +19,7 @@ use Rattle.breakpoints.specs.BreakpointsLaws.{filled-kept, filled-over, filled-
 use Rattle.binary_builder.specs.PlacesLaws.{pending-place}
 use Rattle.patching_outcome.specs.Patching.{hasPatched}
 
-filled-place : (fill : ℕ) (s : List ℕ) (l : Layout) (p : ℕ) → filledLayout fill s l ≡ Bad p → (l ≡ Bad p → p ≤ limit) → p ≤ limit
+pub filled-place : (fill : ℕ) (s : List ℕ) (l : Layout) (p : ℕ) → filledLayout fill s l ≡ Bad p → (l ≡ Bad p → p ≤ limit) → p ≤ limit
 filled-place fill s l p e k = go (leb (length s) limit) refl (leb fill (length s)) refl
   where
     same : (a b : ℕ) → _≡_ {A = Layout} (Bad a) (Bad b) → a ≡ b

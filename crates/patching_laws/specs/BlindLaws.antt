@@ -49,7 +49,7 @@ use Rattle.routine.specs.BehindLaws.{OriginFits}
 use Rattle.routine.specs.WordLaws.{PairsFit}
 use Rattle.routine.specs.TokenLaws.{location-fits}
 use Rattle.patching_outcome.specs.Line.{newWords}
-use Rattle.patching_laws.specs.UndoLaws.{part-in}
+use Rattle.record_growth.specs.PutLaws.{part-in}
 use Rattle.patching_laws.specs.MoreLaws.{Keeps, More, pairs-more}
 
 -- the call with other data in its region

@@ -11,7 +11,7 @@ use lib.Seq.{length-take-le, getD-take, getD-drop, ext-getD}
 use lib.Dec.{leb}
 use Rattle.record.specs.Bytes.{le32, part}
 use Rattle.record.specs.Stores.{le32Bytes, append}
-use Rattle.record_growth.specs.PutLaws.{put-length, put-in, put-out, take-put, put-back-same, part-out}
+use Rattle.record_growth.specs.PutLaws.{put-length, put-out, take-put, put-back-same, part-in, part-out}
 use Rattle.labels.specs.Labels.{Table}
 use Rattle.regions.specs.declared.Region.{Region}
 use Rattle.pending.specs.Pendings.{pendingAt}
@@ -29,15 +29,6 @@ drop-put d f i a h room =
     let l : length (append d i a) ≡ length d = put-length d i a (omega arith) in
     ext-getD 0 (drop f (append d i a)) (drop f d) (length-drop f (append d i a) ∙ ap (λ (n : ℕ). n - f) l ∙ sym (length-drop f d))
     (λ x m. getD-drop f (append d i a) x 0 ∙ put-out d i a (omega arith) (f + x) (inr (omega arith)) ∙ sym (getD-drop f d x 0))
-
--- what was written reads back
-pub part-in : (d : List ℕ) (i : ℕ) (a : List ℕ) → i + length a ≤ length d → part (append d i a) i (length a) ≡ a
-part-in d i a room =
-    let n = length a in
-    let l : length (append d i a) ≡ length d = put-length d i a room in
-    let m : length (part (append d i a) i n) ≡ n = length-take-le n (drop i (append d i a)) (omega (arith, length-drop i (append d i a))) in
-    ext-getD 0 (part (append d i a) i n) a m
-    (λ x h. getD-take n (drop i (append d i a)) x 0 (omega arith) ∙ getD-drop i (append d i a) x 0 ∙ put-in d i a room x (omega arith))
 
 word-taken : (d : List ℕ) (f i : ℕ) → i + 4 ≤ f → le32 (take f d) i ≡ le32 d i
 word-taken d f i h =
