@@ -1,7 +1,8 @@
 -- A job by the manual whose line or build has none of the listed points does what the commit does. Assumes nothing.
 use Prim.Native.Nat.{ℕ, _+_, _/_, _≤_}
 use native.Mathlib.Omega.{arith}
-use mathlib.Core.Path.{_≡_, refl, ap}
+use mathlib.Core.Path.{_≡_, refl, sym, ap, subst, _∙_}
+use mathlib.Core.Logic.{_⊎_, inl, inr, ⊎-elim}
 use mathlib.Core.Bool.{true, false}
 use mathlib.Core.List.{List, _++_}
 use borrow.Author.Tests.{le-leb}
@@ -9,23 +10,33 @@ use Rattle.instructions.specs.declared.Opcode.{Opcode}
 use Rattle.instructions.specs.declared.Size.the-variants.{Single, Double, Word}
 use Rattle.instructions.specs.declared.Encoding.{Encoding}
 use Rattle.instructions.specs.declared.Encoding.the-variants.{Register, RegisterShift, Source, Destination, Inputs, Sham, SpecialBranch, Immediate, LoadImmediate, Jump, Branch, BranchZero, Parameterless, Offset, FPOffset, FP3Register, FP2Register, FPMove, FPCond, FPCrossMove, FPBranch}
+use Rattle.jobs.specs.declared.Job.{Job}
 use Rattle.jobs.specs.declared.Job.the-variants.{Commit, Manual}
+use Rattle.pseudo_names.specs.declared.Pseudo.{Pseudo}
+use Rattle.pseudo_names.specs.declared.Pseudo.the-variants.{Nop, Abs, BranchCustom, SetCustom, Beqz, Bnez, Seq, Sne, Neg, Negu, Not, Li, La, Move, B, Subi, Subiu}
+use Rattle.refusal.specs.declared.Verdict.{Verdict}
+use Rattle.refusal.specs.declared.Verdict.the-variants.{Pass, Stop}
+use Rattle.emit_pairs.specs.declared.Range.the-variants.{Within}
 use Rattle.labels.specs.Labels.{Table as LabelTable, tableOf}
 use Rattle.lexer.specs.Tokens.{tokens, payloadOf}
 use Rattle.operand.specs.Answers.{Answer, Got, Missed}
 use Rattle.operand_list.specs.OperandLists.{AskedAll, readOperands, readOperand}
 use Rattle.descriptors.specs.Descriptors.{instructionAt}
-use Rattle.descriptors.specs.Mnemonics.{mnemonicName}
+use Rattle.descriptors.specs.Mnemonics.{mnemonicName, mnemonicLocation}
 use Rattle.pending.specs.declared.InstructionLabelKind.{InstructionLabelKind}
 use Rattle.pending.specs.declared.InstructionLabelKind.the-variants.{Branch as BranchKind, Jump as JumpKind, Lower, Upper, Full}
 use Rattle.pending.specs.Pendings.{pendingAt}
 use Rattle.patch.specs.Patches.{after, pcOf, regionFor, branchInRange, inRange, addressOr}
 use Rattle.finished_words.specs.Listed.{destinationAt}
 use Rattle.build_outcome.specs.Build.{buildOutcome}
-use Rattle.emit_dispatch.specs.Wants.{encodingWants}
-use Rattle.emit_outcome.specs.Call.{Call}
+use Rattle.emit_dispatch.specs.Wants.{encodingWants, pseudoWants}
+use Rattle.emit_dispatch.specs.Lines.{Line, pseudoPairs, pseudoForm, lineBy, pseudoLine}
+use Rattle.emit_outcome.specs.Call.{Call, EmitOutcome}
+use Rattle.emit_outcome.specs.Checks.{listStop}
+use Rattle.emit_outcome.specs.Room.{roomStop}
+use Rattle.emit_outcome.specs.declared.EmitAnswer.{EmitAnswer}
 use Rattle.emit_outcome.specs.Dispatch.{meaning}
-use Rattle.emit_outcome.specs.Emit.{startOf, emitOutcome}
+use Rattle.emit_outcome.specs.Emit.{startOf, acceptOr, lineOutcome, callLine, meaningOutcome, listOutcome, emitOutcome}
 use Rattle.emit_outcome.specs.declared.Meaning.{Meaning}
 use Rattle.emit_outcome.specs.declared.Meaning.the-variants.{Table, Builtin, Neither}
 use Rattle.finished_words.specs.InstanceTables.{labels₁, entry, regions, pending}
@@ -38,8 +49,8 @@ use Rattle.record.specs.Records.{places, placesFrom, placesF}
 use Rattle.operands.specs.Operands.{getRegister, getConstant, getInteger, signed}
 use Rattle.cursor.specs.Cursors.{passed, peek, step, nextAdjacent, peekAdjacent}
 use Rattle.pseudo_names.specs.PseudoNames.{pseudoIn}
-use Rattle.acceptance.specs.SameOutcome.{SameEncoded, SameRead, SameMeaning, pseudo-same, line-same, build-same}
-use Rattle.acceptance.specs.Unlisted.{Unlisted, UnlistedRead, UnlistedMeaning, UnlistedCall, UnlistedBuild}
+use Rattle.acceptance.specs.SameOutcome.{SameEncoded, SameRead, meaning-same, line-by, build-same}
+use Rattle.acceptance.specs.Unlisted.{Unlisted, UnlistedRead, IsRefused, UnlistedMeaning, UnlistedCall, UnlistedBuild}
 
 -- ---- lines
 
@@ -79,16 +90,69 @@ read-same : (e : Encoding) (op : Opcode) (a : Answer (AskedAll (encodingWants e)
 read-same e op (Got x) h = encoding-same e op x h
 read-same e op (Missed m) h = tt
 
-meaning-same : (c : Call) (m : Meaning) → UnlistedMeaning c m → SameMeaning Manual Commit c m
-meaning-same c (Table p) h =
+-- every pseudo-instruction but abs has the commit's words
+same-or-abs : (p : Pseudo) → ((x : AskedAll (pseudoWants p)) → pseudoPairs Manual p x ≡ pseudoPairs Commit p x) ⊎ (p ≡ Abs)
+same-or-abs Nop = inl (λ x. refl)
+same-or-abs Abs = inr refl
+same-or-abs (BranchCustom greater result unsigned) = inl (λ x. refl)
+same-or-abs (SetCustom greater result unsigned) = inl (λ x. refl)
+same-or-abs Beqz = inl (λ x. refl)
+same-or-abs Bnez = inl (λ x. refl)
+same-or-abs Seq = inl (λ x. refl)
+same-or-abs Sne = inl (λ x. refl)
+same-or-abs Neg = inl (λ x. refl)
+same-or-abs Negu = inl (λ x. refl)
+same-or-abs Not = inl (λ x. refl)
+same-or-abs Li = inl (λ x. refl)
+same-or-abs La = inl (λ x. refl)
+same-or-abs Move = inl (λ x. refl)
+same-or-abs B = inl (λ x. refl)
+same-or-abs Subi = inl (λ x. refl)
+same-or-abs Subiu = inl (λ x. refl)
+
+-- abs has three words without labels in either job, so the same room stops it
+abs-same : (c : Call) → IsRefused (callLine c (pseudoLine Commit Abs (tokens (c .token-list)) (startOf c)) .answer)
+    → callLine c (pseudoLine Manual Abs (tokens (c .token-list)) (startOf c)) ≡ callLine c (pseudoLine Commit Abs (tokens (c .token-list)) (startOf c))
+unfolding pseudoLine lineOutcome roomStop
+abs-same c h = go (readOperands (pseudoWants Abs) (tokens (c .token-list)) (startOf c) .answer) h
+  where
+    i : ℕ
+    i = readOperands (pseudoWants Abs) (tokens (c .token-list)) (startOf c) .index
+
+    made : Job → Answer (AskedAll (pseudoWants Abs)) → Line
+    made job a = lineBy a i (λ x. Within) (pseudoPairs job Abs) (pseudoForm Abs)
+
+    stopped : (x : AskedAll (pseudoWants Abs)) (v : Verdict) → IsRefused (acceptOr (c .token-list) (mnemonicLocation (c .mnemonic)) (c .numbers) (c .lent) (made Commit (Got x)) v .answer)
+        → acceptOr (c .token-list) (mnemonicLocation (c .mnemonic)) (c .numbers) (c .lent) (made Manual (Got x)) v
+        ≡ acceptOr (c .token-list) (mnemonicLocation (c .mnemonic)) (c .numbers) (c .lent) (made Commit (Got x)) v
+    stopped x Pass h = absurd h
+    stopped x (Stop r) h = refl
+
+    go : (a : Answer (AskedAll (pseudoWants Abs))) → IsRefused (callLine c (made Commit a) .answer) → callLine c (made Manual a) ≡ callLine c (made Commit a)
+    go (Got x) h = stopped x (roomStop (c .token-list) (mnemonicLocation (c .mnemonic)) (c .numbers) (c .lent) (pseudoPairs Commit Abs x)) h
+    go (Missed m) h = refl
+
+-- what the commit answers where the lists have no fault
+commit-line : (c : Call) → listStop (c .token-list) (c .mnemonic) (c .descriptors) (c .lent) (c .numbers .place .region) (c .numbers .counts) ≡ Pass
+    → emitOutcome Commit c ≡ meaningOutcome Commit c (meaning (c .descriptors) (mnemonicName (c .mnemonic)))
+unfolding emitOutcome
+commit-line c e = ap (listOutcome Commit c) e
+
+meaning-as-commit : (c : Call) (m : Meaning) → emitOutcome Commit c ≡ meaningOutcome Commit c m → UnlistedMeaning c m → meaningOutcome Manual c m ≡ meaningOutcome Commit c m
+meaning-as-commit c (Table p) e h =
     let i = instructionAt (c .descriptors) p in
-    read-same (i .encoding) (i .opcode) (readOperands (encodingWants (i .encoding)) (tokens (c .token-list)) (startOf c) .answer) h
-meaning-same c (Builtin p) h = pseudo-same Manual Commit p (λ q rt. absurd (h q))
-meaning-same c Neither h = tt
+    meaning-same Manual Commit c (Table p) (read-same (i .encoding) (i .opcode) (readOperands (encodingWants (i .encoding)) (tokens (c .token-list)) (startOf c) .answer) h)
+meaning-as-commit c (Builtin p) e h = ⊎-elim (λ s. meaning-same Manual Commit c (Builtin p) s) of-abs (same-or-abs p)
+  where
+    of-abs : p ≡ Abs → meaningOutcome Manual c (Builtin p) ≡ meaningOutcome Commit c (Builtin p)
+    of-abs q =
+        let r : IsRefused (meaningOutcome Commit c (Builtin Abs) .answer) = subst (λ (a : EmitAnswer). IsRefused a) (ap (λ (o : EmitOutcome). o .answer) (e ∙ ap (λ (b : Pseudo). meaningOutcome Commit c (Builtin b)) q)) (h q) in
+        ap (λ (b : Pseudo). meaningOutcome Manual c (Builtin b)) q ∙ abs-same c r ∙ sym (ap (λ (b : Pseudo). meaningOutcome Commit c (Builtin b)) q)
+meaning-as-commit c Neither e h = refl
 
 -- the whole outcome of a line: answer, position, counts and every lent byte
 pub line-as-commit : (c : Call) → UnlistedCall c → emitOutcome Manual c ≡ emitOutcome Commit c
-line-as-commit c h = line-same Manual Commit c (meaning-same c (meaning (c .descriptors) (mnemonicName (c .mnemonic))) h)
+line-as-commit c h = line-by Manual Commit c (λ e. meaning-as-commit c (meaning (c .descriptors) (mnemonicName (c .mnemonic))) (commit-line c e) h)
 
 -- ---- builds
 

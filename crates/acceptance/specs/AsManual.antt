@@ -13,8 +13,9 @@ use Rattle.instructions.specs.declared.Alternative.{Alternative}
 use Rattle.instructions.specs.declared.Alternative.the-variants.{Nothing, Some}
 use Rattle.instructions.specs.declared.Encoding.{Encoding}
 use Rattle.instructions.specs.declared.Encoding.the-variants.{Register, RegisterShift, Source, Destination, Inputs, Sham, SpecialBranch, Immediate, LoadImmediate, Jump, Branch, BranchZero, Parameterless, Offset, FPOffset, FP3Register, FP2Register, FPMove, FPCond, FPCrossMove, FPBranch}
+use Rattle.jobs.specs.declared.Job.{Job}
 use Rattle.jobs.specs.declared.Job.the-variants.{Manual, Release6}
-use Rattle.jobs.specs.Jobs.{codeOf, isFunction, sourceOpcode}
+use Rattle.jobs.specs.Jobs.{isFunction, sourceOpcode}
 use Rattle.refusal.specs.declared.Refusal.the-variants.{DroppedInstruction}
 use Rattle.lexer.specs.declared.Token.{Token}
 use Rattle.lexer.specs.Tokens.{payloadOf, payloadOk, tokenOk, tokenLayout, tokens}
@@ -40,7 +41,7 @@ use Rattle.emit_dispatch.specs.declared.LineAnswer.the-variants.{OutOfRange}
 use Rattle.emit_outcome.specs.Call.{Call}
 use Rattle.emit_outcome.specs.Checks.{layoutStop, listStop}
 use Rattle.emit_outcome.specs.Dispatch.{meaning, tableLine}
-use Rattle.emit_outcome.specs.Emit.{startOf, callLine, refuse, lineOutcome, meaningOutcome, listOutcome, emitOutcome}
+use Rattle.emit_outcome.specs.Emit.{startOf, callLine, refuse, faultRefusal, lineOutcome, meaningOutcome, listOutcome, emitOutcome}
 use Rattle.emit_outcome.specs.declared.Meaning.{Meaning}
 use Rattle.emit_outcome.specs.declared.Meaning.the-variants.{Table, Builtin, Neither}
 use Rattle.registers.specs.declared.RegisterSlot.the-variants.{Temporary0}
@@ -111,11 +112,6 @@ range-as-manual (FPBranch flag) op x = code-then (leb (x .0) 7) (isFunction 18 o
 
 -- ---- the words: but for function 8 under Source the manual's
 
-size-same : (size : Size) → codeOf Release6 size ≡ codeOf Manual size
-size-same Single = refl
-size-same Double = refl
-size-same Word = refl
-
 source-by : (op : Opcode) {b : Bool} → isFunction 8 op ≡ b → sourceOpcode Release6 op ≡ elim b [ true ↦ Func 9 | false ↦ op ]
 source-by op e = ap (λ (b : Bool). elim b [ true ↦ Func 9 | false ↦ op ]) e
 
@@ -135,10 +131,10 @@ pairs-as-manual BranchZero op x h = refl
 pairs-as-manual Parameterless op x h = refl
 pairs-as-manual Offset op x h = refl
 pairs-as-manual FPOffset op x h = refl
-pairs-as-manual (FP3Register fmt) op x h = rw (size-same fmt)
-pairs-as-manual (FP2Register fmt) op x h = rw (size-same fmt)
-pairs-as-manual (FPMove fmt flag) op x h = rw (size-same fmt)
-pairs-as-manual (FPCond fmt) op x h = rw (size-same fmt)
+pairs-as-manual (FP3Register fmt) op x h = refl
+pairs-as-manual (FP2Register fmt) op x h = refl
+pairs-as-manual (FPMove fmt flag) op x h = refl
+pairs-as-manual (FPCond fmt) op x h = refl
 pairs-as-manual (FPCrossMove true) op x h = refl
 pairs-as-manual (FPCrossMove false) op x h = refl
 pairs-as-manual (FPBranch flag) op x h = refl
@@ -167,13 +163,22 @@ meaning-same c Neither h = tt
 pub line-as-manual : (c : Call) → UnchangedCall c → emitOutcome Release6 c ≡ emitOutcome Manual c
 line-as-manual c h = line-same Release6 Manual c (meaning-same c (meaning (c .descriptors) (mnemonicName (c .mnemonic))) h)
 
--- ---- a line with one of them, its lists without fault
+-- ---- a line of the table, its lists without fault
 
-table-outcome : (c : Call) (p : ℕ) → TableCall c p
+table-outcome : (job : Job) (c : Call) (p : ℕ) → TableCall c p
     → let i = instructionAt (c .descriptors) p in
-    emitOutcome Release6 c ≡ callLine c (encodingLine Release6 (i .encoding) (i .opcode) (tokens (c .token-list)) (startOf c))
+    emitOutcome job c ≡ callLine c (encodingLine job (i .encoding) (i .opcode) (tokens (c .token-list)) (startOf c))
 unfolding emitOutcome tableLine
-table-outcome c p h = ap (listOutcome Release6 c) (h .lists-pass) ∙ ap (meaningOutcome Release6 c) (h .found)
+table-outcome job c p h = ap (listOutcome job c) (h .lists-pass) ∙ ap (meaningOutcome job c) (h .found)
+
+-- a number that its job does not take refuses it, at the position behind its operands
+pub outside-line : (job : Job) (c : Call) (p : ℕ) → TableCall c p
+    → let i = instructionAt (c .descriptors) p in
+    let read = readOperands (encodingWants (i .encoding)) (tokens (c .token-list)) (startOf c) in
+    (x : AskedAll (encodingWants (i .encoding))) → read .answer ≡ Got x → (fault : Fault) → encodingRange job (i .encoding) (i .opcode) x ≡ Outside fault
+    → emitOutcome job c ≡ refuse (c .numbers .counts) (c .lent) (read .index) (faultRefusal (mnemonicLocation (c .mnemonic)) fault)
+unfolding lineOutcome encodingLine
+outside-line job c p h x r fault o = table-outcome job c p h ∙ rw (r, o)
 
 -- function 8 is not 18
 eight-kept : (op : Opcode) → isFunction 8 op ≡ true → isFunction 18 op ≡ false
@@ -201,28 +206,20 @@ pub jr-line : (c : Call) (p : ℕ) → TableCall c p → instructionAt (c .descr
     → emitOutcome Release6 c ≡ callLine c (encodingLine Manual Source (Func 9) (tokens (c .token-list)) (startOf c))
 jr-line c p h s f =
     let i = instructionAt (c .descriptors) p in
-    table-outcome c p h
+    table-outcome Release6 c p h
     ∙ ap (λ (e : Encoding). callLine c (encodingLine Release6 e (i .opcode) (tokens (c .token-list)) (startOf c))) s
     ∙ ap (callLine c) (jr-same (i .opcode) (tokens (c .token-list)) (startOf c) f)
 
 -- 27, where neither 19 nor 20 is due
-dropped-same : (e : Encoding) (op : Opcode) (ts : List Token) (i : ℕ) (x : AskedAll (encodingWants e)) → readOperands (encodingWants e) ts i .answer ≡ Got x
-    → droppedOr (isListed27 e op x) (encodingRange Manual e op x) ≡ Outside Dropped
-    → (encodingLine Release6 e op ts i .answer ≡ OutOfRange Dropped) × (encodingLine Release6 e op ts i .index ≡ readOperands (encodingWants e) ts i .index)
-unfolding encodingLine
-dropped-same e op ts i x r h = rw r (ap rangeAnswer (range-as-manual e op x ∙ h), refl)
-
 pub dropped-line : (c : Call) (p : ℕ) → TableCall c p
     → let i = instructionAt (c .descriptors) p in
     let read = readOperands (encodingWants (i .encoding)) (tokens (c .token-list)) (startOf c) in
     (x : AskedAll (encodingWants (i .encoding))) → read .answer ≡ Got x
     → droppedOr (isListed27 (i .encoding) (i .opcode) x) (encodingRange Manual (i .encoding) (i .opcode) x) ≡ Outside Dropped
     → emitOutcome Release6 c ≡ refuse (c .numbers .counts) (c .lent) (read .index) (DroppedInstruction (mnemonicLocation (c .mnemonic)))
-unfolding lineOutcome
 dropped-line c p h x r d =
     let i = instructionAt (c .descriptors) p in
-    let l = dropped-same (i .encoding) (i .opcode) (tokens (c .token-list)) (startOf c) x r d in
-    table-outcome c p h ∙ rw (l .0, l .1)
+    outside-line Release6 c p h x r Dropped (range-as-manual (i .encoding) (i .opcode) x ∙ d)
 
 -- ---- "otherwise follows P5": the build is the manual one
 

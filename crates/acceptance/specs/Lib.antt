@@ -4,6 +4,8 @@ pub mod SameOutcome
 pub mod AsCommit
 pub mod Changed
 pub mod AsManual
+pub mod Tested
+pub mod TestedLaws
 pub mod Function18
 pub mod Function18Laws
 pub mod Demands

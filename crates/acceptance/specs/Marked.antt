@@ -35,7 +35,8 @@ use Rattle.breakpoints.specs.Breakpoints.{breakpointOk, filledLayout, pendingBu
 use Rattle.emit_pairs.specs.Pairs.{loadPairs, labelPairs, isImmediate, immediatePairs}
 use Rattle.pseudo_names.specs.PseudoNames.{pseudoIn}
 use Rattle.emit_dispatch.specs.Lines.{encodingLine, pseudoLine}
-use Rattle.record.specs.Stores.{append}
+use Rattle.record.specs.declared.Location.{Location}
+use Rattle.record.specs.Stores.{append, le32Bytes, recordBytes}
 use Rattle.breakpoints.specs.BreakpointBytes.{pcsBytes}
 use Rattle.emit_bytes.specs.Appended.{wordBytes, pendingsBytes}
 use Rattle.emit_outcome.specs.Call.{Call}
@@ -48,10 +49,20 @@ use Rattle.example_lists.specs.Lists.{register, fpRegister, symbol, integer, mi
 
 -- ---- a refused call, by document 01's numbers; every lent byte and count is as at entry
 
-pub record LineRefuses (job : Job) (call : Call) (number : ℕ) (a : ℤ) (b position : ℕ) : Type 0 where
-  pub returned-is : lineReturned (emitOutcome job call .answer) ≡ record { number = number; location = zeroLocation; a = a; b = b; position = position }
+pub record LineRefusesAt (location : Location) (job : Job) (call : Call) (number : ℕ) (a : ℤ) (b position : ℕ) : Type 0 where
+  pub returned-is : lineReturned (emitOutcome job call .answer) ≡ record { number = number; location = location; a = a; b = b; position = position }
   pub counts-stay : emitOutcome job call .counts ≡ call .numbers .counts
   pub lent-stays : emitOutcome job call .lent ≡ call .lent
+
+abbrev pub LineRefuses : Job → Call → (number : ℕ) → ℤ → (b position : ℕ) → Type 0
+LineRefuses = LineRefusesAt zeroLocation
+
+-- a call whose mnemonic stands at source 5, index 7
+abbrev pub at5-7 : List ℕ → Call → Call
+at5-7 name c = record { token-list = c .token-list; mnemonic = recordBytes 32 (le32Bytes 5 ++ le32Bytes 7 ++ name); descriptors = c .descriptors; lent = c .lent; numbers = c .numbers }
+
+abbrev pub location5-7 : Location
+location5-7 = record { source = 5; index = 7 }
 
 pub record BuildRefuses (job : Job) (regions pending : List ℕ) (number : ℕ) (a : ℤ) (b : ℕ) : Type 0 where
   pub returned-is : buildReturned (buildOutcome job (tableOf []) [] regions pending .answer) ≡ record { number = number; location = zeroLocation; a = a; b = b; entry = 0 }
@@ -81,6 +92,12 @@ pub record ManualRows : Type 0 where
   pub sll-nowhere : LineRefuses Manual (lineIn 65535 «sll» (descriptor 1 0 5 «sll») (register 8 ++ comma ++ register 9 ++ comma ++ integer 32)) 19 (pos 0) 0 5
   -- bc1t 8,x (Cop1I 8): refusal 20
   pub code-over : LineRefuses Manual (line «bc1t» (floatDescriptor 5 8 20 0 1 «bc1t») (integer 8 ++ comma ++ symbol (120 ∷ []))) 20 (pos 0) 0 3
+  -- bc1t 4294967296,x and bc1t 4294967303,x: "tested on the full 64-bit operand"
+  pub code-of-0 : LineRefuses Manual (line «bc1t» (floatDescriptor 5 8 20 0 1 «bc1t») (integer 4294967296 ++ comma ++ symbol (120 ∷ []))) 20 (pos 0) 0 3
+  pub code-of-7 : LineRefuses Manual (line «bc1t» (floatDescriptor 5 8 20 0 1 «bc1t») (integer 4294967303 ++ comma ++ symbol (120 ∷ []))) 20 (pos 0) 0 3
+  -- 19 and 20 of mnemonics at another location
+  pub sll-there : LineRefusesAt location5-7 Manual (at5-7 «sll» (line «sll» (descriptor 1 0 5 «sll») (register 8 ++ comma ++ register 9 ++ comma ++ integer 32))) 19 (pos 0) 0 5
+  pub code-there : LineRefusesAt location5-7 Manual (at5-7 «bc1t» (line «bc1t» (floatDescriptor 5 8 20 0 1 «bc1t») (integer 8 ++ comma ++ symbol (120 ∷ [])))) 20 (pos 0) 0 3
   -- bc1t 8: the label is missed first, refusal 4
   pub code-alone : LineRefuses Manual (line «bc1t» (floatDescriptor 5 8 20 0 1 «bc1t») (integer 8)) 4 (pos 0) 0 1
   -- b, pc 00400000 to 00420000
@@ -103,6 +120,7 @@ pub record Release6Rows : Type 0 where
   -- mflo $t0 (Func 18): refusal 27, with no region selected too
   pub mflo-dropped : LineRefuses Release6 (line «mflo» (descriptor 1 18 3 «mflo») (register 8)) 27 (pos 0) 0 1
   pub mflo-nowhere : LineRefuses Release6 (lineIn 65535 «mflo» (descriptor 1 18 3 «mflo») (register 8)) 27 (pos 0) 0 1
+  pub mflo-there : LineRefusesAt location5-7 Release6 (at5-7 «mflo» (line «mflo» (descriptor 1 18 3 «mflo») (register 8))) 27 (pos 0) 0 1
   -- mult $t0,$t1,$t2 (Func 24): refusal 27; mult $t0,$t1
   pub mult-third : LineRefuses Release6 (line «mult» (descriptor 1 24 4 «mult») (register 8 ++ comma ++ register 9 ++ comma ++ register 10)) 27 (pos 0) 0 5
   pub mult-two : emitOutcome Release6 (line «mult» (descriptor 1 24 4 «mult») (register 8 ++ comma ++ register 9)) ≡ emits 3 Unloaded (0x01090018 ∷ [])
@@ -180,6 +198,10 @@ marked = record {
     sll-far-over = record { returned-is = refl; counts-stay = refl; lent-stays = refl };
     sll-nowhere = record { returned-is = refl; counts-stay = refl; lent-stays = refl };
     code-over = record { returned-is = refl; counts-stay = refl; lent-stays = refl };
+    code-of-0 = record { returned-is = refl; counts-stay = refl; lent-stays = refl };
+    code-of-7 = record { returned-is = refl; counts-stay = refl; lent-stays = refl };
+    sll-there = record { returned-is = refl; counts-stay = refl; lent-stays = refl };
+    code-there = record { returned-is = refl; counts-stay = refl; lent-stays = refl };
     code-alone = record { returned-is = refl; counts-stay = refl; lent-stays = refl };
     b-forward = refl;
     b-too-far = record { returned-is = refl; regions-stay = refl };
@@ -193,6 +215,7 @@ marked = record {
     eight-elsewhere = refl;
     mflo-dropped = record { returned-is = refl; counts-stay = refl; lent-stays = refl };
     mflo-nowhere = record { returned-is = refl; counts-stay = refl; lent-stays = refl };
+    mflo-there = record { returned-is = refl; counts-stay = refl; lent-stays = refl };
     mult-third = record { returned-is = refl; counts-stay = refl; lent-stays = refl };
     mult-two = refl;
     code-first = record { returned-is = refl; counts-stay = refl; lent-stays = refl };

@@ -99,7 +99,7 @@ module _ (j k : Job) where
   SameMeaning c (Builtin p) = (x : AskedAll (pseudoWants p)) → pseudoPairs j p x ≡ pseudoPairs k p x
   SameMeaning c Neither = Unit {0}
 
-  meaning-same : (c : Call) (m : Meaning) → SameMeaning c m → meaningOutcome j c m ≡ meaningOutcome k c m
+  pub meaning-same : (c : Call) (m : Meaning) → SameMeaning c m → meaningOutcome j c m ≡ meaningOutcome k c m
   unfolding tableLine
   meaning-same c (Table p) h =
       let i = instructionAt (c .descriptors) p in
@@ -107,14 +107,22 @@ module _ (j k : Job) where
   meaning-same c (Builtin p) h = ap (callLine c) (builtin-same p (tokens (c .token-list)) (startOf c) h)
   meaning-same c Neither h = refl
 
+  -- where the lists have no fault the line decides
+  pub line-by : (c : Call)
+      → (listStop (c .token-list) (c .mnemonic) (c .descriptors) (c .lent) (c .numbers .place .region) (c .numbers .counts) ≡ Pass
+      → meaningOutcome j c (meaning (c .descriptors) (mnemonicName (c .mnemonic))) ≡ meaningOutcome k c (meaning (c .descriptors) (mnemonicName (c .mnemonic))))
+      → emitOutcome j c ≡ emitOutcome k c
+  unfolding emitOutcome
+  line-by c h = go (listStop (c .token-list) (c .mnemonic) (c .descriptors) (c .lent) (c .numbers .place .region) (c .numbers .counts)) refl
+    where
+      go : (v : Verdict) → listStop (c .token-list) (c .mnemonic) (c .descriptors) (c .lent) (c .numbers .place .region) (c .numbers .counts) ≡ v
+          → listOutcome j c v ≡ listOutcome k c v
+      go (Stop r) e = refl
+      go Pass e = h e
+
   -- the whole outcome of a line: answer, position, counts and every lent byte
   pub line-same : (c : Call) → SameMeaning c (meaning (c .descriptors) (mnemonicName (c .mnemonic))) → emitOutcome j c ≡ emitOutcome k c
-  unfolding emitOutcome
-  line-same c h = go (listStop (c .token-list) (c .mnemonic) (c .descriptors) (c .lent) (c .numbers .place .region) (c .numbers .counts))
-    where
-      go : (v : Verdict) → listOutcome j c v ≡ listOutcome k c v
-      go (Stop r) = refl
-      go Pass = meaning-same c (meaning (c .descriptors) (mnemonicName (c .mnemonic))) h
+  line-same c h = line-by c (λ e. meaning-same c (meaning (c .descriptors) (mnemonicName (c .mnemonic))) h)
 
   -- ---- builds
 

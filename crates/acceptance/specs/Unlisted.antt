@@ -7,6 +7,7 @@ use Rattle.instructions.specs.declared.Size.{Size}
 use Rattle.instructions.specs.declared.Size.the-variants.{Word}
 use Rattle.instructions.specs.declared.Encoding.{Encoding}
 use Rattle.instructions.specs.declared.Encoding.the-variants.{Register, RegisterShift, Source, Destination, Inputs, Sham, SpecialBranch, Immediate, LoadImmediate, Jump, Branch, BranchZero, Parameterless, Offset, FPOffset, FP3Register, FP2Register, FPMove, FPCond, FPCrossMove, FPBranch}
+use Rattle.jobs.specs.declared.Job.the-variants.{Commit}
 use Rattle.pseudo_names.specs.declared.Pseudo.the-variants.{Abs}
 use Rattle.labels.specs.declared.Address.the-variants.{Known}
 use Rattle.lexer.specs.Tokens.{tokens}
@@ -22,7 +23,9 @@ use Rattle.finished_words.specs.Listed.{In}
 use Rattle.emit_dispatch.specs.Wants.{encodingWants}
 use Rattle.emit_outcome.specs.Call.{Call}
 use Rattle.emit_outcome.specs.Dispatch.{meaning}
-use Rattle.emit_outcome.specs.Emit.{startOf}
+use Rattle.emit_outcome.specs.Emit.{startOf, emitOutcome}
+use Rattle.emit_outcome.specs.declared.EmitAnswer.{EmitAnswer}
+use Rattle.emit_outcome.specs.declared.EmitAnswer.the-variants.{Done, Refused}
 use Rattle.emit_outcome.specs.declared.Meaning.{Meaning}
 use Rattle.emit_outcome.specs.declared.Meaning.the-variants.{Table, Builtin, Neither}
 
@@ -59,11 +62,16 @@ abbrev pub UnlistedRead : (e : Encoding) → Answer (AskedAll (encodingWants e))
 UnlistedRead e (Got x) = Unlisted e x
 UnlistedRead e (Missed m) = Unit {0}
 
+-- "abs first emits": a refused line emits nothing
+abbrev pub IsRefused : EmitAnswer → Type 0
+IsRefused (Done position loaded) = ⊥
+IsRefused (Refused r position) = Unit {0}
+
 abbrev pub UnlistedMeaning : Call → Meaning → Type 0
 UnlistedMeaning c (Table p) =
     let e = instructionAt (c .descriptors) p .encoding in
     UnlistedRead e (readOperands (encodingWants e) (tokens (c .token-list)) (startOf c) .answer)
-UnlistedMeaning c (Builtin p) = p ≡ Abs → ⊥
+UnlistedMeaning c (Builtin p) = p ≡ Abs → IsRefused (emitOutcome Commit c .answer)
 UnlistedMeaning c Neither = Unit {0}
 
 abbrev pub UnlistedCall : Call → Type 0

@@ -115,7 +115,7 @@ pub fn read_line(
     }
 }
 
-// Refusals 3 to 12 of lists that keep their layouts, or the line appended.
+// Refusals 3 to 12, 19, 20 and 27 of lists that keep their layouts, or the line appended.
 fn emit_named(
     job: Job,
     tokens: &[u8],

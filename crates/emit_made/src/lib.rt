@@ -74,7 +74,7 @@ pub fn append_line(
     }
 }
 
-// Refusals 4 to 12 of a line that was made, or the line appended.
+// Refusals 4 to 12, 19, 20 and 27 of a line that was made, or the line appended.
 pub fn append_or_refuse(
     tokens: &[u8],
     data: &mut [u8],

@@ -1,4 +1,4 @@
--- The checks of an emit call that read its lists and operands: 1 and 2, and 4 to 9 (document 01, 'Where the work stops'). Assumes nothing.
+-- The checks of an emit call that read its lists and operands: 1 and 2, and 4 to 8 (document 01, 'Where the work stops'). Assumes nothing.
 use Prim.Native.Nat.{ℕ}
 use mathlib.Core.List.{List}
 use mathlib.Core.Bool.{true, false}

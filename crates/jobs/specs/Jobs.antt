@@ -23,18 +23,20 @@ isRelease6 Release6 = true
 
 -- ---- emit calls
 
--- "In them Word is 20"; document 01: "Size Word is 18 where the manual has 20."
-abbrev pub wordCode : Job → ℕ
-wordCode job = elim (byManual job) [ true ↦ 20 | false ↦ 18 ]
+-- the field fmt; document 01: "Size Word is 18 where the manual has 20."
+abbrev pub commitCode : Size → ℕ
+commitCode Single = 16
+commitCode Double = 17
+commitCode Word = 18
 
--- the field fmt
-abbrev pub codeOf : Job → Size → ℕ
-codeOf job Single = 16
-codeOf job Double = 17
-codeOf job Word = wordCode job
+-- "In them Word is 20"
+abbrev pub manualCode : Size → ℕ
+manualCode Single = 16
+manualCode Double = 17
+manualCode Word = 20
 
 abbrev pub sizeCode : Format → ℕ
-sizeCode fmt = codeOf (fmt .job) (fmt .size)
+sizeCode fmt = elim (byManual (fmt .job)) [ true ↦ manualCode (fmt .size) | false ↦ commitCode (fmt .size) ]
 
 abbrev pub formatOf : Job → Size → Format
 formatOf job size = record { job = job; size = size }

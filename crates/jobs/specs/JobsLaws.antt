@@ -7,7 +7,7 @@ use Rattle.instructions.specs.declared.Size.{Size}
 use Rattle.instructions.specs.declared.Size.the-variants.{Single, Double, Word}
 use Rattle.jobs.specs.declared.Job.{Job}
 use Rattle.jobs.specs.declared.Format.{Format}
-use Rattle.jobs.specs.Jobs.{byManual, codeOf, sizeCode, mostBack, mostAhead}
+use Rattle.jobs.specs.Jobs.{byManual, commitCode, manualCode, sizeCode, mostBack, mostAhead}
 
 -- what is so of the manual's and of the commit's value is so of each job's
 pub by-either : {A : Type 0} (P : A → Type 0) {manual commit : A} → P manual → P commit → (job : Job) → P (elim (byManual job) [ true ↦ manual | false ↦ commit ])
@@ -17,14 +17,19 @@ by-either P {manual} {commit} m c job = go (byManual job)
     go true = m
     go false = c
 
-code-lt : (job : Job) (size : Size) → codeOf job size < 32
-code-lt job Single = lit< tt
-code-lt job Double = lit< tt
-code-lt job Word = by-either (λ n. n < 32) (lit< tt) (lit< tt) job
+commit-lt : (size : Size) → commitCode size < 32
+commit-lt Single = lit< tt
+commit-lt Double = lit< tt
+commit-lt Word = lit< tt
+
+manual-lt : (size : Size) → manualCode size < 32
+manual-lt Single = lit< tt
+manual-lt Double = lit< tt
+manual-lt Word = lit< tt
 
 -- a float format's code fits a field of five bits
 pub size-lt : (fmt : Format) → sizeCode fmt < 32
-size-lt fmt = code-lt (fmt .job) (fmt .size)
+size-lt fmt = by-either (λ n. n < 32) (manual-lt (fmt .size)) (commit-lt (fmt .size)) (fmt .job)
 
 -- no branch reaches farther than 17 signed bits
 pub back-le : (job : Job) → mostBack job ≤ 0x10000

@@ -1,6 +1,6 @@
 // The sorts of job, and what a sort changes (document 02, P5 and P9).
 ghost use mathlib.Core.Path.{_≡_};
-ghost use Rattle.jobs.specs.Jobs.{byManual, isRelease6, sizeCode, mostBack, mostAhead, shiftWithin, codeWithin, isFunction, sourceOpcode, isDropped};
+ghost use Rattle.jobs.specs.Jobs.{byManual, isRelease6, commitCode, manualCode, sizeCode, mostBack, mostAhead, shiftWithin, codeWithin, isFunction, sourceOpcode, isDropped};
 use instructions::Opcode;
 use instructions::Size;
 
@@ -37,16 +37,36 @@ fn is_release_6(job: Job) -> bool
     }
 }
 
+fn commit_code(size: Size) -> u32
+    ensures { λ r. ⌜ r ≡ commitCode size ⌝ }
+{
+    match size {
+        Size::Single => 16,
+        Size::Double => 17,
+        Size::Word => 18,
+    }
+}
+
+fn manual_code(size: Size) -> u32
+    ensures { λ r. ⌜ r ≡ manualCode size ⌝ }
+{
+    match size {
+        Size::Single => 16,
+        Size::Double => 17,
+        Size::Word => 20,
+    }
+}
+
 // The code of a float format, as the field fmt holds it.
 pub fn size_code(fmt: Format) -> u32
     ensures { λ r. ⌜ r ≡ sizeCode fmt ⌝ }
 {
     let job = fmt.job;
     let size = fmt.size;
-    match size {
-        Size::Single => 16,
-        Size::Double => 17,
-        Size::Word => { if by_manual(job) { 20 } else { 18 } }
+    if by_manual(job) {
+        manual_code(size)
+    } else {
+        commit_code(size)
     }
 }
 

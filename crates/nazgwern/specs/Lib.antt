@@ -1,4 +1,0 @@
-pub mod Words
-pub mod Answer
-pub mod AnswerLaws
-pub mod LineRefused
