@@ -9,7 +9,8 @@ use Rattle.record.specs.Bytes.{sameBytes}
 use Rattle.pseudo_names.specs.PseudoNames.{bytesOf}
 use Rattle.emit_outcome.specs.declared.LinePlace.{LinePlace}
 use Rattle.emit_outcome.specs.Call.{Lent, lentOf}
-use Rattle.nazgwern.specs.Answer.{Linked, LinkedLine, linkedBuild, linkedLine}
+use Rattle.linked_build.specs.LinkedBuild.{LinkedBuild, linkedBuild}
+use Rattle.linked_line.specs.LinkedLine.{LinkedLine, linkedLine}
 use Rattle.input.specs.Input.{wordOrZero, halfOrZero, listOf, held}
 use Rattle.text.specs.Text.{lastField}
 use Rattle.replay_text.specs.declared.Tally.{Tally}

@@ -8,12 +8,13 @@ use lib.Dec.{ltb}
 use mathlib.Core.Path.{_≡_, refl, _∙_}
 use Rattle.emit_outcome.specs.declared.LinePlace.{LinePlace}
 use Rattle.emit_outcome.specs.Call.{Lent, lentOf}
-use Rattle.nazgwern.specs.Answer.{Linked, LinkedLine, linkedBuild, linkedLine}
+use Rattle.linked_build.specs.LinkedBuild.{LinkedBuild, linkedBuild}
+use Rattle.linked_line.specs.LinkedLine.{LinkedLine, linkedLine}
 use Rattle.input.specs.Input.{wordOrZero, listOf, held}
 use Rattle.replay_text.specs.declared.Tally.{Tally}
 use Rattle.replay_text.specs.Replay.{answerSpace, isList, builtMet, placeIn, emittedMet, lineMet, callMet, counted, tallyOf, tallyText, replayText}
 
-pub build-met : (s regions labels entry pending : List ℕ) (l : Linked) (a b m : Bool) → labels ≡ listOf 0 s → entry ≡ listOf 1 s → pending ≡ listOf 3 s
+pub build-met : (s regions labels entry pending : List ℕ) (l : LinkedBuild) (a b m : Bool) → labels ≡ listOf 0 s → entry ≡ listOf 1 s → pending ≡ listOf 3 s
     → linkedBuild labels entry regions pending answerSpace ≡ l → a ≡ isList s 4 (l .answer) → b ≡ isList s 5 (l .regions) → m ≡ (a && b) → m ≡ builtMet s regions
 build-met s regions labels entry pending l a b m e0 e1 e3 e ea eb em =
     let g : linkedBuild (listOf 0 s) (listOf 1 s) regions (listOf 3 s) answerSpace ≡ l = rw (← e0, ← e1, ← e3) e in

@@ -1,0 +1,2 @@
+pub mod LinkedBuild
+pub mod LinkedBuildLaws

@@ -1,0 +1,2 @@
+pub mod LinkedCount
+pub mod LinkedCountLaws

@@ -1,0 +1,4 @@
+pub mod LineWords
+pub mod LinkedLine
+pub mod LinkedLineLaws
+pub mod LineRefused
