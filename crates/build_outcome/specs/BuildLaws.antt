@@ -1,4 +1,4 @@
--- Laws of a build's checks: what an accepted build has passed. Assumes nothing.
+-- Laws of a build's checks: what an accepted build has passed, and that what passes them all is accepted. Assumes nothing.
 use Prim.Native.Nat.{ℕ, zero, suc, _+_, _<_, _≤_}
 use native.Mathlib.Omega.{arith}
 use mathlib.Core.List.{List, [], _∷_, _++_, List·Memᴰ, List·Memᴰ·head, List·Memᴰ·tail, List·Memᴰ·cases-cons, List·Memᴰ·append-cases, Memᴰ·append-left, Memᴰ·append-right}
@@ -10,7 +10,7 @@ use borrow.Author.Tests.{eq-eqb, ne-eqb, eqb-true, eqb-false}
 use Rattle.jobs.specs.declared.Job.{Job}
 use Rattle.record.specs.Records.{places}
 use Rattle.record.specs.declared.Layout.the-variants.{Good}
-use Rattle.refusal.specs.Verdicts.{firstStop, layoutVerdict, nameVerdict}
+use Rattle.refusal.specs.Verdicts.{andThen, firstStop, layoutVerdict, nameVerdict}
 use Rattle.refusal.specs.VerdictsLaws.{both-pass, layout-pass, name-pass}
 use Rattle.refusal.specs.declared.Verdict.{Verdict}
 use Rattle.refusal.specs.declared.Verdict.the-variants.{Pass, Stop}
@@ -23,6 +23,10 @@ use Rattle.pending.specs.Pendings.{regionOf, pendingLayout}
 use Rattle.build_outcome.specs.Build.{keep, orderFrom, patchOrder, patchVerdict, entryVerdict, layoutVerdicts, buildVerdict, entryAddress, patchedRegions, buildOutcome}
 use Rattle.build_outcome.specs.declared.Built.the-variants.{Entry as BuiltEntry, Refused}
 
+-- two checks pass where each does
+pub then-pass : (a b : Verdict) → a ≡ Pass → b ≡ Pass → andThen a b ≡ Pass
+then-pass a b e f = ap (λ (v : Verdict). andThen v b) e ∙ f
+
 -- every element passes where the whole list does
 pub each-pass : (check : ℕ → Verdict) (ps : List ℕ) → firstStop check ps ≡ Pass → (p : ℕ) → List·Memᴰ p ps → check p ≡ Pass
 unfolding firstStop
@@ -33,6 +37,12 @@ each-pass check (q ∷ ps) e p m = go (both-pass (check q) (firstStop check ps) 
         → (firstStop check ps ≡ Pass → (p : ℕ) → List·Memᴰ p ps → check p ≡ Pass) → check p ≡ Pass
     go h (inl s) ih = ap check s ∙ h .0
     go h (inr t) ih = ih (h .1) p t
+
+-- and the whole list does where every element does
+pub all-pass : (check : ℕ → Verdict) (ps : List ℕ) → ((p : ℕ) → List·Memᴰ p ps → check p ≡ Pass) → firstStop check ps ≡ Pass
+unfolding firstStop
+all-pass check [] a = refl
+all-pass check (p ∷ ps) a = rw (a p (List·Memᴰ·head refl)) (all-pass check ps (λ q m. a q (List·Memᴰ·tail m)))
 
 -- ---- patch order
 pub keep-here : (pending : List ℕ) (r p : ℕ) (ps : List ℕ) → regionOf pending p ≡ r → keep pending r (p ∷ ps) ≡ p ∷ keep pending r ps
@@ -104,6 +114,17 @@ accepted-is job labels entry regions pending e =
       entry-passes = b₃ .0;
       patches-pass = b₃ .1;
     }
+
+-- and what passes all of these is accepted
+pub is-accepted : (job : Job) (labels : Table) (entry regions pending : List ℕ) → Accepted job labels entry regions pending → buildVerdict job labels entry regions pending ≡ Pass
+unfolding buildVerdict layoutVerdicts
+is-accepted job labels entry regions pending a =
+    then-pass (layoutVerdicts labels entry regions pending) _
+    (then-pass (layoutVerdict 0 (labels .layout)) _ (ap (layoutVerdict 0) (a .labels-good))
+    (then-pass (layoutVerdict 1 (entryLayout entry)) _ (ap (layoutVerdict 1) (a .entry-good))
+    (then-pass (layoutVerdict 2 (regionLayout regions)) _ (ap (layoutVerdict 2) (a .regions-good)) (ap (layoutVerdict 3) (a .pending-good)))))
+    (then-pass (nameVerdict 0 (labels .repeat)) _ (ap (nameVerdict 0) (a .names-good))
+    (then-pass (entryVerdict labels entry (entryOf entry (places entry))) _ (a .entry-passes) (a .patches-pass)))
 
 -- ---- patch order names pendings of the list only
 keep-in : (pending : List ℕ) (r p : ℕ) (ps : List ℕ) → List·Memᴰ p (keep pending r ps) → List·Memᴰ p ps

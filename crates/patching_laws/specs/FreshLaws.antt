@@ -24,7 +24,8 @@ use Rattle.patching_outcome.specs.Step.{stepLayouts, stepChecks, putBack}
 use Rattle.patching_laws.specs.Claims.{Start}
 use Rattle.patching_outcome.specs.LayoutLaws.{regions-is, pendings-is, kept-is, few}
 use Rattle.patching_laws.specs.HeldLaws.{Held}
-use Rattle.patching_laws.specs.StepLaws.{Opened, then-pass, regions-pass, pendings-pass, kept-pass}
+use Rattle.build_outcome.specs.BuildLaws.{then-pass}
+use Rattle.patching_laws.specs.StepLaws.{Opened, regions-pass, pendings-pass, kept-pass}
 
 -- a check that stops, whatever follows the last
 stop-then : (l n e x : Verdict) (r : Refusal) → andThen l (andThen n e) ≡ Stop r → andThen l (andThen n (andThen e x)) ≡ Stop r

@@ -37,7 +37,7 @@ use Rattle.patching_outcome.specs.Patching.{Patching}
 use Rattle.patching_outcome.specs.Line.{LineGiven, lineLayouts, emitCall, noneCall, isLate, lateAnswer, lineOutcome}
 use Rattle.patching_outcome.specs.LayoutLaws.{line-lists}
 use Rattle.patching_laws.specs.LineLaws.{line-late}
-use Rattle.patching_laws.specs.StepLaws.{then-pass}
+use Rattle.build_outcome.specs.BuildLaws.{then-pass}
 
 -- ---- a line of a call that is accepted
 module _ (c : Call) where

@@ -15,7 +15,7 @@ use Rattle.refusal.specs.declared.Verdict.{Verdict}
 use Rattle.refusal.specs.declared.Verdict.the-variants.{Pass, Stop}
 use Rattle.labels.specs.Labels.{Table}
 use Rattle.build_outcome.specs.Build.{patchVerdict, patchesVerdict, writePatches, buildVerdict, BuildOutcome, buildOutcome}
-use Rattle.build_outcome.specs.BuildLaws.{outcome-accepted, outcome-refused}
+use Rattle.build_outcome.specs.BuildLaws.{all-pass, outcome-accepted, outcome-refused}
 use Rattle.build_outcome.specs.declared.Built.{Built}
 use Rattle.build_outcome.specs.declared.Built.the-variants.{Entry as BuiltEntry, Refused as BuiltRefused}
 use Rattle.emit_outcome.specs.declared.EmitAnswer.{EmitAnswer}
@@ -33,7 +33,7 @@ use Rattle.patching_laws.specs.Claims.{Start, OfBytes, AllOfBytes, Joins
 use Rattle.patching_outcome.specs.LayoutLaws.{line-lists}
 use Rattle.patching_laws.specs.LineLaws.{emitted, LineDone, line-from, line-refused, line-done}
 use Rattle.patching_laws.specs.HeldLaws.{Held, held-image, image-is, done-same}
-use Rattle.patching_laws.specs.StepLaws.{theEntry, Opened, Mode, running, ended, refused, Says, more, ends, stops, StepKeeps, all-pass, step-held, step-refused, step-ended}
+use Rattle.patching_laws.specs.StepLaws.{theEntry, Opened, Mode, running, ended, refused, Says, more, ends, stops, StepKeeps, step-held, step-refused, step-ended}
 use Rattle.patching_laws.specs.FreshLaws.{checks-same, checks-stop, checks-passed, fresh-held, held-start, build-is}
 use Rattle.patching_laws.specs.AnswerLaws.{answers-same}
 use Rattle.patching_laws.specs.HeldLineLaws.{timely-state, base-done, held-line, line-joins}

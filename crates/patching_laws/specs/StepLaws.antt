@@ -28,6 +28,7 @@ use Rattle.pending.specs.Pendings.{pendingLayout, pendingAt}
 use Rattle.patch.specs.Patches.{regionFor, slotOf, writePending}
 use Rattle.patch.specs.PatchesLaws.{reached}
 use Rattle.build_outcome.specs.Build.{patchVerdict, patchesVerdict, entryVerdict, entryAddress, writePatches}
+use Rattle.build_outcome.specs.BuildLaws.{then-pass}
 use Rattle.build_outcome.specs.KeptLaws.{InData, in-data}
 use Rattle.patching_outcome.specs.declared.StepAnswer.{StepAnswer}
 use Rattle.patching_outcome.specs.declared.StepAnswer.the-variants.{Patched, Ended, Refused}
@@ -46,18 +47,10 @@ stop-at check [] n r h a e = absurd (omega arith)
 stop-at check (p ∷ ps) zero r h a e = rw e
 stop-at check (p ∷ ps) (suc n) r h a e = rw (a p (List·Memᴰ·head refl)) (stop-at check ps n r (omega arith) (λ q m. a q (List·Memᴰ·tail m)) e)
 
-pub all-pass : (check : ℕ → Verdict) (ps : List ℕ) → ((p : ℕ) → List·Memᴰ p ps → check p ≡ Pass) → firstStop check ps ≡ Pass
-unfolding firstStop
-all-pass check [] a = refl
-all-pass check (p ∷ ps) a = rw (a p (List·Memᴰ·head refl)) (all-pass check ps (λ q m. a q (List·Memᴰ·tail m)))
-
 same-checks : (f g : ℕ → Verdict) (ps : List ℕ) → ((p : ℕ) → List·Memᴰ p ps → f p ≡ g p) → firstStop f ps ≡ firstStop g ps
 unfolding firstStop
 same-checks f g [] a = refl
 same-checks f g (p ∷ ps) a = ap₂ andThen (a p (List·Memᴰ·head refl)) (same-checks f g ps (λ q m. a q (List·Memᴰ·tail m)))
-
-pub then-pass : (a b : Verdict) → a ≡ Pass → b ≡ Pass → andThen a b ≡ Pass
-then-pass a b e f = ap (λ (v : Verdict). andThen v b) e ∙ f
 
 member : (ps : List ℕ) (n : ℕ) → n < length ps → List·Memᴰ (getD ps n 0) ps
 member [] n h = absurd (omega arith)
