@@ -31,6 +31,12 @@ pub record Pair (pending : List ℕ) (upper lower : ℕ) : Type 0 where
   pub later : pendingAt pending lower .offset ≡ pendingAt pending upper .offset + 4
   pub target : SameTarget pending upper lower
 
+-- "branch distances within -32,768 to 32,767 words": that of the patch of the record at p
+abbrev pub Near : (labels : Table) (regions pending : List ℕ) → ℕ → Type 0
+Near labels regions pending p =
+    (after (pcAt regions pending p) / 4 ≤ destinationAt labels pending p / 4 + 32768)
+    × (destinationAt labels pending p / 4 ≤ after (pcAt regions pending p) / 4 + 32767)
+
 -- The tender's premises, for a label table, a region list, an entry record and a pending list in whatever order.
 pub record Premises (job : Job) (labels : Table) (entry regions pending : List ℕ) : Type 0 where
   -- "An accepted build is one to which no refusal is due"
@@ -44,9 +50,7 @@ pub record Premises (job : Job) (labels : Table) (entry regions pending : List �
   pub jump-target : (p : ℕ) → In pending p → pendingAt pending p .kind ≡ Jump → destinationAt labels pending p % 4 ≡ 0
   -- "branch distances within -32,768 to 32,767 words"; document 02, P5: "For manual jobs the reading-back condition needs no premise on
   -- branch distance"
-  pub near : job ≡ Commit → (p : ℕ) → In pending p → pendingAt pending p .kind ≡ Branch
-      → (after (pcAt regions pending p) / 4 ≤ destinationAt labels pending p / 4 + 32768)
-      × (destinationAt labels pending p / 4 ≤ after (pcAt regions pending p) / 4 + 32767)
+  pub near : job ≡ Commit → (p : ℕ) → In pending p → pendingAt pending p .kind ≡ Branch → Near labels regions pending p
   -- "every half in a pair"
   pub upper-paired : (p : ℕ) → In pending p → pendingAt pending p .kind ≡ Upper → (q : ℕ) × Pair pending p q
   pub lower-paired : (q : ℕ) → In pending q → pendingAt pending q .kind ≡ Lower → (p : ℕ) × Pair pending p q

@@ -1,6 +1,6 @@
--- Reading back: in the image of an accepted build, under the tender's premises, the readings of the whole pending list are its
--- destinations. Assumes nothing.
-use Prim.Native.Nat.{ℕ, _+_, _-_, _*_, _/_, _%_, _^_, _≤_}
+-- Reading back, patch by patch and of the whole pending list: in the image of an accepted build each reading is its destination, where what
+-- its kind asks holds of that patch. Assumes nothing.
+use Prim.Native.Nat.{ℕ, _+_, _-_, _*_, _/_, _%_, _^_}
 use native.Mathlib.Omega.{arith}
 use mathlib.Core.List.{List}
 use mathlib.Core.Bool.{Bool, true, false}
@@ -21,14 +21,16 @@ use Rattle.pending.specs.Pendings.{pendingAt, labelOf}
 use Rattle.labels.specs.Labels.{Table}
 use Rattle.patch.specs.Patches.{destination, plusOffset, wrap32, after, fieldWidth, fieldValue, inRange, addressOr}
 use Rattle.patch.specs.PatchesLaws.{jump-page, manual-near}
-use Rattle.build_outcome.specs.Build.{patchedRegions}
-use Rattle.finished_words.specs.Listed.{In, kindOf, slotAt, destinationAt, pcAt}
+use Rattle.refusal.specs.declared.Verdict.the-variants.{Pass}
+use Rattle.build_outcome.specs.Build.{patchedRegions, buildVerdict}
+use Rattle.finished_words.specs.Listed.{In, Apart, kindOf, slotAt, destinationAt, pcAt}
 use Rattle.finished_words.specs.Words.{finishedWord, finishedAt}
 use Rattle.finished_words.specs.WordsLaws.{finished-field}
 use Rattle.finished_words.specs.AcceptedLaws.{has-region, reaches, known, dest-lt, in-range, slots-apart, finished-kept}
 use Rattle.finished_words.specs.FinishedLaws.{map-same, word-finished}
-use Rattle.reading.specs.Reading.{imageOf, pcIn, wordIn, half, signedBytes, readBy, reading, readings, destinations}
-use Rattle.reading.specs.Premises.{Premises, Pair, SameTarget}
+use Rattle.reading.specs.Reading.{Image, imageOf, pcIn, wordIn, half, signedBytes, readBy, reading, readings, destinations}
+use Rattle.reading.specs.Premises.{Premises, Pair, SameTarget, Near}
+use Rattle.reading.specs.OnTarget.{OnTarget}
 use Rattle.reading.specs.ArithmeticLaws.{branch-reads, jump-reads, halves-read}
 use Rattle.reading.specs.ImageLaws.{image-word, image-pc}
 
@@ -68,136 +70,128 @@ target-same labels pending p q t = ap (addressOr 0) (go (eqb (byteAt pending (p 
         ∙ ap₂ (λ (l : List ℕ) (v : ℕ). plusOffset (labels .address (le32 pending (q + 28)) l) v) (t .name) (t .value)
         ∙ sym (named-is labels pending q (λ z. n (t .form ∙ z)))
 
-module _ (job : Job) (labels : Table) (entry regions pending : List ℕ) (premises : Premises job labels entry regions pending) where
-  -- the word of each patch in the image
-  word-at : (p : ℕ) → In pending p
-      → wordIn (imageOf (patchedRegions labels regions pending)) (pendingAt pending p .region) (pendingAt pending p .offset) ≡ finishedAt labels regions pending p
-  word-at p m =
-      image-word regions (patchedRegions labels regions pending) (finished-kept job labels entry regions pending (premises .accepted)) (pendingAt pending p .region)
-      (has-region job labels entry regions pending (premises .accepted) p m) (pendingAt pending p .offset) (reaches job labels entry regions pending (premises .accepted) p m .inside)
-      ∙ word-finished job labels entry regions pending (premises .accepted) p m (λ q. slots-apart job labels entry regions pending (premises .accepted) (premises .apart) p q m)
+-- what a patch asks to read back as its destination, by its kind, whatever the others go to
+abbrev pub Readable : Job → (labels : Table) (regions pending : List ℕ) → InstructionLabelKind → ℕ → Type 0
+Readable job labels regions pending Branch p = (pcAt regions pending p % 4 ≡ 0) × OnTarget job labels regions pending p
+Readable job labels regions pending Jump p = OnTarget job labels regions pending p
+Readable job labels regions pending Lower q = (p : ℕ) × Pair pending p q
+Readable job labels regions pending Upper p = (q : ℕ) × Pair pending p q
+Readable job labels regions pending Full p = Unit {0}
 
-  pc-at : (p : ℕ) → In pending p → pcIn (imageOf (patchedRegions labels regions pending)) (pendingAt pending p) ≡ pcAt regions pending p
+module _ (job : Job) (labels : Table) (entry regions pending : List ℕ) (pass : buildVerdict job labels entry regions pending ≡ Pass) (apart : Apart pending) where
+  abbrev image : Image
+  image = imageOf (patchedRegions labels regions pending)
+
+  -- the word of each patch in the image
+  abbrev wordOf : ℕ → ℕ
+  wordOf p = wordIn image (pendingAt pending p .region) (pendingAt pending p .offset)
+
+  word-at : (p : ℕ) → In pending p → wordOf p ≡ finishedAt labels regions pending p
+  word-at p m =
+      image-word regions (patchedRegions labels regions pending) (finished-kept job labels entry regions pending pass) (pendingAt pending p .region)
+      (has-region job labels entry regions pending pass p m) (pendingAt pending p .offset) (reaches job labels entry regions pending pass p m .inside)
+      ∙ word-finished job labels entry regions pending pass p m (λ q. slots-apart job labels entry regions pending pass apart p q m)
+
+  pub pc-at : (p : ℕ) → In pending p → pcIn image (pendingAt pending p) ≡ pcAt regions pending p
   pc-at p m =
-      image-pc regions (patchedRegions labels regions pending) (pendingAt pending p) (finished-kept job labels entry regions pending (premises .accepted))
-      (has-region job labels entry regions pending (premises .accepted) p m)
+      image-pc regions (patchedRegions labels regions pending) (pendingAt pending p) (finished-kept job labels entry regions pending pass)
+      (has-region job labels entry regions pending pass p m)
 
   -- its low bits are the patch's field
-  field-at : (p : ℕ) → In pending p
-      → wordIn (imageOf (patchedRegions labels regions pending)) (pendingAt pending p .region) (pendingAt pending p .offset) % 2 ^ fieldWidth (pendingAt pending p .kind)
-      ≡ fieldValue (pendingAt pending p .kind) (pcAt regions pending p) (destinationAt labels pending p)
-  field-at p m =
+  pub field-at : (kind : InstructionLabelKind) (p : ℕ) → In pending p → pendingAt pending p .kind ≡ kind
+      → wordOf p % 2 ^ fieldWidth kind ≡ fieldValue kind (pcAt regions pending p) (destinationAt labels pending p)
+  field-at kind p m e =
+      let f : wordOf p % 2 ^ fieldWidth (kindOf pending p) ≡ fieldValue (kindOf pending p) (pcAt regions pending p) (destinationAt labels pending p) =
       ap (λ (w : ℕ). w % 2 ^ fieldWidth (kindOf pending p)) (word-at p m)
       ∙ finished-field (kindOf pending p) (pcAt regions pending p) (destinationAt labels pending p) (le32 regions (slotAt regions pending p))
-      (dest-lt job labels entry regions pending (premises .accepted) p m)
+      (dest-lt job labels entry regions pending pass p m) in
+      rw e at f
 
-  -- the distance of each branch: by the premise, or since a build by the manual took it
-  near : (p : ℕ) → In pending p → pendingAt pending p .kind ≡ Branch
-      → (after (pcAt regions pending p) / 4 ≤ destinationAt labels pending p / 4 + 32768)
-      × (destinationAt labels pending p / 4 ≤ after (pcAt regions pending p) / 4 + 32767)
-  near p m e = go job refl
+  -- the distance of a branch: as asked, or since a build by the manual took it
+  near : (p : ℕ) → In pending p → pendingAt pending p .kind ≡ Branch → OnTarget job labels regions pending p → Near labels regions pending p
+  near p m e t = go job refl
     where
-      taken : byManual job ≡ true
-          → (after (pcAt regions pending p) / 4 ≤ destinationAt labels pending p / 4 + 32768)
-          × (destinationAt labels pending p / 4 ≤ after (pcAt regions pending p) / 4 + 32767)
-      taken b = manual-near job b (pcAt regions pending p) (destinationAt labels pending p) (rw e at (in-range job labels entry regions pending (premises .accepted) p m))
+      taken : byManual job ≡ true → Near labels regions pending p
+      taken b = manual-near job b (pcAt regions pending p) (destinationAt labels pending p) (rw e at (in-range job labels entry regions pending pass p m))
 
-      go : (j : Job) → job ≡ j
-          → (after (pcAt regions pending p) / 4 ≤ destinationAt labels pending p / 4 + 32768)
-          × (destinationAt labels pending p / 4 ≤ after (pcAt regions pending p) / 4 + 32767)
-      go Commit q = premises .near q p m e
+      go : (j : Job) → job ≡ j → Near labels regions pending p
+      go Commit q = t .near q e
       go Manual q = taken (ap byManual q)
       go Release6 q = taken (ap byManual q)
 
-  branch-back : (p : ℕ) → In pending p → pendingAt pending p .kind ≡ Branch
-      → readBy Branch (imageOf (patchedRegions labels regions pending)) (pendingAt pending p) ≡ destinationAt labels pending p
+  branch-back : (p : ℕ) → In pending p → pendingAt pending p .kind ≡ Branch → pcAt regions pending p % 4 ≡ 0 → OnTarget job labels regions pending p
+      → readBy Branch image (pendingAt pending p) ≡ destinationAt labels pending p
   unfolding readBy fieldWidth fieldValue
-  branch-back p m e =
-      let f : wordIn (imageOf (patchedRegions labels regions pending)) (pendingAt pending p .region) (pendingAt pending p .offset) % 2 ^ fieldWidth Branch
-      ≡ fieldValue Branch (pcAt regions pending p) (destinationAt labels pending p) = rw e at (field-at p m) in
-      ap₂ (λ (pc n : ℕ). wrap32 (after pc + signedBytes n)) (pc-at p m) f
-      ∙ branch-reads (pcAt regions pending p) (destinationAt labels pending p) (omega (arith, premises .aligned p m)) (omega (arith, premises .branch-target p m e))
-      (dest-lt job labels entry regions pending (premises .accepted) p m) (omega (arith, near p m e .0)) (omega (arith, near p m e .1))
+  branch-back p m e a t =
+      let n = near p m e t in
+      ap₂ (λ (pc n : ℕ). wrap32 (after pc + signedBytes n)) (pc-at p m) (field-at Branch p m e)
+      ∙ branch-reads (pcAt regions pending p) (destinationAt labels pending p) (omega (arith, a)) (omega (arith, t .on-word))
+      (dest-lt job labels entry regions pending pass p m) (omega (arith, n .0)) (omega (arith, n .1))
 
-  jump-back : (p : ℕ) → In pending p → pendingAt pending p .kind ≡ Jump
-      → readBy Jump (imageOf (patchedRegions labels regions pending)) (pendingAt pending p) ≡ destinationAt labels pending p
+  jump-back : (p : ℕ) → In pending p → pendingAt pending p .kind ≡ Jump → OnTarget job labels regions pending p
+      → readBy Jump image (pendingAt pending p) ≡ destinationAt labels pending p
   unfolding readBy fieldWidth fieldValue
-  jump-back p m e =
-      let f : wordIn (imageOf (patchedRegions labels regions pending)) (pendingAt pending p .region) (pendingAt pending p .offset) % 2 ^ fieldWidth Jump
-      ≡ fieldValue Jump (pcAt regions pending p) (destinationAt labels pending p) = rw e at (field-at p m) in
-      let r : inRange job Jump (pcAt regions pending p) (destinationAt labels pending p) ≡ true = rw e at (in-range job labels entry regions pending (premises .accepted) p m) in
-      ap₂ (λ (pc n : ℕ). after pc / 2 ^ 28 * 2 ^ 28 + n * 4) (pc-at p m) f
-      ∙ jump-reads (pcAt regions pending p) (destinationAt labels pending p) (omega (arith, premises .jump-target p m e)) (jump-page job (pcAt regions pending p) (destinationAt labels pending p) r)
+  jump-back p m e t =
+      let r : inRange job Jump (pcAt regions pending p) (destinationAt labels pending p) ≡ true = rw e at (in-range job labels entry regions pending pass p m) in
+      ap₂ (λ (pc n : ℕ). after pc / 2 ^ 28 * 2 ^ 28 + n * 4) (pc-at p m) (field-at Jump p m e)
+      ∙ jump-reads (pcAt regions pending p) (destinationAt labels pending p) (omega (arith, t .on-word)) (jump-page job (pcAt regions pending p) (destinationAt labels pending p) r)
 
-  full-back : (p : ℕ) → In pending p → pendingAt pending p .kind ≡ Full
-      → readBy Full (imageOf (patchedRegions labels regions pending)) (pendingAt pending p) ≡ destinationAt labels pending p
+  full-back : (p : ℕ) → In pending p → pendingAt pending p .kind ≡ Full → readBy Full image (pendingAt pending p) ≡ destinationAt labels pending p
   unfolding readBy finishedWord
   full-back p m e =
       word-at p m
       ∙ ap (λ (k : InstructionLabelKind). finishedWord k (pcAt regions pending p) (destinationAt labels pending p) (le32 regions (slotAt regions pending p))) e
 
   -- a half of each kind
-  upper-half : (p : ℕ) → In pending p → pendingAt pending p .kind ≡ Upper
-      → half (wordIn (imageOf (patchedRegions labels regions pending)) (pendingAt pending p .region) (pendingAt pending p .offset)) ≡ destinationAt labels pending p / 65536
+  upper-half : (p : ℕ) → In pending p → pendingAt pending p .kind ≡ Upper → half (wordOf p) ≡ destinationAt labels pending p / 65536
   unfolding fieldWidth fieldValue
-  upper-half p m e =
-      let f : wordIn (imageOf (patchedRegions labels regions pending)) (pendingAt pending p .region) (pendingAt pending p .offset) % 2 ^ fieldWidth Upper
-      ≡ fieldValue Upper (pcAt regions pending p) (destinationAt labels pending p) = rw e at (field-at p m) in
-      f
+  upper-half p m e = field-at Upper p m e
 
-  lower-half : (p : ℕ) → In pending p → pendingAt pending p .kind ≡ Lower
-      → half (wordIn (imageOf (patchedRegions labels regions pending)) (pendingAt pending p .region) (pendingAt pending p .offset)) ≡ destinationAt labels pending p % 65536
+  lower-half : (p : ℕ) → In pending p → pendingAt pending p .kind ≡ Lower → half (wordOf p) ≡ destinationAt labels pending p % 65536
   unfolding fieldWidth fieldValue
-  lower-half p m e =
-      let f : wordIn (imageOf (patchedRegions labels regions pending)) (pendingAt pending p .region) (pendingAt pending p .offset) % 2 ^ fieldWidth Lower
-      ≡ fieldValue Lower (pcAt regions pending p) (destinationAt labels pending p) = rw e at (field-at p m) in
-      f
+  lower-half p m e = field-at Lower p m e
 
   -- the two of a pair, read together, give the destination of either
-  pair-back : (p q : ℕ) (x : Pair pending p q)
-      → half (wordIn (imageOf (patchedRegions labels regions pending)) (pendingAt pending p .region) (pendingAt pending p .offset)) * 65536
-      + half (wordIn (imageOf (patchedRegions labels regions pending)) (pendingAt pending q .region) (pendingAt pending q .offset)) ≡ destinationAt labels pending p
+  pair-back : (p q : ℕ) → Pair pending p q → half (wordOf p) * 65536 + half (wordOf q) ≡ destinationAt labels pending p
   pair-back p q x =
       ap₂ (λ (a b : ℕ). a * 65536 + b) (upper-half p (x .upper-in) (x .upper-kind))
       (lower-half q (x .lower-in) (x .lower-kind) ∙ ap (λ (d : ℕ). d % 65536) (sym (target-same labels pending p q (x .target))))
       ∙ halves-read (destinationAt labels pending p)
 
-  upper-back : (p : ℕ) → In pending p → pendingAt pending p .kind ≡ Upper
-      → readBy Upper (imageOf (patchedRegions labels regions pending)) (pendingAt pending p) ≡ destinationAt labels pending p
+  upper-back : (p q : ℕ) → Pair pending p q → readBy Upper image (pendingAt pending p) ≡ destinationAt labels pending p
   unfolding readBy
-  upper-back p m e =
-      let w = premises .upper-paired p m e in
-      let q = w .0 in
-      let x = w .1 in
-      ap₂ (λ (r o : ℕ). half (wordIn (imageOf (patchedRegions labels regions pending)) (pendingAt pending p .region) (pendingAt pending p .offset)) * 65536
-      + half (wordIn (imageOf (patchedRegions labels regions pending)) r o)) (sym (x .region)) (sym (x .later))
-      ∙ pair-back p q x
+  upper-back p q x =
+      ap₂ (λ (r o : ℕ). half (wordOf p) * 65536 + half (wordIn image r o)) (sym (x .region)) (sym (x .later)) ∙ pair-back p q x
 
-  lower-back : (q : ℕ) → In pending q → pendingAt pending q .kind ≡ Lower
-      → readBy Lower (imageOf (patchedRegions labels regions pending)) (pendingAt pending q) ≡ destinationAt labels pending q
+  lower-back : (p q : ℕ) → Pair pending p q → readBy Lower image (pendingAt pending q) ≡ destinationAt labels pending q
   unfolding readBy
-  lower-back q m e =
-      let w = premises .lower-paired q m e in
-      let p = w .0 in
-      let x = w .1 in
+  lower-back p q x =
       let o : pendingAt pending q .offset - 4 ≡ pendingAt pending p .offset = omega (arith, x .later) in
-      ap₂ (λ (r o : ℕ). half (wordIn (imageOf (patchedRegions labels regions pending)) r o) * 65536
-      + half (wordIn (imageOf (patchedRegions labels regions pending)) (pendingAt pending q .region) (pendingAt pending q .offset))) (x .region) o
-      ∙ pair-back p q x ∙ target-same labels pending p q (x .target)
+      ap₂ (λ (r o : ℕ). half (wordIn image r o) * 65536 + half (wordOf q)) (x .region) o ∙ pair-back p q x ∙ target-same labels pending p q (x .target)
 
-  by-kind : (kind : InstructionLabelKind) (p : ℕ) → In pending p → pendingAt pending p .kind ≡ kind
-      → readBy kind (imageOf (patchedRegions labels regions pending)) (pendingAt pending p) ≡ destinationAt labels pending p
-  by-kind Branch p m e = branch-back p m e
-  by-kind Jump p m e = jump-back p m e
-  by-kind Lower p m e = lower-back p m e
-  by-kind Upper p m e = upper-back p m e
-  by-kind Full p m e = full-back p m e
+  by-kind : (kind : InstructionLabelKind) (p : ℕ) → In pending p → pendingAt pending p .kind ≡ kind → Readable job labels regions pending kind p
+      → readBy kind image (pendingAt pending p) ≡ destinationAt labels pending p
+  by-kind Branch p m e r = branch-back p m e (r .0) (r .1)
+  by-kind Jump p m e r = jump-back p m e r
+  by-kind Lower p m e r = lower-back (r .0) p (r .1)
+  by-kind Upper p m e r = upper-back p (r .0) (r .1)
+  by-kind Full p m e r = full-back p m e
 
-  each-back : (p : ℕ) → In pending p
-      → Known (reading (imageOf (patchedRegions labels regions pending)) (pendingAt pending p)) ≡ destination labels pending (pendingAt pending p .label)
-  each-back p m = ap Known (by-kind (pendingAt pending p .kind) p m refl) ∙ sym (known job labels entry regions pending (premises .accepted) p m)
+  pub each-back : (p : ℕ) → In pending p → Readable job labels regions pending (pendingAt pending p .kind) p
+      → Known (reading image (pendingAt pending p)) ≡ destination labels pending (pendingAt pending p .label)
+  each-back p m r = ap Known (by-kind (pendingAt pending p .kind) p m refl r) ∙ sym (known job labels entry regions pending pass p m)
 
-  -- One claim on the whole pending list: the list of readings is the list of destinations.
+-- One claim on the whole pending list: under the tender's premises the list of readings is the list of destinations.
+module _ (job : Job) (labels : Table) (entry regions pending : List ℕ) (premises : Premises job labels entry regions pending) where
+  readable : (kind : InstructionLabelKind) (p : ℕ) → In pending p → pendingAt pending p .kind ≡ kind → Readable job labels regions pending kind p
+  readable Branch p m e = (premises .aligned p m, record { on-word = premises .branch-target p m e; near = λ c k. premises .near c p m k })
+  readable Jump p m e = record { on-word = premises .jump-target p m e; near = λ c k. premises .near c p m k }
+  readable Lower p m e = premises .lower-paired p m e
+  readable Upper p m e = premises .upper-paired p m e
+  readable Full p m e = tt
+
   pub read-back : readings (imageOf (patchedRegions labels regions pending)) pending ≡ destinations labels pending
   unfolding readings destinations
-  read-back = map-same (places pending) each-back
+  read-back =
+      map-same (places pending)
+      (λ p m. each-back job labels entry regions pending (premises .accepted) (premises .apart) p m (readable (pendingAt pending p .kind) p m refl))

@@ -39,7 +39,7 @@ map-at f g (q ∷ ps) e p m = go (List·Memᴰ·cases-cons m) (map-at f g ps (cc
     go (inr t) ih = ih p t
 
 -- a label's address is a number of 32 bits
-resolve-lt : (labels : List ℕ) (source : ℕ) (name : List ℕ) (a : ℕ) → Bytes labels → resolve labels source name ≡ Known a → a < 2 ^ 32
+pub resolve-lt : (labels : List ℕ) (source : ℕ) (name : List ℕ) (a : ℕ) → Bytes labels → resolve labels source name ≡ Known a → a < 2 ^ 32
 unfolding resolve
 resolve-lt labels source name a b e = go (labelled labels source name) e
   where
