@@ -44,12 +44,13 @@ use Rattle.formats.specs.LineLoads.{valueLoads, loadingWords}
 use Rattle.formats.specs.LineFormatsLaws.{all-have}
 use Rattle.formats.specs.PseudoFormats.{compared}
 use Rattle.formats.specs.PseudoFormatsLaws.{pseudo-words}
-use Rattle.routine.specs.PatchValues.{Patch, targetOf, originAt, patchTo, patchesFrom}
+use Rattle.routine.specs.PatchValues.{Patch, targetOf, targetAddress, originAt, patchTo, patchesFrom}
+use Rattle.routine.specs.PatchValuesLaws.{destination-is}
 use Rattle.routine.specs.CallValues.{callPairs, callOrigin, callPatches}
 use Rattle.pseudo_meaning.specs.WordsThereLaws.{Words32, words-there}
-use Rattle.pseudo_meaning.specs.Lines.{Emitted, LineInBuild, lineRegion, lineData, lineOffset, lineWords, linePc, afterPc, targetAddress}
+use Rattle.pseudo_meaning.specs.Lines.{Emitted, LineInBuild, lineRegion, lineData, lineOffset, lineWords, linePc, afterPc}
 use Rattle.pseudo_meaning.specs.Premises.{Placed, Reached}
-use Rattle.pseudo_meaning.specs.OwnPatchesLaws.{pairs-are, formats-32, value-plain, branch-patches, OneOwn, one-own, destination-is}
+use Rattle.pseudo_meaning.specs.OwnPatchesLaws.{pairs-are, formats-32, value-plain, branch-patches, OneOwn, one-own}
 use Rattle.pseudo_meaning.specs.ExitLaws.{emittedWords, patched, words-count, plain-word}
 
 -- ---- lists that differ in their last word

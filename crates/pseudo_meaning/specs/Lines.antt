@@ -9,15 +9,13 @@ use Rattle.record.specs.Bytes.{part}
 use Rattle.regions.specs.declared.Region.{Region}
 use Rattle.regions.specs.Regions.{regionCount, regionPlace, regionAt}
 use Rattle.labels.specs.Labels.{Table}
-use Rattle.labels.specs.declared.Address.{Address}
-use Rattle.labels.specs.declared.Address.the-variants.{Known}
 use Rattle.pseudo_names.specs.declared.Pseudo.{Pseudo}
 use Rattle.lexer.specs.Tokens.{tokens}
 use Rattle.operand.specs.Answers.{Got}
 use Rattle.operand_list.specs.OperandLists.{AskedAll, readOperands}
 use Rattle.descriptors.specs.Mnemonics.{mnemonicName}
 use Rattle.pending.specs.Pendings.{pendingAt}
-use Rattle.patch.specs.Patches.{wrap32, plusOffset}
+use Rattle.patch.specs.Patches.{wrap32}
 use Rattle.loading.specs.declared.LoadForm.{LoadForm}
 use Rattle.emit_bytes.specs.Appended.{wordBytes}
 use Rattle.emit_dispatch.specs.Wants.{pseudoWants}
@@ -27,7 +25,7 @@ use Rattle.emit_outcome.specs.Emit.{startOf, emitOutcome}
 use Rattle.emit_outcome.specs.declared.EmitAnswer.the-variants.{Done}
 use Rattle.emit_outcome.specs.declared.Meaning.the-variants.{Builtin}
 use Rattle.finished_words.specs.Listed.{In}
-use Rattle.routine.specs.PatchValues.{Target, Value, Name, patchAt}
+use Rattle.routine.specs.PatchValues.{patchAt}
 use Rattle.routine.specs.CallValues.{callPairs, callPatches}
 
 -- An accepted line of the pseudo-instruction p with the operands x. "A descriptor goes before a pseudo-instruction of that name": the
@@ -84,8 +82,3 @@ module _ (site : LineInBuild) where
     -- "no other patch touches the line"
     pub untouched : (q : ℕ) → In (site .pending) q → (List·Memᴰ q (site .own) → ⊥) → pendingAt (site .pending) q .region ≡ site .call .numbers .place .region
         → (pendingAt (site .pending) q .offset + 4 ≤ lineOffset) ⊎ (lineOffset + 4 * lineWords ≤ pendingAt (site .pending) q .offset)
-
--- "A destination is a constant's low 32 bits, or label address plus offset."
-abbrev pub targetAddress : Table → Target → Address
-targetAddress labels (Value value) = Known (wrap32 value)
-targetAddress labels (Name name location offset) = plusOffset (labels .address (location .source) name) offset

@@ -8,16 +8,12 @@ use mathlib.Core.List.{List, [], _∷_, _++_, map, append-assoc}
 use lib.ListN.{length}
 use Rattle.jobs.specs.declared.Job.{Job}
 use Rattle.record.specs.Bytes.{part}
-use Rattle.labels.specs.Labels.{Table}
-use Rattle.labels.specs.declared.Address.{Address}
 use Rattle.address_label.specs.declared.AddressLabel.{AddressLabel}
-use Rattle.address_label.specs.declared.AddressLabel.the-variants.{Constant, Label}
 use Rattle.address_label.specs.LabelBytes.{nameBytes}
 use Rattle.pseudo_names.specs.declared.Pseudo.{Pseudo}
 use Rattle.lexer.specs.Tokens.{tokens}
 use Rattle.pending.specs.declared.Origin.{Origin}
 use Rattle.pending.specs.declared.InstructionLabelKind.the-variants.{Branch}
-use Rattle.patch.specs.Patches.{destination}
 use Rattle.operand.specs.Answers.{Answer}
 use Rattle.operand.specs.declared.InstructionValue.{InstructionValue}
 use Rattle.operand.specs.declared.InstructionValue.the-variants.{Slot, Literal}
@@ -34,10 +30,10 @@ use Rattle.emit_outcome.specs.Call.{Call}
 use Rattle.emit_outcome.specs.Emit.{startOf}
 use Rattle.formats.specs.Formats.{Format, Has, InFormats, no-words, first}
 use Rattle.formats.specs.LineLoads.{valueLoads, loadingWords}
-use Rattle.routine.specs.PatchValues.{Target, Patch, targetOf, patchAt, originAt, patchTo, patchesFrom}
+use Rattle.routine.specs.PatchValues.{Patch, targetOf, patchAt, originAt, patchTo, patchesFrom}
 use Rattle.routine.specs.CallValues.{meaningPairs, callPairs}
 use Rattle.pseudo_meaning.specs.WordsThereLaws.{Words32}
-use Rattle.pseudo_meaning.specs.Lines.{Emitted, targetAddress}
+use Rattle.pseudo_meaning.specs.Lines.{Emitted}
 
 -- the pairs of an accepted line are those of its operands
 pub pairs-are : (job : Job) (c : Call) (p : Pseudo) (x : AskedAll (pseudoWants p)) → Emitted job c p x → callPairs job c ≡ pseudoPairs job p x
@@ -87,12 +83,6 @@ one-own pending (p ∷ q ∷ ps) patch e = let z : _≡_ {A = ℕ} 0 1 = cc in a
 pub no-own : (pending own : List ℕ) → map (patchAt pending) own ≡ [] → own ≡ []
 no-own pending [] e = refl
 no-own pending (p ∷ ps) e = let z : _≡_ {A = ℕ} 0 1 = cc in absurd (omega arith)
-
--- a pending's destination is that of its value as a patch
-pub destination-is : (labels : Table) (s : List ℕ) (label : AddressLabel) → destination labels s label ≡ targetAddress labels (targetOf label (nameBytes s label))
-unfolding destination
-destination-is labels s (Constant value) = refl
-destination-is labels s (Label name) = refl
 
 -- a set behind the loading words, and abs, have none
 turned-patches : (tl : List ℕ) (origin : Origin) (i w : ℕ) (result : Bool) (dest : RegisterSlot) → patchesFrom tl origin i (plain w ∷ turned result dest) ≡ []

@@ -17,10 +17,10 @@ use Rattle.operand.specs.declared.InstructionValue.the-variants.{Slot, Literal}
 use Rattle.build_outcome.specs.Build.{buildVerdict, buildOutcome}
 use Rattle.finished_words.specs.Listed.{Bytes}
 use Rattle.reading.specs.Reading.{imageOf}
-use Rattle.routine.specs.PatchValues.{targetOf}
+use Rattle.routine.specs.PatchValues.{targetOf, targetAddress}
 use Rattle.machine.specs.declared.Machine.{Machine}
 use Rattle.pseudo_meaning.specs.Overlap.{Alone}
-use Rattle.pseudo_meaning.specs.Lines.{LineInBuild, linePc, afterPc, Stands, targetAddress}
+use Rattle.pseudo_meaning.specs.Lines.{LineInBuild, linePc, afterPc, Stands}
 
 module _ (site : LineInBuild) where
   -- the region list that the build leaves

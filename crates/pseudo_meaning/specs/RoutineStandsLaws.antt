@@ -23,8 +23,10 @@ use Rattle.routine.specs.PatchValues.{Patch, patchAt, patchesIn}
 use Rattle.routine.specs.CallValues.{callPairs, callPatches}
 use Rattle.routine.specs.Run.{filled, Buffers, RoutineLine, callOn, afterLine, run, AllAccepted, next, Each, OfBytes, AllEmpty, routineWords, routinePatches, Inside}
 use Rattle.routine.specs.InsideLaws.{each-mem}
-use Rattle.routine.specs.RoutineLaws.{empty-sound, no-patches, RunFits, run-fits, after-sound}
-use Rattle.routine.specs.FromLaws.{From, fits, after-end, lines-from}
+use Rattle.routine.specs.RoutineLaws.{empty-sound, no-patches, RunFits, run-fits}
+use Rattle.routine.specs.LineFits.{line-fits}
+use Rattle.routine.specs.ChainsLaws.{From}
+use Rattle.routine.specs.RunChainLaws.{lengthsOf, line-appends, run-chained}
 use Rattle.pseudo_meaning.specs.Lines.{Stands}
 use Rattle.pseudo_meaning.specs.RoutineLines.{filledRegion, inBuild}
 
@@ -88,18 +90,17 @@ module _ (before after : List RoutineLine) (l : RoutineLine) (start : Buffers) (
   earlier-end : Each (Inside b₁) earlier
   earlier-end = rw (first-fits .patches-are, no-patches (start .pending) (empty .pending-empty)) (first-fits .inside)
 
-  later-begin : Each (From (afterLine l b₁)) later
+  later-begin : Each (From (lengthsOf (afterLine l b₁))) later
   later-begin = go accepted-then
     where
-      go : AllAccepted (l ∷ after) b₁ → Each (From (afterLine l b₁)) later
-      go (next position loaded e a) =
-          lines-from after (afterLine l b₁) (bytes-then .1) a (after-sound l b₁ (first-fits .sound) (fits l b₁ (bytes-then .0) position loaded e))
+      go : AllAccepted (l ∷ after) b₁ → Each (From (lengthsOf (afterLine l b₁))) later
+      go (next position loaded e a) = run-chained after (afterLine l b₁) (bytes-then .1) a .from
 
   line-end : afterLine l b₁ .region-data r .fill ≡ lineFill + 4 * lineCount
   line-end = go accepted-then
     where
       go : AllAccepted (l ∷ after) b₁ → afterLine l b₁ .region-data r .fill ≡ lineFill + 4 * lineCount
-      go (next position loaded e a) = after-end l b₁ (bytes-then .0) position loaded e
+      go (next position loaded e a) = line-appends l b₁ (line-fits (l .job) c position loaded (bytes-then .0 .0) (bytes-then .0 .1) e) .ends
 
   -- the data before it, its words, and those after it
   all-words : filled (b₃ .region-data r) ≡ filled (b₁ .region-data r) ++ (wordBytes (callPairs (l .job) c) ++ routineWords r after (afterLine l b₁))
@@ -142,8 +143,8 @@ module _ (before after : List RoutineLine) (l : RoutineLine) (start : Buffers) (
       go : List·Memᴰ q ownPlaces ⊎ List·Memᴰ q (own-split .right) → Apart q
       go (inl k) = absurd (n k)
       go (inr k) =
-          let h : From (afterLine l b₁) (patchAt pending q) =
-          each-mem (From (afterLine l b₁)) (patchAt pending) (own-split .right) q (subst (Each (From (afterLine l b₁))) (sym (own-split .right-is)) later-begin) k in
+          let h : From (lengthsOf (afterLine l b₁)) (patchAt pending q) =
+          each-mem (From (lengthsOf (afterLine l b₁))) (patchAt pending) (own-split .right) q (subst (Each (From (lengthsOf (afterLine l b₁)))) (sym (own-split .right-is)) later-begin) k in
           inr (omega (arith, h, line-end, ap (λ (x : ℕ). afterLine l b₁ .region-data x .fill) g))
 
   pub stands : (build : Job) (labels : Table) (entry regions : List ℕ) → r < regionCount regions → filledRegion regions r ≡ filled (b₃ .region-data r)

@@ -1,4 +1,4 @@
--- The patches of a line lie inside the data that its words are appended to. Assumes nothing.
+-- The patches of a line begin where the data ended before it, and lie inside the data that its words are appended to. Assumes nothing.
 use Prim.Native.Nat.{ℕ, _+_, _*_, _≤_}
 use native.Mathlib.Omega.{arith}
 use mathlib.Core.Path.{_≡_, refl}
@@ -45,3 +45,19 @@ patches-before token-list origin i end [] h = tt
 patches-before token-list origin i end (p ∷ ps) h =
     each-append (Before (origin .region) end) (pairPatches token-list (originAt origin i) (p .label)) (patchesFrom token-list origin (i + 1) ps)
     (one-before token-list (originAt origin i) end (p .label) (omega arith)) (patches-before token-list origin (i + 1) end ps (omega arith))
+
+-- a patch of the region that begins there or later
+abbrev pub Behind : (region offset : ℕ) → Patch → Type 0
+Behind region offset p = (p .region ≡ region) × (offset ≤ p .offset)
+
+one-behind : (token-list : List ℕ) (word : Origin) (offset : ℕ) (waits : PairLabel) → offset ≤ word .offset → Each (Behind (word .region) offset) (pairPatches token-list word waits)
+one-behind token-list word offset Nothing h = tt
+one-behind token-list word offset (Some waits) h = ((refl, h), tt)
+
+pub patches-behind : (token-list : List ℕ) (origin : Origin) (i offset : ℕ) (ps : List InstructionPair) → offset ≤ origin .offset + 4 * i
+    → Each (Behind (origin .region) offset) (patchesFrom token-list origin i ps)
+unfolding patchesFrom
+patches-behind token-list origin i offset [] h = tt
+patches-behind token-list origin i offset (p ∷ ps) h =
+    each-append (Behind (origin .region) offset) (pairPatches token-list (originAt origin i) (p .label)) (patchesFrom token-list origin (i + 1) ps)
+    (one-behind token-list (originAt origin i) offset (p .label) h) (patches-behind token-list origin (i + 1) offset ps (omega arith))

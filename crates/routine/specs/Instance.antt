@@ -5,6 +5,7 @@ use mathlib.Core.Path.{_≡_, refl, _∙_}
 use mathlib.Core.List.{List, [], _∷_, _++_}
 use mathlib.Core.Bool.{true}
 use lib.Dec.{ltb}
+use Rattle.jobs.specs.declared.Job.{Job}
 use Rattle.jobs.specs.declared.Job.the-variants.{Commit}
 use Rattle.record.specs.Bytes.{all, sameBytes}
 use Rattle.record.specs.Records.{placesF, placesFrom, places, firstBad, firstBadOf, withinLimit}
@@ -45,43 +46,43 @@ use Rattle.routine.specs.Routine.{listsOf, RoutineFits, routine-fits}
 
 -- ---- the lines
 
-abbrev place : ℕ → Location
+abbrev pub place : ℕ → Location
 place n = record { source = 1; index = n }
 
 -- a Symbol at n; names are ASCII
-abbrev symbol : ℕ → List ℕ → List ℕ
+abbrev pub symbol : ℕ → List ℕ → List ℕ
 symbol n name = recordBytes 8 (locationBytes (place n) ++ name)
 
 -- a line whose mnemonic stands at n
-abbrev line : (region address n : ℕ) → (name tokens : List ℕ) → RoutineLine
-line region address n name tokens = record {
+abbrev pub line : Job → (region address n : ℕ) → (name descriptors tokens : List ℕ) → RoutineLine
+line job region address n name descriptors tokens = record {
   token-list = tokens;
   mnemonic = recordBytes 32 (locationBytes (place n) ++ name);
-  descriptors = [];
-  job = Commit;
+  descriptors = descriptors;
+  job = job;
   place = record { position = 0; region = region; address = address };
 }
 
-abbrev loop : List ℕ
+abbrev pub loop : List ℕ
 loop = 108 ∷ 111 ∷ 111 ∷ 112 ∷ []
 
 -- li $t0,0x12345678
 abbrev li : RoutineLine
-li = line 0 0x00400000 10 (108 ∷ 105 ∷ []) (register 8 ++ comma ++ integer 0x12345678)
+li = line Commit 0 0x00400000 10 (108 ∷ 105 ∷ []) [] (register 8 ++ comma ++ integer 0x12345678)
 
 -- la $t1,loop, in another region
-abbrev la : RoutineLine
-la = line 1 0x00500000 20 (108 ∷ 97 ∷ []) (register 9 ++ comma ++ symbol 25 loop)
+abbrev pub la : RoutineLine
+la = line Commit 1 0x00500000 20 (108 ∷ 97 ∷ []) [] (register 9 ++ comma ++ symbol 25 loop)
 
 -- b loop, back in the first
 abbrev b : RoutineLine
-b = line 0 0x00400000 30 (98 ∷ []) (symbol 32 loop)
+b = line Commit 0 0x00400000 30 (98 ∷ []) [] (symbol 32 loop)
 
 abbrev pub example : List RoutineLine
 example = li ∷ la ∷ b ∷ []
 
 -- empty buffers with room for these lines and no more
-abbrev room : ℕ → Buffer
+abbrev pub room : ℕ → Buffer
 room n = record { bytes = zeros n; fill = 0 }
 
 abbrev pub start : Buffers
@@ -89,7 +90,7 @@ start = record { region-data = λ region. room 12; pending = room 120; breakpoin
 
 -- ---- the premises
 
-line-bytes : (l : RoutineLine) → all (λ (b : ℕ). ltb b 256) (l .token-list) ≡ true → all (λ (b : ℕ). ltb b 256) (l .mnemonic) ≡ true → OfBytes l
+pub line-bytes : (l : RoutineLine) → all (λ (b : ℕ). ltb b 256) (l .token-list) ≡ true → all (λ (b : ℕ). ltb b 256) (l .mnemonic) ≡ true → OfBytes l
 line-bytes l t m = (of-bytes (l .token-list) t, of-bytes (l .mnemonic) m)
 
 example-bytes : Each OfBytes example

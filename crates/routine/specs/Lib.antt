@@ -1,4 +1,5 @@
 pub mod PatchValues
+pub mod PatchValuesLaws
 pub mod BreakpointValues
 pub mod CallValues
 pub mod Run
@@ -11,8 +12,10 @@ pub mod FilledLaws
 pub mod LineFitsLaws
 pub mod LineFits
 pub mod InsideLaws
+pub mod Chains
+pub mod ChainsLaws
+pub mod RunChainLaws
 pub mod RoutineLaws
-pub mod FromLaws
 pub mod Routine
 pub mod Instance
 pub mod WaitsLaws

@@ -4,6 +4,10 @@ use Prim.Native.Nat.{ℕ, _+_, _*_}
 use mathlib.Core.List.{List, [], _∷_, _++_, map}
 use Rattle.record.specs.Records.{places}
 use Rattle.record.specs.declared.Location.{Location}
+use Rattle.labels.specs.Labels.{Table}
+use Rattle.labels.specs.declared.Address.{Address}
+use Rattle.labels.specs.declared.Address.the-variants.{Known}
+use Rattle.patch.specs.Patches.{wrap32, plusOffset}
 use Rattle.address_label.specs.LabelBytes.{nameBytes}
 use Rattle.address_label.specs.declared.AddressLabel.{AddressLabel}
 use Rattle.address_label.specs.declared.AddressLabel.the-variants.{Constant, Label}
@@ -32,6 +36,12 @@ pub record Patch : Type 0 where
 abbrev pub targetOf : AddressLabel → (name : List ℕ) → Target
 targetOf (Constant value) name = Value value
 targetOf (Label label) name = Name name (label .location) (label .offset)
+
+-- "A destination is a constant's low 32 bits, or label address plus offset"; document 02, P6: a name resolves by "the source in the name's
+-- location"
+abbrev pub targetAddress : Table → Target → Address
+targetAddress labels (Value value) = Known (wrap32 value)
+targetAddress labels (Name name location offset) = plusOffset (labels .address (location .source) name) offset
 
 -- ---- those of a pending list
 

@@ -6,7 +6,7 @@ use mathlib.Core.List.{List, [], _∷_, _++_, append-assoc, append-nil}
 use mathlib.Core.Bool.{Bool, true, false, cond}
 use lib.ListN.{length, take}
 use lib.Dec.{eqb}
-use borrow.Author.Tests.{eq-eqb, eqb-true}
+use borrow.Author.Tests.{eqb-true}
 use Rattle.record.specs.Records.{placesF, placesFrom, places, firstBad}
 use Rattle.record.specs.declared.Layout.the-variants.{Good}
 use Rattle.pending.specs.Pendings.{pendingOk, pendingLayout}
@@ -15,11 +15,11 @@ use Rattle.emit_bytes.specs.Appended.{wordBytes}
 use Rattle.emit_outcome.specs.Emit.{emitOutcome}
 use Rattle.routine.specs.PatchValues.{Patch, patchesIn}
 use Rattle.routine.specs.BreakpointValues.{Breakpoint, breakpointsIn}
-use Rattle.routine.specs.CallValues.{callPairs, callOrigin, callPatches, callBreakpoint}
-use Rattle.routine.specs.Run.{Buffer, filled, Buffers, RoutineLine, callOn, selectedAfter, replaced, afterLine, run, AllAccepted, next, Each, OfBytes, Empty, AllEmpty, wordsIn, routineWords, routinePatches, routineBreakpoints, Inside}
-use Rattle.routine.specs.InsideLaws.{each-append, each-so, Before, patches-before}
+use Rattle.routine.specs.CallValues.{callPairs, callPatches, callBreakpoint}
+use Rattle.routine.specs.Run.{Buffer, filled, Buffers, RoutineLine, callOn, selectedAfter, afterLine, run, AllAccepted, next, Each, OfBytes, Empty, AllEmpty, wordsIn, routineWords, routinePatches, routineBreakpoints, Inside}
 use Rattle.routine.specs.FilledLaws.{data-passes, pending-passes, breakpoints-pass, build-passes}
 use Rattle.routine.specs.LineFits.{LineFits, line-fits}
+use Rattle.routine.specs.RunChainLaws.{run-chained}
 
 -- buffers that keep their layouts
 pub record Sound (b : Buffers) : Type 0 where
@@ -54,25 +54,6 @@ after-words l b f region = go (eqb region (l .place .region)) refl
     go : (t : Bool) → eqb region (l .place .region) ≡ t → filled (cond t (selectedAfter l b) (b .region-data region)) ≡ filled (b .region-data region) ++ cond t words []
     go true e = f .words-are ∙ ap (λ (r : ℕ). filled (b .region-data r) ++ words) (sym (eqb-true region (l .place .region) e))
     go false e = sym (append-nil (filled (b .region-data region)))
-
-pub after-grown : (l : RoutineLine) (b : Buffers) → LineFits (l .job) (callOn l b) (emitOutcome (l .job) (callOn l b)) → (region : ℕ) → b .region-data region .fill ≤ afterLine l b .region-data region .fill
-after-grown l b f region = go (eqb region (l .place .region)) refl
-  where
-    go : (t : Bool) → eqb region (l .place .region) ≡ t → b .region-data region .fill ≤ cond t (selectedAfter l b) (b .region-data region) .fill
-    go true e = omega (arith, f .data-grown, ap (λ (r : ℕ). b .region-data r .fill) (eqb-true region (l .place .region) e))
-    go false e = omega arith
-
--- the line's patches lie inside its region's data, and still do when that has grown
-line-inside : (l : RoutineLine) (b later : Buffers) → LineFits (l .job) (callOn l b) (emitOutcome (l .job) (callOn l b)) → ((region : ℕ) → afterLine l b .region-data region .fill ≤ later .region-data region .fill)
-    → Each (Inside later) (callPatches (l .job) (callOn l b))
-line-inside l b later f grown =
-    let c = callOn l b in
-    let selected = l .place .region in
-    let end = emitOutcome (l .job) c .counts .«data_len» in
-    let own : afterLine l b .region-data selected .fill ≡ end = rw (eq-eqb selected selected refl, replaced) in
-    each-so (Before selected end) (Inside later)
-    (λ p h. omega (arith, h .1, own, grown selected, ap (λ (r : ℕ). later .region-data r .fill) (h .0)))
-    (callPatches (l .job) c) (patches-before (l .token-list) (callOrigin c) 0 end (callPairs (l .job) c) (omega (arith, f .data-grown)))
 
 -- a buffer of which nothing is filled
 pub empty-filled : (b : Buffer) → Empty b → filled b ≡ []
@@ -129,7 +110,6 @@ pub record RunFits (lines : List RoutineLine) (b : Buffers) : Type 0 where
   pub words-are : (region : ℕ) → filled (run lines b .region-data region) ≡ filled (b .region-data region) ++ routineWords region lines b
   pub patches-are : patchesIn (filled (run lines b .pending)) ≡ patchesIn (filled (b .pending)) ++ routinePatches lines b
   pub breakpoints-are : breakpointsIn (filled (run lines b .breakpoints)) ≡ breakpointsIn (filled (b .breakpoints)) ++ routineBreakpoints lines b
-  pub grown : (region : ℕ) → b .region-data region .fill ≤ run lines b .region-data region .fill
   pub inside : Each (Inside (run lines b)) (routinePatches lines b)
 
 pub run-fits : (lines : List RoutineLine) (b : Buffers) → Each OfBytes lines → AllAccepted lines b → Sound b → RunFits lines b
@@ -141,7 +121,6 @@ run-fits [] b bytes a s = record {
   words-are = λ region. sym (append-nil (filled (b .region-data region)));
   patches-are = sym (append-nil (patchesIn (filled (b .pending))));
   breakpoints-are = sym (append-nil (breakpointsIn (filled (b .breakpoints))));
-  grown = λ region. omega arith;
   inside = tt;
 }
 run-fits (l ∷ ls) b bytes (next position loaded e a) s =
@@ -161,8 +140,5 @@ run-fits (l ∷ ls) b bytes (next position loaded e a) s =
       breakpoints-are =
           r .breakpoints-are ∙ ap (λ (xs : List Breakpoint). xs ++ routineBreakpoints ls (afterLine l b)) (f .breakpoints-are)
           ∙ append-assoc (breakpointsIn (filled (b .breakpoints))) (callBreakpoint (l .job) c ∷ []) (routineBreakpoints ls (afterLine l b));
-      grown = λ region. omega (arith, after-grown l b f region, r .grown region);
-      inside =
-          each-append (Inside (run ls (afterLine l b))) (callPatches (l .job) c) (routinePatches ls (afterLine l b))
-          (line-inside l b (run ls (afterLine l b)) f (r .grown)) (r .inside);
+      inside = run-chained (l ∷ ls) b bytes (next position loaded e a) .within;
     }
