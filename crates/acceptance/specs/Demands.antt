@@ -1,4 +1,4 @@
--- The tender's three demands, as statements about the definitions of an emit call (`emitOutcome`) and of a build (`buildOutcome`), which the
+-- The tender's three demands, and the third of what emit calls leave, as statements about the definitions of an emit call (`emitOutcome`) and of a build (`buildOutcome`), which the
 -- entries' contracts equate with what they do (`EmittedIs`, `BuildIs`). Assumes nothing.
 use Prim.Native.Nat.{ℕ, _<_}
 use mathlib.Core.Path.{_≡_, ap}
@@ -36,6 +36,8 @@ use Rattle.formats.specs.LineFormats.{LineWords}
 use Rattle.formats.specs.EveryWord.{every-word}
 use Rattle.loaded_lines.specs.Loaded.{callLoads, ConstantAppended}
 use Rattle.loaded_lines.specs.LinesLoad.{constant-appended}
+use Rattle.routine.specs.Run.{Buffers, RoutineLine, AllAccepted, Each, OfBytes, AllEmpty}
+use Rattle.routine_reading.specs.RoutineReads.{RoutineReads, routine-reads}
 use Rattle.acceptance.specs.Marked.{MarkedTable, marked}
 
 -- refusals 1 and 2 of an emit call
@@ -71,6 +73,11 @@ pub record Demand3 : Type 0 where
   pub constants : (c t : ℕ) (g : Registers) → t < 32 → length g ≡ 32 → Loads c t g
   pub lines : (job : Job) (c : Call) (position : ℕ) (loaded : LoadForm) → emitOutcome job c .answer ≡ Done position loaded → (l : LoadedConstant) → callLoads c ≡ some l → ConstantAppended job c l
 
+-- 3 again, of what emit calls leave: lines accepted one after the other on empty buffers, of any jobs, in any regions in any order. The premises on
+-- patches hold of themselves, and what is still asked a loft sees in its text and in its regions' addresses.
+abbrev pub Demand3OfLines : Type 0
+Demand3OfLines = (lines : List RoutineLine) (start : Buffers) → AllEmpty start → Each OfBytes lines → AllAccepted lines start → RoutineReads lines start
+
 pub demand-1 : Demand1
 unfolding emitOutcome buildOutcome
 demand-1 = record {
@@ -84,3 +91,6 @@ demand-2 = record { table = marked; words = every-word; patched = finished }
 
 pub demand-3 : Demand3
 demand-3 = record { read-back = reads-back; apart = differing-apart; constants = loads; lines = constant-appended }
+
+pub demand-3-of-lines : Demand3OfLines
+demand-3-of-lines = routine-reads
