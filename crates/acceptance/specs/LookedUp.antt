@@ -1,5 +1,5 @@
--- What a lookup of a label gives, by computation: its place, and how many names were compared. The list has a `loop` for all files, at 0, and one
--- of file 1, at 12, which goes first in the index. Assumes nothing.
+-- What a lookup of a label gives, by computation: its place, and how many names were compared. The list has a `loop` for all files, at 0, one
+-- of file 1, at 12, which goes first in the index, and `main`, at 28. Assumes nothing.
 use Prim.Native.Nat.{ℕ}
 use mathlib.Core.List.{List, [], _∷_}
 use mathlib.Core.Path.{_≡_, refl}
@@ -11,7 +11,7 @@ use Rattle.labels.specs.Lookup.{lookedForAll, lookedUp}
 use Rattle.finished_words.specs.InstanceTables.{loop, labels₁}
 
 abbrev index : List ℕ
-index = 12 ∷ 0 ∷ []
+index = 12 ∷ 0 ∷ 28 ∷ []
 
 pub record LookedUp : Type 0 where
   -- for file 1: its own, the second that is compared

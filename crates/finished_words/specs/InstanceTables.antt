@@ -1,4 +1,4 @@
--- The lists on which the theorems' premises are met: three label tables, an entry record, two regions, six pendings. Assumes nothing.
+-- The lists on which the theorems' premises are met: four label tables, an entry record, two regions, six pendings. Assumes nothing.
 use Prim.Native.Nat.{ℕ, _/_, _%_}
 use mathlib.Core.List.{List, [], _∷_, _++_}
 use lib.ListN.{length}
@@ -28,12 +28,18 @@ region address words = kinded 35 (four address ++ words)
 abbrev pub loop : List ℕ
 loop = 0x6C ∷ 0x6F ∷ 0x6F ∷ 0x70 ∷ []
 
--- form, value, location and name: a constant, or `loop` with an offset, its location 1, 2
+abbrev pub main : List ℕ
+main = 0x6D ∷ 0x61 ∷ 0x69 ∷ 0x6E ∷ []
+
+-- form, value, location and name: a constant, or a name with an offset, its location 1, 2
 abbrev constant : ℕ → List ℕ
 constant value = 0 ∷ eight value ++ four 0 ++ four 0
 
+abbrev named : List ℕ → ℕ → List ℕ
+named name offset = 1 ∷ eight offset ++ four 1 ++ four 2 ++ name
+
 abbrev loopPlus : ℕ → List ℕ
-loopPlus offset = 1 ∷ eight offset ++ four 1 ++ four 2 ++ loop
+loopPlus = named loop
 
 -- region, offset, location 1, 1, patch kind, target
 abbrev patch : ℕ → ℕ → ℕ → List ℕ → List ℕ
@@ -41,22 +47,25 @@ patch number offset kind target = kinded 36 (two number ++ four offset ++ four 1
 
 -- ---- the lists
 
--- each table has a `loop` for all files and one of file 1; the second differs from the first in the one for all, to which neither a pending
--- nor the entry resolves, and the third in that of file 1, to which both do
-abbrev loops : (forAll forFirst : ℕ) → List ℕ
-loops forAll forFirst = label forAll loop ++ owned forFirst 1 loop
+-- Each table has a `loop` for all files, one of file 1, and `main`. The second differs from the first in the `loop` for all, to which nothing
+-- resolves; the third in that of file 1, to which pendings resolve; the fourth in `main`, which the entry alone names.
+abbrev labelled : (forAll forFirst start : ℕ) → List ℕ
+labelled forAll forFirst start = label forAll loop ++ owned forFirst 1 loop ++ label start main
 
 unfoldable pub labels₁ : List ℕ
-labels₁ = loops 0x00001000 0x00400008
+labels₁ = labelled 0x00001000 0x00400008 0x00400004
 
 unfoldable pub labels₂ : List ℕ
-labels₂ = loops 0x00002000 0x00400008
+labels₂ = labelled 0x00002000 0x00400008 0x00400004
 
 unfoldable pub labels₃ : List ℕ
-labels₃ = loops 0x00001000 0x0040000C
+labels₃ = labelled 0x00001000 0x0040000C 0x00400004
+
+unfoldable pub labels₄ : List ℕ
+labels₄ = labelled 0x00001000 0x00400008 0x0040000C
 
 unfoldable pub entry : List ℕ
-entry = kinded 38 (loopPlus 0)
+entry = kinded 38 (named main 0)
 
 unfoldable pub regions : List ℕ
 regions =
@@ -74,7 +83,7 @@ pending =
     ++ patch 0 8 1 (loopPlus 0xFFFFFFFFFFFFFFFC)
     ++ patch 0 12 0 (constant 0x003E0010)
 
--- the regions after the build with the first table, or the second
+-- the regions after the build with the first table, the second or the fourth
 unfoldable pub finished : List ℕ
 finished =
     region 0x00400000 (four 0x10000001 ++ four 0 ++ four 0x08100001 ++ four 0x15098000)

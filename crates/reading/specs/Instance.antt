@@ -1,4 +1,4 @@
--- The premises of the theorems can be met: three tables that meet them, and what the theorems say there. Assumes nothing.
+-- The premises of the theorems can be met: four tables that meet them, and what the theorems say there. Assumes nothing.
 use Prim.Native.Nat.{ℕ, _%_}
 use native.Mathlib.Omega.{arith}
 use mathlib.Core.List.{List, [], _∷_, List·Memᴰ·head, List·Memᴰ·tail}
@@ -21,13 +21,13 @@ use Rattle.build_outcome.specs.Build.{patchOrder, buildVerdict, writePatches, B
 use Rattle.build_outcome.specs.declared.Built.the-variants.{Entry}
 use Rattle.reading.specs.Reading.{imageOf, readings, destinations}
 use Rattle.finished_words.specs.Listed.{In, pcAt, destinationAt}
-use Rattle.finished_words.specs.InstanceTables.{loop, labels₁, labels₂, labels₃, entry, regions, pending, exampleRegions, examplePending, exampleFinished}
+use Rattle.finished_words.specs.InstanceTables.{loop, main, labels₁, labels₂, labels₃, labels₄, entry, regions, pending, exampleRegions, examplePending, exampleFinished}
 use Rattle.finished_words.specs.ListedLaws.{of-bytes}
 use Rattle.finished_words.specs.Instance.{each, apart}
 use Rattle.reading.specs.Premises.{Pair, Premises}
 use Rattle.reading.specs.Used.{SameUsed}
 use Rattle.reading.specs.Demand.{reads-back, never-shared, differing-apart}
-use Rattle.reading.specs.InstanceLaws.{onWord, notFarBack, notFarOn, fits, in-each, outcome, Computed, evaluated}
+use Rattle.reading.specs.InstanceLaws.{onWord, notFarBack, notFarOn, fits, in-each, outcome, startedElsewhere, Computed, evaluated}
 
 -- ---- the premises
 pair : Pair pending 116 0
@@ -78,6 +78,9 @@ instance₂ job = premises job labels₂ (evaluated .second)
 
 pub instance₃ : (job : Job) → Premises job (tableOf labels₃) entry regions pending
 instance₃ job = premises job labels₃ (evaluated .third)
+
+pub instance₄ : (job : Job) → Premises job (tableOf labels₄) entry regions pending
+instance₄ job = premises job labels₄ (evaluated .fourth)
 
 -- the six readings, in list order
 pub instance-reads : (job : Job) → readings (imageOf (buildOutcome job (tableOf labels₁) entry regions pending .regions)) pending ≡ destinations (tableOf labels₁) pending
@@ -136,6 +139,28 @@ pub instance-apart : (job : Job) → imageOf (buildOutcome job (tableOf labels�
     → buildOutcome job (tableOf labels₁) entry regions pending .answer ≡ buildOutcome job (tableOf labels₃) entry regions pending .answer → ⊥
 instance-apart job =
     differing-apart job labels₁ labels₃ entry regions pending (of-bytes labels₁ (evaluated .first .bytes-fit)) (of-bytes labels₃ (evaluated .third .bytes-fit)) (instance₁ job) (instance₃ job) not-same-used
+
+-- ---- the first and the fourth differ in the entry's label alone: they share the image, and so not its entry
+pub entry-differs : (resolve labels₁ 1 main ≡ Known 0x00400004) × (resolve labels₄ 1 main ≡ Known 0x0040000C)
+entry-differs = evaluated .entry-addresses
+
+pub same-image : (job : Job) → buildOutcome job (tableOf labels₁) entry regions pending .regions ≡ buildOutcome job (tableOf labels₄) entry regions pending .regions
+same-image job =
+    ap (λ (o : BuildOutcome). o .regions) (in-each (λ job. buildOutcome job (tableOf labels₁) entry regions pending ≡ outcome) (evaluated .first-outcome) job)
+    ∙ sym (ap (λ (o : BuildOutcome). o .regions) (in-each (λ job. buildOutcome job (tableOf labels₄) entry regions pending ≡ startedElsewhere) (evaluated .fourth-outcome) job))
+
+not-same-entry : SameUsed (tableOf labels₁) (tableOf labels₄) entry pending → ⊥
+not-same-entry u =
+    let m : In entry 0 = rw (evaluated .entry-places) (List·Memᴰ·head refl) in
+    let s : resolve labels₁ 1 main ≡ resolve labels₄ 1 main = rw (evaluated .main-named .1 .0, evaluated .main-named .1 .1) at (u .by-entry 0 m (λ z. omega (arith, evaluated .main-named .0))) in
+    let r = entry-differs in
+    let z : _≡_ {A = ℕ} 0x00400004 0x0040000C = cc in
+    omega arith
+
+pub entries-apart : (job : Job) → buildOutcome job (tableOf labels₁) entry regions pending .answer ≡ buildOutcome job (tableOf labels₄) entry regions pending .answer → ⊥
+entries-apart job =
+    differing-apart job labels₁ labels₄ entry regions pending (of-bytes labels₁ (evaluated .first .bytes-fit)) (of-bytes labels₄ (evaluated .fourth .bytes-fit)) (instance₁ job) (instance₄ job) not-same-entry
+    (ap imageOf (same-image job))
 
 -- document 01's example of a build
 pub example : buildOutcome Commit (tableOf []) [] exampleRegions examplePending ≡ record { answer = Entry 0x00400000; regions = exampleFinished }

@@ -125,4 +125,4 @@ module _ (job : Job) (labels₁ labels₂ entry regions pending : List ℕ) (b�
   -- Equal image and equal entry: every used address is equal.
   pub same-used : imageOf (patchedRegions (tableOf labels₁) regions pending) ≡ imageOf (patchedRegions (tableOf labels₂) regions pending)
       → entryAddress (tableOf labels₁) entry (entryOf entry (places entry)) ≡ entryAddress (tableOf labels₂) entry (entryOf entry (places entry)) → SameUsed (tableOf labels₁) (tableOf labels₂) entry pending
-  same-used i e = record { by-pending = pending-used i; by-entry = entry-used e }
+  same-used i e = record { by-pending = pending-used i; by-entry = λ p m n. let h = entry-used e p m n in cc }
