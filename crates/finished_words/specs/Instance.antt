@@ -57,12 +57,12 @@ bit-outside p m =
 pub instance : Finished (tableOf labels₁) regions pending (buildOutcome Commit (tableOf labels₁) entry regions pending .regions)
 instance = finished Commit (tableOf labels₁) entry regions pending (evaluated .accepted)
 
--- the six words, in list order, at entry and at exit
-pub words-at-entry : wordsIn regions regions pending ≡ 0x34210000 ∷ 0x10000000 ∷ 0x00000000 ∷ 0x3C010000 ∷ 0x08000000 ∷ 0x15090000 ∷ []
+-- the seven words, in list order, at entry and at exit
+pub words-at-entry : wordsIn regions regions pending ≡ 0x34210000 ∷ 0x10000000 ∷ 0x00000000 ∷ 0x3C010000 ∷ 0x08000000 ∷ 0x15090000 ∷ 0x11090000 ∷ []
 words-at-entry = evaluated .at-entry
 
 pub instance-words : wordsIn (buildOutcome Commit (tableOf labels₁) entry regions pending .regions) regions pending
-    ≡ 0x3421C008 ∷ 0x10000001 ∷ 0x12345678 ∷ 0x3C010040 ∷ 0x08100001 ∷ 0x15098000 ∷ []
+    ≡ 0x3421C008 ∷ 0x10000001 ∷ 0x12345678 ∷ 0x3C010040 ∷ 0x08100001 ∷ 0x15098000 ∷ 0x11097FFF ∷ []
 instance-words = instance .words-are apart ∙ evaluated .at-exit
 
 pub instance-byte : byteAt (buildOutcome Commit (tableOf labels₁) entry regions pending .regions) 12 ≡ byteAt regions 12

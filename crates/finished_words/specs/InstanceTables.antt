@@ -1,4 +1,4 @@
--- The lists on which the theorems' premises are met: four label tables, an entry record, two regions, six pendings. Assumes nothing.
+-- The lists on which the theorems' premises are met: four label tables, an entry record, two regions, seven pendings. Assumes nothing.
 use Prim.Native.Nat.{ℕ, _/_, _%_}
 use mathlib.Core.List.{List, [], _∷_, _++_}
 use lib.ListN.{length}
@@ -69,11 +69,12 @@ entry = kinded 38 (named main 0)
 
 unfoldable pub regions : List ℕ
 regions =
-    region 0x00400000 (four 0x10000000 ++ four 0 ++ four 0x08000000 ++ four 0x15090000)
+    region 0x00400000 (four 0x10000000 ++ four 0 ++ four 0x08000000 ++ four 0x15090000 ++ four 0x11090000)
     ++ region 0x10010000 (four 0x3C010000 ++ four 0x34210000 ++ four 0)
 
--- Six patches, of the regions 1, 0, 1, 1, 0, 0: a Lower to loop + 0xC000; a Branch forward to loop; a Full, to the low 32 bits of its
--- constant; the Lower's Upper; a Jump to loop - 4, by a sum that wraps; a Branch back by 32,768 words, to a constant.
+-- Seven patches, of the regions 1, 0, 1, 1, 0, 0, 0: a Lower to loop + 0xC000; a Branch forward to loop; a Full, to the low 32 bits of its
+-- constant; the Lower's Upper; a Jump to loop - 4, by a sum that wraps; a Branch back by 32,768 words and one 32,767 words ahead, each to a
+-- constant.
 unfoldable pub pending : List ℕ
 pending =
     patch 1 4 2 (loopPlus 0xC000)
@@ -82,11 +83,12 @@ pending =
     ++ patch 1 0 3 (loopPlus 0xC000)
     ++ patch 0 8 1 (loopPlus 0xFFFFFFFFFFFFFFFC)
     ++ patch 0 12 0 (constant 0x003E0010)
+    ++ patch 0 16 0 (constant 0x00420010)
 
 -- the regions after the build with the first table, the second or the fourth
 unfoldable pub finished : List ℕ
 finished =
-    region 0x00400000 (four 0x10000001 ++ four 0 ++ four 0x08100001 ++ four 0x15098000)
+    region 0x00400000 (four 0x10000001 ++ four 0 ++ four 0x08100001 ++ four 0x15098000 ++ four 0x11097FFF)
     ++ region 0x10010000 (four 0x3C010040 ++ four 0x3421C008 ++ four 0x12345678)
 
 -- document 01's example: "region 0x00400000 with bytes 00 00 00 10, and one Branch pending at 0 to constant 0x00400000"

@@ -1,5 +1,5 @@
 -- The premises of the theorems can be met: four tables that meet them, and what the theorems say there. Assumes nothing.
-use Prim.Native.Nat.{ℕ, _%_}
+use Prim.Native.Nat.{ℕ, _+_, _/_, _%_, _≤_}
 use native.Mathlib.Omega.{arith}
 use mathlib.Core.List.{List, [], _∷_, List·Memᴰ·head, List·Memᴰ·tail}
 use mathlib.Core.Bool.{true, _&&_, and-eq-true-iff}
@@ -17,6 +17,7 @@ use Rattle.pending.specs.declared.InstructionLabelKind.{InstructionLabelKind}
 use Rattle.pending.specs.declared.InstructionLabelKind.the-variants.{Branch, Jump, Lower, Upper}
 use Rattle.refusal.specs.declared.Verdict.the-variants.{Pass}
 use Rattle.pending.specs.Pendings.{kindFrom, pendingAt}
+use Rattle.patch.specs.Patches.{after}
 use Rattle.build_outcome.specs.Build.{patchOrder, buildVerdict, writePatches, BuildOutcome, buildOutcome}
 use Rattle.build_outcome.specs.declared.Built.the-variants.{Entry}
 use Rattle.reading.specs.Reading.{imageOf, readings, destinations}
@@ -56,6 +57,12 @@ module _ (job : Job) (labels : List ℕ) (computed : Computed labels) where
   on-word : (p : ℕ) → onWord (tableOf labels) p ≡ true → destinationAt (tableOf labels) pending p % 4 ≡ 0
   on-word p e = eqb-true (destinationAt (tableOf labels) pending p % 4) 0 e
 
+  far-back : (p : ℕ) → notFarBack (tableOf labels) p ≡ true → after (pcAt regions pending p) / 4 ≤ destinationAt (tableOf labels) pending p / 4 + 32768
+  far-back p e = leb-true (after (pcAt regions pending p) / 4) (destinationAt (tableOf labels) pending p / 4 + 32768) e
+
+  far-on : (p : ℕ) → notFarOn (tableOf labels) p ≡ true → destinationAt (tableOf labels) pending p / 4 ≤ after (pcAt regions pending p) / 4 + 32767
+  far-on p e = leb-true (destinationAt (tableOf labels) pending p / 4) (after (pcAt regions pending p) / 4 + 32767) e
+
   premises : Premises job (tableOf labels) entry regions pending
   premises =
       record {
@@ -64,7 +71,7 @@ module _ (job : Job) (labels : List ℕ) (computed : Computed labels) where
         apart = apart;
         branch-target = λ p m e. on-word p (branching p m e .0);
         jump-target = λ p m e. on-word p (fitting Jump p m e);
-        near = λ commit p m e. (leb-true _ _ (branching p m e .1 .0), leb-true _ _ (branching p m e .1 .1));
+        near = λ commit p m e. (omega (arith, far-back p (branching p m e .1 .0)), omega (arith, far-on p (branching p m e .1 .1)));
         upper-paired = λ p m e. (0, rw (eqb-true p 116 (fitting Upper p m e)) pair);
         lower-paired = λ p m e. (116, rw (eqb-true p 0 (fitting Lower p m e)) pair);
       }
@@ -82,12 +89,12 @@ instance₃ job = premises job labels₃ (evaluated .third)
 pub instance₄ : (job : Job) → Premises job (tableOf labels₄) entry regions pending
 instance₄ job = premises job labels₄ (evaluated .fourth)
 
--- the six readings, in list order
+-- the seven readings, in list order
 pub instance-reads : (job : Job) → readings (imageOf (buildOutcome job (tableOf labels₁) entry regions pending .regions)) pending ≡ destinations (tableOf labels₁) pending
 instance-reads job = reads-back job (tableOf labels₁) entry regions pending (instance₁ job)
 
 pub instance-numbers : destinations (tableOf labels₁) pending
-    ≡ Known 0x0040C008 ∷ Known 0x00400008 ∷ Known 0x12345678 ∷ Known 0x0040C008 ∷ Known 0x00400004 ∷ Known 0x003E0010 ∷ []
+    ≡ Known 0x0040C008 ∷ Known 0x00400008 ∷ Known 0x12345678 ∷ Known 0x0040C008 ∷ Known 0x00400004 ∷ Known 0x003E0010 ∷ Known 0x00420010 ∷ []
 instance-numbers = evaluated .destined
 
 -- ---- other builds, which do not read back here

@@ -29,7 +29,7 @@ use Rattle.finished_words.specs.WordsLaws.{finished-field}
 use Rattle.finished_words.specs.AcceptedLaws.{has-region, reaches, known, dest-lt, in-range, slots-apart, finished-kept}
 use Rattle.finished_words.specs.FinishedLaws.{map-same, word-finished}
 use Rattle.reading.specs.Reading.{Image, imageOf, pcIn, wordIn, half, signedBytes, readBy, reading, readings, destinations}
-use Rattle.reading.specs.Premises.{Premises, Pair, SameTarget, Near}
+use Rattle.reading.specs.Premises.{Premises, Pair, SameTarget}
 use Rattle.reading.specs.OnTarget.{OnTarget}
 use Rattle.reading.specs.ArithmeticLaws.{branch-reads, jump-reads, halves-read}
 use Rattle.reading.specs.ImageLaws.{image-word, image-pc}
@@ -108,14 +108,20 @@ module _ (job : Job) (labels : Table) (entry regions pending : List ℕ) (pass :
       rw e at f
 
   -- the distance of a branch: as asked, or since a build by the manual took it
-  near : (p : ℕ) → In pending p → pendingAt pending p .kind ≡ Branch → OnTarget job labels regions pending p → Near labels regions pending p
+  near : (p : ℕ) → In pending p → pendingAt pending p .kind ≡ Branch → OnTarget job labels regions pending p
+      → (after (pcAt regions pending p) / 4 ≤ destinationAt labels pending p / 4 + 32768)
+      × (destinationAt labels pending p / 4 ≤ after (pcAt regions pending p) / 4 + 32767)
   near p m e t = go job refl
     where
-      taken : byManual job ≡ true → Near labels regions pending p
+      taken : byManual job ≡ true
+          → (after (pcAt regions pending p) / 4 ≤ destinationAt labels pending p / 4 + 32768)
+          × (destinationAt labels pending p / 4 ≤ after (pcAt regions pending p) / 4 + 32767)
       taken b = manual-near job b (pcAt regions pending p) (destinationAt labels pending p) (rw e at (in-range job labels entry regions pending pass p m))
 
-      go : (j : Job) → job ≡ j → Near labels regions pending p
-      go Commit q = t .near q e
+      go : (j : Job) → job ≡ j
+          → (after (pcAt regions pending p) / 4 ≤ destinationAt labels pending p / 4 + 32768)
+          × (destinationAt labels pending p / 4 ≤ after (pcAt regions pending p) / 4 + 32767)
+      go Commit q = let n = t .near q e in (omega (arith, n .0), omega (arith, n .1))
       go Manual q = taken (ap byManual q)
       go Release6 q = taken (ap byManual q)
 
