@@ -10,3 +10,4 @@ pub mod Function18
 pub mod Function18Laws
 pub mod Demands
 pub mod LookedUp
+pub mod TwoOwners

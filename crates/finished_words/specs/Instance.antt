@@ -62,7 +62,7 @@ pub words-at-entry : wordsIn regions regions pending ≡ 0x34210000 ∷ 0x100000
 words-at-entry = evaluated .at-entry
 
 pub instance-words : wordsIn (buildOutcome Commit (tableOf labels₁) entry regions pending .regions) regions pending
-    ≡ 0x3421C008 ∷ 0x10000001 ∷ 0x12345678 ∷ 0x3C010040 ∷ 0x08100001 ∷ 0x15098000 ∷ 0x11097FFF ∷ []
+    ≡ 0x3421C008 ∷ 0x10000001 ∷ 0x12345678 ∷ 0x3C010040 ∷ 0x08100003 ∷ 0x15098000 ∷ 0x11097FFF ∷ []
 instance-words = instance .words-are apart ∙ evaluated .at-exit
 
 pub instance-byte : byteAt (buildOutcome Commit (tableOf labels₁) entry regions pending .regions) 12 ≡ byteAt regions 12

@@ -53,7 +53,7 @@ pub record Evaluated : Type 0 where
   pub bit-clear : all (bitClear 11 4) (places pending) ≡ true
   pub bit-is : bitAt regions 11 4 ≡ 1
   pub at-entry : wordsIn regions regions pending ≡ 0x34210000 ∷ 0x10000000 ∷ 0x00000000 ∷ 0x3C010000 ∷ 0x08000000 ∷ 0x15090000 ∷ 0x11090000 ∷ []
-  pub at-exit : finishedWords (tableOf labels₁) regions pending ≡ 0x3421C008 ∷ 0x10000001 ∷ 0x12345678 ∷ 0x3C010040 ∷ 0x08100001 ∷ 0x15098000 ∷ 0x11097FFF ∷ []
+  pub at-exit : finishedWords (tableOf labels₁) regions pending ≡ 0x3421C008 ∷ 0x10000001 ∷ 0x12345678 ∷ 0x3C010040 ∷ 0x08100003 ∷ 0x15098000 ∷ 0x11097FFF ∷ []
 
 pub evaluated : Evaluated
 unfolding labels₁ entry regions pending wordsIn finishedWords finishedWord buildVerdict layoutVerdicts pendingVerdict reachVerdict orderFrom keep inRange jumpInRange branchInRange fieldWidth destination kindFrom pendingLayout pendingOk entryLayout entryOk addressLabelOk regionLayout regionRecords regionOk resolve labelLayout labelOk firstLater firstWhere firstStop withinLimit firstBadOf firstBad places placesFrom placesF all sameBytes getField

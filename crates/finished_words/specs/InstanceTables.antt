@@ -31,15 +31,12 @@ loop = 0x6C ∷ 0x6F ∷ 0x6F ∷ 0x70 ∷ []
 abbrev pub main : List ℕ
 main = 0x6D ∷ 0x61 ∷ 0x69 ∷ 0x6E ∷ []
 
--- form, value, location and name: a constant, or a name with an offset, its location 1, 2
+-- form, value, location and name: a constant, or a name with an offset, its location a file and 2
 abbrev constant : ℕ → List ℕ
 constant value = 0 ∷ eight value ++ four 0 ++ four 0
 
-abbrev named : List ℕ → ℕ → List ℕ
-named name offset = 1 ∷ eight offset ++ four 1 ++ four 2 ++ name
-
-abbrev loopPlus : ℕ → List ℕ
-loopPlus = named loop
+abbrev named : (source : ℕ) → List ℕ → ℕ → List ℕ
+named source name offset = 1 ∷ eight offset ++ four source ++ four 2 ++ name
 
 -- region, offset, location 1, 1, patch kind, target
 abbrev patch : ℕ → ℕ → ℕ → List ℕ → List ℕ
@@ -47,48 +44,48 @@ patch number offset kind target = kinded 36 (two number ++ four offset ++ four 1
 
 -- ---- the lists
 
--- Each table has a `loop` for all files, one of file 1, and `main`. The second differs from the first in the `loop` for all, to which nothing
--- resolves; the third in that of file 1, to which pendings resolve; the fourth in `main`, which the entry alone names.
-abbrev labelled : (forAll forFirst start : ℕ) → List ℕ
-labelled forAll forFirst start = label forAll loop ++ owned forFirst 1 loop ++ label start main
+-- Each table has a `loop` for all files, one of file 1, one of file 2, and `main`. The second differs from the first in the `loop` for all, to
+-- which nothing resolves; the third in that of file 1, to which pendings resolve; the fourth in `main`, which the entry alone names.
+abbrev labelled : (forAll forFirst forSecond start : ℕ) → List ℕ
+labelled forAll forFirst forSecond start = label forAll loop ++ owned forFirst 1 loop ++ owned forSecond 2 loop ++ label start main
 
 unfoldable pub labels₁ : List ℕ
-labels₁ = labelled 0x00001000 0x00400008 0x00400004
+labels₁ = labelled 0x00001000 0x00400008 0x00400010 0x00400004
 
 unfoldable pub labels₂ : List ℕ
-labels₂ = labelled 0x00002000 0x00400008 0x00400004
+labels₂ = labelled 0x00002000 0x00400008 0x00400010 0x00400004
 
 unfoldable pub labels₃ : List ℕ
-labels₃ = labelled 0x00001000 0x0040000C 0x00400004
+labels₃ = labelled 0x00001000 0x0040000C 0x00400010 0x00400004
 
 unfoldable pub labels₄ : List ℕ
-labels₄ = labelled 0x00001000 0x00400008 0x0040000C
+labels₄ = labelled 0x00001000 0x00400008 0x00400010 0x0040000C
 
 unfoldable pub entry : List ℕ
-entry = kinded 38 (named main 0)
+entry = kinded 38 (named 1 main 0)
 
 unfoldable pub regions : List ℕ
 regions =
     region 0x00400000 (four 0x10000000 ++ four 0 ++ four 0x08000000 ++ four 0x15090000 ++ four 0x11090000)
     ++ region 0x10010000 (four 0x3C010000 ++ four 0x34210000 ++ four 0)
 
--- Seven patches, of the regions 1, 0, 1, 1, 0, 0, 0: a Lower to loop + 0xC000; a Branch forward to loop; a Full, to the low 32 bits of its
--- constant; the Lower's Upper; a Jump to loop - 4, by a sum that wraps; a Branch back by 32,768 words and one 32,767 words ahead, each to a
+-- Seven patches, of the regions 1, 0, 1, 1, 0, 0, 0: a Lower to file 1's loop + 0xC000; a Branch forward to that loop; a Full, to the low 32 bits of its
+-- constant; the Lower's Upper; a Jump to file 2's loop - 4, by a sum that wraps; a Branch back by 32,768 words and one 32,767 words ahead, each to a
 -- constant.
 unfoldable pub pending : List ℕ
 pending =
-    patch 1 4 2 (loopPlus 0xC000)
-    ++ patch 0 0 0 (loopPlus 0)
+    patch 1 4 2 (named 1 loop 0xC000)
+    ++ patch 0 0 0 (named 1 loop 0)
     ++ patch 1 8 4 (constant 0xFFFFFFFF12345678)
-    ++ patch 1 0 3 (loopPlus 0xC000)
-    ++ patch 0 8 1 (loopPlus 0xFFFFFFFFFFFFFFFC)
+    ++ patch 1 0 3 (named 1 loop 0xC000)
+    ++ patch 0 8 1 (named 2 loop 0xFFFFFFFFFFFFFFFC)
     ++ patch 0 12 0 (constant 0x003E0010)
     ++ patch 0 16 0 (constant 0x00420010)
 
 -- the regions after the build with the first table, the second or the fourth
 unfoldable pub finished : List ℕ
 finished =
-    region 0x00400000 (four 0x10000001 ++ four 0 ++ four 0x08100001 ++ four 0x15098000 ++ four 0x11097FFF)
+    region 0x00400000 (four 0x10000001 ++ four 0 ++ four 0x08100003 ++ four 0x15098000 ++ four 0x11097FFF)
     ++ region 0x10010000 (four 0x3C010040 ++ four 0x3421C008 ++ four 0x12345678)
 
 -- document 01's example: "region 0x00400000 with bytes 00 00 00 10, and one Branch pending at 0 to constant 0x00400000"

@@ -94,7 +94,7 @@ pub instance-reads : (job : Job) → readings (imageOf (buildOutcome job (tableO
 instance-reads job = reads-back job (tableOf labels₁) entry regions pending (instance₁ job)
 
 pub instance-numbers : destinations (tableOf labels₁) pending
-    ≡ Known 0x0040C008 ∷ Known 0x00400008 ∷ Known 0x12345678 ∷ Known 0x0040C008 ∷ Known 0x00400004 ∷ Known 0x003E0010 ∷ Known 0x00420010 ∷ []
+    ≡ Known 0x0040C008 ∷ Known 0x00400008 ∷ Known 0x12345678 ∷ Known 0x0040C008 ∷ Known 0x0040000C ∷ Known 0x003E0010 ∷ Known 0x00420010 ∷ []
 instance-numbers = evaluated .destined
 
 -- ---- other builds, which do not read back here
@@ -122,7 +122,7 @@ same-outcome job =
     in-each (λ job. buildOutcome job (tableOf labels₁) entry regions pending ≡ outcome) (evaluated .first-outcome) job
     ∙ sym (in-each (λ job. buildOutcome job (tableOf labels₂) entry regions pending ≡ outcome) (evaluated .second-outcome) job)
 
-pub tables-differ : (resolve labels₁ 2 loop ≡ Known 0x00001000) × (resolve labels₂ 2 loop ≡ Known 0x00002000)
+pub tables-differ : (resolve labels₁ 3 loop ≡ Known 0x00001000) × (resolve labels₂ 3 loop ≡ Known 0x00002000)
 tables-differ = evaluated .for-all-addresses
 
 pub instance-used : (job : Job) → SameUsed (tableOf labels₁) (tableOf labels₂) entry pending

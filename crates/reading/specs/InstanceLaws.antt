@@ -82,11 +82,11 @@ pub record Evaluated : Type 0 where
   pub first-outcome : InAll (λ job. buildOutcome job (tableOf labels₁) entry regions pending ≡ outcome)
   pub second-outcome : InAll (λ job. buildOutcome job (tableOf labels₂) entry regions pending ≡ outcome)
   pub fourth-outcome : InAll (λ job. buildOutcome job (tableOf labels₄) entry regions pending ≡ startedElsewhere)
-  pub destined : destinations (tableOf labels₁) pending ≡ Known 0x0040C008 ∷ Known 0x00400008 ∷ Known 0x12345678 ∷ Known 0x0040C008 ∷ Known 0x00400004 ∷ Known 0x003E0010 ∷ Known 0x00420010 ∷ []
+  pub destined : destinations (tableOf labels₁) pending ≡ Known 0x0040C008 ∷ Known 0x00400008 ∷ Known 0x12345678 ∷ Known 0x0040C008 ∷ Known 0x0040000C ∷ Known 0x003E0010 ∷ Known 0x00420010 ∷ []
   pub entry-places : places entry ≡ 0 ∷ []
   pub places-are : places pending ≡ 0 ∷ 40 ∷ 80 ∷ 116 ∷ 156 ∷ 196 ∷ 232 ∷ []
   pub aligned : all (λ (p : ℕ). eqb (pcAt regions pending p % 4) 0) (places pending) ≡ true
-  pub for-all-addresses : (resolve labels₁ 2 loop ≡ Known 0x00001000) × (resolve labels₂ 2 loop ≡ Known 0x00002000)
+  pub for-all-addresses : (resolve labels₁ 3 loop ≡ Known 0x00001000) × (resolve labels₂ 3 loop ≡ Known 0x00002000)
   pub first-file-addresses : (resolve labels₁ 1 loop ≡ Known 0x00400008) × (resolve labels₃ 1 loop ≡ Known 0x0040000C)
   pub entry-addresses : (resolve labels₁ 1 main ≡ Known 0x00400004) × (resolve labels₄ 1 main ≡ Known 0x0040000C)
   pub loop-named : (byteAt pending 59 ≡ 1) × ((pendingSource pending 40 ≡ 1) × (pendingName pending 40 ≡ loop))
