@@ -6,6 +6,7 @@ use mathlib.Core.List.{List}
 use mathlib.Core.Option.{some}
 use lib.ListN.{length}
 use Rattle.jobs.specs.declared.Job.{Job}
+use Rattle.names.specs.Owners.{WithoutOwners}
 use Rattle.labels.specs.Labels.{Table, tableOf}
 use Rattle.refusal.specs.declared.Refusal.{Refusal}
 use Rattle.refusal.specs.declared.Verdict.{Verdict}
@@ -27,9 +28,9 @@ use Rattle.build_outcome.specs.declared.Built.the-variants.{Refused as BuildRef
 use Rattle.finished_words.specs.Listed.{Bytes}
 use Rattle.finished_words.specs.Finished.{Finished, finished}
 use Rattle.reading.specs.Reading.{imageOf, readings, destinations}
-use Rattle.reading.specs.Premises.{Premises}
+use Rattle.reading.specs.Premises.{Premises, StraightPremises}
 use Rattle.reading.specs.Used.{SameUsed}
-use Rattle.reading.specs.Demand.{reads-back, differing-apart}
+use Rattle.reading.specs.Demand.{reads-back, differing-apart, straight-reads-back}
 use Rattle.formats.specs.LineLoads.{LoadedConstant}
 use Rattle.formats.specs.Operations.{Operation, wantsOf, lineOf, wordsOf}
 use Rattle.formats.specs.LineFormats.{LineWords}
@@ -70,6 +71,9 @@ pub record Demand3 : Type 0 where
       → Premises job (tableOf labels₁) entry regions pending → Premises job (tableOf labels₂) entry regions pending → (SameUsed (tableOf labels₁) (tableOf labels₂) entry pending → ⊥)
       → imageOf (buildOutcome job (tableOf labels₁) entry regions pending .regions) ≡ imageOf (buildOutcome job (tableOf labels₂) entry regions pending .regions)
       → buildOutcome job (tableOf labels₁) entry regions pending .answer ≡ buildOutcome job (tableOf labels₂) entry regions pending .answer → ⊥
+  -- with labels for all files alone a pair is document 01's, whatever the sources of its names
+  pub straight-back : (job : Job) (labels entry regions pending : List ℕ) → WithoutOwners labels → StraightPremises job (tableOf labels) entry regions pending
+      → readings (imageOf (buildOutcome job (tableOf labels) entry regions pending .regions)) pending ≡ destinations (tableOf labels) pending
   pub constants : (c t : ℕ) (g : Registers) → t < 32 → length g ≡ 32 → Loads c t g
   pub lines : (job : Job) (c : Call) (position : ℕ) (loaded : LoadForm) → emitOutcome job c .answer ≡ Done position loaded → (l : LoadedConstant) → callLoads c ≡ some l → ConstantAppended job c l
 
@@ -90,7 +94,7 @@ pub demand-2 : Demand2
 demand-2 = record { table = marked; words = every-word; patched = finished }
 
 pub demand-3 : Demand3
-demand-3 = record { read-back = reads-back; apart = differing-apart; constants = loads; lines = constant-appended }
+demand-3 = record { read-back = reads-back; apart = differing-apart; straight-back = straight-reads-back; constants = loads; lines = constant-appended }
 
 pub demand-3-of-lines : Demand3OfLines
 demand-3-of-lines = routine-reads

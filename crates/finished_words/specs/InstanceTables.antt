@@ -98,3 +98,13 @@ examplePending = kinded 36 (two 0 ++ four 0 ++ four 0 ++ four 0 ++ 0 ∷ constan
 -- "00400000 1000ffff"
 unfoldable pub exampleFinished : List ℕ
 exampleFinished = region 0x00400000 (four 0x1000FFFF)
+
+-- ---- without owners: one `loop`, for all files, and a pair whose names stand in two files, the Lower's in file 2 and the Upper's in file 1
+unfoldable pub straightLabels : List ℕ
+straightLabels = label 0x00400008 loop
+
+unfoldable pub straightRegions : List ℕ
+straightRegions = region 0x10010000 (four 0x3C010000 ++ four 0x34210000)
+
+unfoldable pub straightPending : List ℕ
+straightPending = patch 0 4 2 (named 2 loop 0xC000) ++ patch 0 0 3 (named 1 loop 0xC000)

@@ -25,13 +25,13 @@ use Rattle.finished_words.specs.Listed.{In, pcAt, destinationAt}
 use Rattle.finished_words.specs.InstanceTables.{loop, main, labels₁, labels₂, labels₃, labels₄, entry, regions, pending, exampleRegions, examplePending, exampleFinished}
 use Rattle.finished_words.specs.ListedLaws.{of-bytes}
 use Rattle.finished_words.specs.Instance.{each, apart}
-use Rattle.reading.specs.Premises.{Pair, Premises}
+use Rattle.reading.specs.Premises.{SharedTarget, Pair, Premises}
 use Rattle.reading.specs.Used.{SameUsed}
 use Rattle.reading.specs.Demand.{reads-back, never-shared, differing-apart}
 use Rattle.reading.specs.InstanceLaws.{onWord, notFarBack, notFarOn, fits, in-each, outcome, startedElsewhere, Computed, evaluated}
 
 -- ---- the premises
-pair : Pair pending 116 0
+pair : Pair SharedTarget pending 116 0
 unfolding pending kindFrom
 pair =
     record {
@@ -41,7 +41,7 @@ pair =
       lower-kind = refl;
       region = refl;
       later = refl;
-      target = record { form = refl; value = refl; source = refl; name = refl };
+      target = record { same = record { form = refl; value = refl; name = refl }; source = refl };
     }
 
 module _ (job : Job) (labels : List ℕ) (computed : Computed labels) where

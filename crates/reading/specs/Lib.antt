@@ -13,3 +13,4 @@ pub mod ExactlyLaws
 pub mod Exactly
 pub mod InstanceLaws
 pub mod Instance
+pub mod StraightInstance

@@ -14,22 +14,27 @@ use Rattle.patch.specs.Patches.{after}
 use Rattle.build_outcome.specs.Build.{buildVerdict}
 use Rattle.finished_words.specs.Listed.{In, pcAt, destinationAt, Apart}
 
--- "equal form, value and name"; document 02, P6: "a pair's names share a source"
+-- "equal form, value and name"
 pub record SameTarget (pending : List ℕ) (p q : ℕ) : Type 0 where
   pub form : byteAt pending (p + 19) ≡ byteAt pending (q + 19)
   pub value : le64 pending (p + 20) ≡ le64 pending (q + 20)
-  pub source : le32 pending (p + 28) ≡ le32 pending (q + 28)
   pub name : part pending (p + 36) (bodyLen pending p - 32) ≡ part pending (q + 36) (bodyLen pending q - 32)
 
--- "A pair is an Upper and, four bytes later in the same region, a Lower with equal form, value and name", wherever the two stand in the list
-pub record Pair (pending : List ℕ) (upper lower : ℕ) : Type 0 where
+-- document 02, P6: "a pair's names share a source"
+pub record SharedTarget (pending : List ℕ) (p q : ℕ) : Type 0 where
+  pub same : SameTarget pending p q
+  pub source : le32 pending (p + 28) ≡ le32 pending (q + 28)
+
+-- "A pair is an Upper and, four bytes later in the same region, a Lower with equal form, value and name", wherever the two stand in the list;
+-- what the two have to share is given
+pub record Pair (Shared : (pending : List ℕ) (p q : ℕ) → Type 0) (pending : List ℕ) (upper lower : ℕ) : Type 0 where
   pub upper-in : In pending upper
   pub lower-in : In pending lower
   pub upper-kind : pendingAt pending upper .kind ≡ Upper
   pub lower-kind : pendingAt pending lower .kind ≡ Lower
   pub region : pendingAt pending lower .region ≡ pendingAt pending upper .region
   pub later : pendingAt pending lower .offset ≡ pendingAt pending upper .offset + 4
-  pub target : SameTarget pending upper lower
+  pub target : Shared pending upper lower
 
 -- "branch distances within -32,768 to 32,767 words": that of the patch of the record at p
 abbrev pub Near : (labels : Table) (regions pending : List ℕ) → ℕ → Type 0
@@ -38,7 +43,7 @@ Near labels regions pending p =
     × (destinationAt labels pending p / 4 ≤ after (pcAt regions pending p) / 4 + 32767)
 
 -- The tender's premises, for a label table, a region list, an entry record and a pending list in whatever order.
-pub record Premises (job : Job) (labels : Table) (entry regions pending : List ℕ) : Type 0 where
+pub record PremisesBy (Shared : (pending : List ℕ) (p q : ℕ) → Type 0) (job : Job) (labels : Table) (entry regions pending : List ℕ) : Type 0 where
   -- "An accepted build is one to which no refusal is due"
   pub accepted : buildVerdict job labels entry regions pending ≡ Pass
   -- "patch addresses multiples of four": "A patch's address is its pc"
@@ -52,5 +57,14 @@ pub record Premises (job : Job) (labels : Table) (entry regions pending : List �
   -- branch distance"
   pub near : job ≡ Commit → (p : ℕ) → In pending p → pendingAt pending p .kind ≡ Branch → Near labels regions pending p
   -- "every half in a pair"
-  pub upper-paired : (p : ℕ) → In pending p → pendingAt pending p .kind ≡ Upper → (q : ℕ) × Pair pending p q
-  pub lower-paired : (q : ℕ) → In pending q → pendingAt pending q .kind ≡ Lower → (p : ℕ) × Pair pending p q
+  pub upper-paired : (p : ℕ) → In pending p → pendingAt pending p .kind ≡ Upper → (q : ℕ) × Pair Shared pending p q
+  pub lower-paired : (q : ℕ) → In pending q → pendingAt pending q .kind ≡ Lower → (p : ℕ) × Pair Shared pending p q
+
+-- the premises of every build
+abbrev pub Premises : (job : Job) (labels : Table) (entry regions pending : List ℕ) → Type 0
+Premises = PremisesBy SharedTarget
+
+-- those of a label list without owners: document 01's pair, whatever the sources of its names (document 02, P6: "With kind 34 alone, answers
+-- equal the commit's")
+abbrev pub StraightPremises : (job : Job) (labels : Table) (entry regions pending : List ℕ) → Type 0
+StraightPremises = PremisesBy SameTarget

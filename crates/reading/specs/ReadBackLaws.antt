@@ -12,13 +12,16 @@ use Rattle.jobs.specs.declared.Job.the-variants.{Commit, Manual, Release6}
 use Rattle.jobs.specs.Jobs.{byManual}
 use Rattle.record.specs.Bytes.{byteAt, le32, le64, part}
 use Rattle.record.specs.Records.{bodyLen, next, places}
+use Rattle.labels.specs.declared.Address.{Address}
 use Rattle.labels.specs.declared.Address.the-variants.{Known}
 use Rattle.address_label.specs.AddressLabels.{addressLabelAt}
 use Rattle.address_label.specs.AddressLabelsLaws.{at-constant, at-named}
 use Rattle.pending.specs.declared.InstructionLabelKind.{InstructionLabelKind}
 use Rattle.pending.specs.declared.InstructionLabelKind.the-variants.{Branch, Jump, Lower, Upper, Full}
 use Rattle.pending.specs.Pendings.{pendingAt, labelOf}
-use Rattle.labels.specs.Labels.{Table}
+use Rattle.labels.specs.Labels.{Table, tableOf}
+use Rattle.labels.specs.StraightLaws.{straight}
+use Rattle.names.specs.Owners.{WithoutOwners}
 use Rattle.patch.specs.Patches.{destination, plusOffset, wrap32, after, fieldWidth, fieldValue, inRange, addressOr}
 use Rattle.patch.specs.PatchesLaws.{jump-page, manual-near}
 use Rattle.refusal.specs.declared.Verdict.the-variants.{Pass}
@@ -29,7 +32,7 @@ use Rattle.finished_words.specs.WordsLaws.{finished-field}
 use Rattle.finished_words.specs.AcceptedLaws.{has-region, reaches, known, dest-lt, in-range, slots-apart, finished-kept}
 use Rattle.finished_words.specs.FinishedLaws.{map-same, word-finished}
 use Rattle.reading.specs.Reading.{Image, imageOf, pcIn, wordIn, half, signedBytes, readBy, reading, readings, destinations}
-use Rattle.reading.specs.Premises.{Premises, Pair, SameTarget}
+use Rattle.reading.specs.Premises.{PremisesBy, Pair, SameTarget, SharedTarget}
 use Rattle.reading.specs.OnTarget.{OnTarget}
 use Rattle.reading.specs.ArithmeticLaws.{branch-reads, jump-reads, halves-read}
 use Rattle.reading.specs.ImageLaws.{image-word, image-pc}
@@ -55,9 +58,10 @@ pub named-is : (labels : Table) (pending : List ℕ) (at : ℕ) → (byteAt pend
 named-is labels pending at e =
     label-is labels pending (at + 19) (next pending at) (at + 36) (bodyLen pending at - 32) (at + 20) (at + 28) e (omega arith) (omega arith) (omega arith) (omega arith)
 
--- equal form, value, source and name have one destination
-target-same : (labels : Table) (pending : List ℕ) (p q : ℕ) → SameTarget pending p q → destinationAt labels pending p ≡ destinationAt labels pending q
-target-same labels pending p q t = ap (addressOr 0) (go (eqb (byteAt pending (p + 19)) 0) refl)
+-- equal form, value and name have one destination, where the table gives the name one address for both sources
+same-destination : (labels : Table) (pending : List ℕ) (p q : ℕ) → SameTarget pending p q
+    → ((name : List ℕ) → labels .address (le32 pending (p + 28)) name ≡ labels .address (le32 pending (q + 28)) name) → destinationAt labels pending p ≡ destinationAt labels pending q
+same-destination labels pending p q t s = ap (addressOr 0) (go (eqb (byteAt pending (p + 19)) 0) refl)
   where
     go : (b : Bool) → eqb (byteAt pending (p + 19)) 0 ≡ b → destination labels pending (labelOf pending p) ≡ destination labels pending (labelOf pending q)
     go true e =
@@ -66,17 +70,33 @@ target-same labels pending p q t = ap (addressOr 0) (go (eqb (byteAt pending (p 
     go false e =
         let n : byteAt pending (p + 19) ≡ 0 → ⊥ = eqb-false (byteAt pending (p + 19)) 0 e in
         named-is labels pending p n
-        ∙ ap (λ (s : ℕ). plusOffset (labels .address s (part pending (p + 36) (bodyLen pending p - 32))) (le64 pending (p + 20))) (t .source)
+        ∙ ap (λ (a : Address). plusOffset a (le64 pending (p + 20))) (s (part pending (p + 36) (bodyLen pending p - 32)))
         ∙ ap₂ (λ (l : List ℕ) (v : ℕ). plusOffset (labels .address (le32 pending (q + 28)) l) v) (t .name) (t .value)
         ∙ sym (named-is labels pending q (λ z. n (t .form ∙ z)))
 
--- what a patch asks to read back as its destination, by its kind, whatever the others go to
+-- a source too
+pub shared-destination : (labels : Table) (pending : List ℕ) (p q : ℕ) → SharedTarget pending p q → destinationAt labels pending p ≡ destinationAt labels pending q
+shared-destination labels pending p q t = same-destination labels pending p q (t .same) (λ name. ap (λ (s : ℕ). labels .address s name) (t .source))
+
+-- without owners the source is no part of the answer
+pub straight-destination : (labels : List ℕ) → WithoutOwners labels → (pending : List ℕ) (p q : ℕ) → SameTarget pending p q
+    → destinationAt (tableOf labels) pending p ≡ destinationAt (tableOf labels) pending q
+straight-destination labels w pending p q t =
+    same-destination (tableOf labels) pending p q t
+    (λ name.
+    ap (λ (l : Table). l .address (le32 pending (p + 28)) name) (straight labels w)
+    ∙ sym (ap (λ (l : Table). l .address (le32 pending (q + 28)) name) (straight labels w)))
+
+-- what a patch asks to read back as its destination, by its kind, whatever the others go to; what the two of a pair share is given
+abbrev pub ReadableBy : ((pending : List ℕ) (p q : ℕ) → Type 0) → Job → (labels : Table) (regions pending : List ℕ) → InstructionLabelKind → ℕ → Type 0
+ReadableBy Shared job labels regions pending Branch p = (pcAt regions pending p % 4 ≡ 0) × OnTarget job labels regions pending p
+ReadableBy Shared job labels regions pending Jump p = OnTarget job labels regions pending p
+ReadableBy Shared job labels regions pending Lower q = (p : ℕ) × Pair Shared pending p q
+ReadableBy Shared job labels regions pending Upper p = (q : ℕ) × Pair Shared pending p q
+ReadableBy Shared job labels regions pending Full p = Unit {0}
+
 abbrev pub Readable : Job → (labels : Table) (regions pending : List ℕ) → InstructionLabelKind → ℕ → Type 0
-Readable job labels regions pending Branch p = (pcAt regions pending p % 4 ≡ 0) × OnTarget job labels regions pending p
-Readable job labels regions pending Jump p = OnTarget job labels regions pending p
-Readable job labels regions pending Lower q = (p : ℕ) × Pair pending p q
-Readable job labels regions pending Upper p = (q : ℕ) × Pair pending p q
-Readable job labels regions pending Full p = Unit {0}
+Readable = ReadableBy SharedTarget
 
 module _ (job : Job) (labels : Table) (entry regions pending : List ℕ) (pass : buildVerdict job labels entry regions pending ≡ Pass) (apart : Apart pending) where
   abbrev image : Image
@@ -157,39 +177,44 @@ module _ (job : Job) (labels : Table) (entry regions pending : List ℕ) (pass :
   unfolding fieldWidth fieldValue
   lower-half p m e = field-at Lower p m e
 
-  -- the two of a pair, read together, give the destination of either
-  pair-back : (p q : ℕ) → Pair pending p q → half (wordOf p) * 65536 + half (wordOf q) ≡ destinationAt labels pending p
-  pair-back p q x =
-      ap₂ (λ (a b : ℕ). a * 65536 + b) (upper-half p (x .upper-in) (x .upper-kind))
-      (lower-half q (x .lower-in) (x .lower-kind) ∙ ap (λ (d : ℕ). d % 65536) (sym (target-same labels pending p q (x .target))))
-      ∙ halves-read (destinationAt labels pending p)
+  -- where the two of a pair have one destination
+  module _ {Shared : (pending : List ℕ) (p q : ℕ) → Type 0} (one : (p q : ℕ) → Shared pending p q → destinationAt labels pending p ≡ destinationAt labels pending q) where
+    -- the two of a pair, read together, give the destination of either
+    pair-back : (p q : ℕ) → Pair Shared pending p q → half (wordOf p) * 65536 + half (wordOf q) ≡ destinationAt labels pending p
+    pair-back p q x =
+        ap₂ (λ (a b : ℕ). a * 65536 + b) (upper-half p (x .upper-in) (x .upper-kind))
+        (lower-half q (x .lower-in) (x .lower-kind) ∙ ap (λ (d : ℕ). d % 65536) (sym (one p q (x .target))))
+        ∙ halves-read (destinationAt labels pending p)
 
-  upper-back : (p q : ℕ) → Pair pending p q → readBy Upper image (pendingAt pending p) ≡ destinationAt labels pending p
-  unfolding readBy
-  upper-back p q x =
-      ap₂ (λ (r o : ℕ). half (wordOf p) * 65536 + half (wordIn image r o)) (sym (x .region)) (sym (x .later)) ∙ pair-back p q x
+    upper-back : (p q : ℕ) → Pair Shared pending p q → readBy Upper image (pendingAt pending p) ≡ destinationAt labels pending p
+    unfolding readBy
+    upper-back p q x = ap₂ (λ (r o : ℕ). half (wordOf p) * 65536 + half (wordIn image r o)) (sym (x .region)) (sym (x .later)) ∙ pair-back p q x
 
-  lower-back : (p q : ℕ) → Pair pending p q → readBy Lower image (pendingAt pending q) ≡ destinationAt labels pending q
-  unfolding readBy
-  lower-back p q x =
-      let o : pendingAt pending q .offset - 4 ≡ pendingAt pending p .offset = omega (arith, x .later) in
-      ap₂ (λ (r o : ℕ). half (wordIn image r o) * 65536 + half (wordOf q)) (x .region) o ∙ pair-back p q x ∙ target-same labels pending p q (x .target)
+    lower-back : (p q : ℕ) → Pair Shared pending p q → readBy Lower image (pendingAt pending q) ≡ destinationAt labels pending q
+    unfolding readBy
+    lower-back p q x =
+        let o : pendingAt pending q .offset - 4 ≡ pendingAt pending p .offset = omega (arith, x .later) in
+        ap₂ (λ (r o : ℕ). half (wordIn image r o) * 65536 + half (wordOf q)) (x .region) o ∙ pair-back p q x ∙ one p q (x .target)
 
-  by-kind : (kind : InstructionLabelKind) (p : ℕ) → In pending p → pendingAt pending p .kind ≡ kind → Readable job labels regions pending kind p
-      → readBy kind image (pendingAt pending p) ≡ destinationAt labels pending p
-  by-kind Branch p m e r = branch-back p m e (r .0) (r .1)
-  by-kind Jump p m e r = jump-back p m e r
-  by-kind Lower p m e r = lower-back (r .0) p (r .1)
-  by-kind Upper p m e r = upper-back p (r .0) (r .1)
-  by-kind Full p m e r = full-back p m e
+    by-kind : (kind : InstructionLabelKind) (p : ℕ) → In pending p → pendingAt pending p .kind ≡ kind → ReadableBy Shared job labels regions pending kind p
+        → readBy kind image (pendingAt pending p) ≡ destinationAt labels pending p
+    by-kind Branch p m e r = branch-back p m e (r .0) (r .1)
+    by-kind Jump p m e r = jump-back p m e r
+    by-kind Lower p m e r = lower-back (r .0) p (r .1)
+    by-kind Upper p m e r = upper-back p (r .0) (r .1)
+    by-kind Full p m e r = full-back p m e
+
+    back-by : (p : ℕ) → In pending p → ReadableBy Shared job labels regions pending (pendingAt pending p .kind) p
+        → Known (reading image (pendingAt pending p)) ≡ destination labels pending (pendingAt pending p .label)
+    back-by p m r = ap Known (by-kind (pendingAt pending p .kind) p m refl r) ∙ sym (known job labels entry regions pending pass p m)
 
   pub each-back : (p : ℕ) → In pending p → Readable job labels regions pending (pendingAt pending p .kind) p
       → Known (reading image (pendingAt pending p)) ≡ destination labels pending (pendingAt pending p .label)
-  each-back p m r = ap Known (by-kind (pendingAt pending p .kind) p m refl r) ∙ sym (known job labels entry regions pending pass p m)
+  each-back = back-by (shared-destination labels pending)
 
 -- One claim on the whole pending list: under the tender's premises the list of readings is the list of destinations.
-module _ (job : Job) (labels : Table) (entry regions pending : List ℕ) (premises : Premises job labels entry regions pending) where
-  readable : (kind : InstructionLabelKind) (p : ℕ) → In pending p → pendingAt pending p .kind ≡ kind → Readable job labels regions pending kind p
+module _ {Shared : (pending : List ℕ) (p q : ℕ) → Type 0} (job : Job) (labels : Table) (entry regions pending : List ℕ) (premises : PremisesBy Shared job labels entry regions pending) (one : (p q : ℕ) → Shared pending p q → destinationAt labels pending p ≡ destinationAt labels pending q) where
+  readable : (kind : InstructionLabelKind) (p : ℕ) → In pending p → pendingAt pending p .kind ≡ kind → ReadableBy Shared job labels regions pending kind p
   readable Branch p m e = (premises .aligned p m, record { on-word = premises .branch-target p m e; near = λ c k. premises .near c p m k })
   readable Jump p m e = record { on-word = premises .jump-target p m e; near = λ c k. premises .near c p m k }
   readable Lower p m e = premises .lower-paired p m e
@@ -200,4 +225,4 @@ module _ (job : Job) (labels : Table) (entry regions pending : List ℕ) (premis
   unfolding readings destinations
   read-back =
       map-same (places pending)
-      (λ p m. each-back job labels entry regions pending (premises .accepted) (premises .apart) p m (readable (pendingAt pending p .kind) p m refl))
+      (λ p m. back-by job labels entry regions pending (premises .accepted) (premises .apart) one p m (readable (pendingAt pending p .kind) p m refl))

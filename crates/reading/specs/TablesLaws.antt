@@ -22,10 +22,10 @@ use Rattle.pending.specs.Pendings.{pendingAt, labelOf}
 use Rattle.patch.specs.Patches.{destination, plusOffset, addressOr}
 use Rattle.build_outcome.specs.Build.{patchedRegions, entryAddress, reachEntry}
 use Rattle.build_outcome.specs.BuildLaws.{accepted-is}
-use Rattle.finished_words.specs.Listed.{In, Bytes}
+use Rattle.finished_words.specs.Listed.{In, Bytes, destinationAt}
 use Rattle.finished_words.specs.AcceptedLaws.{known}
 use Rattle.reading.specs.Reading.{imageOf, readings, destinations}
-use Rattle.reading.specs.Premises.{Premises}
+use Rattle.reading.specs.Premises.{PremisesBy}
 use Rattle.reading.specs.Used.{pendingName, entryName, pendingSource, entrySource, usedBy, usedByEntry, SameUsed}
 use Rattle.reading.specs.ReadBackLaws.{label-is, named-is, read-back}
 
@@ -67,13 +67,15 @@ offset-same labels₁ labels₂ source name v d b₁ b₂ e₁ e₂ = go (resolv
     go (Known a) f Unknown g = let z : _≡_ {A = ℕ} 0 1 = cc in absurd (omega arith)
     go Unknown f y g = let z : _≡_ {A = ℕ} 0 1 = cc in absurd (omega arith)
 
-module _ (job : Job) (labels₁ labels₂ entry regions pending : List ℕ) (b₁ : Bytes labels₁) (b₂ : Bytes labels₂)
-    (pr₁ : Premises job (tableOf labels₁) entry regions pending) (pr₂ : Premises job (tableOf labels₂) entry regions pending) where
+module _ {Shared : (pending : List ℕ) (p q : ℕ) → Type 0} (job : Job) (labels₁ labels₂ entry regions pending : List ℕ) (b₁ : Bytes labels₁) (b₂ : Bytes labels₂)
+    (pr₁ : PremisesBy Shared job (tableOf labels₁) entry regions pending) (pr₂ : PremisesBy Shared job (tableOf labels₂) entry regions pending)
+    (one₁ : (p q : ℕ) → Shared pending p q → destinationAt (tableOf labels₁) pending p ≡ destinationAt (tableOf labels₁) pending q)
+    (one₂ : (p q : ℕ) → Shared pending p q → destinationAt (tableOf labels₂) pending p ≡ destinationAt (tableOf labels₂) pending q) where
   -- equal images have equal destinations
   same-destinations : imageOf (patchedRegions (tableOf labels₁) regions pending) ≡ imageOf (patchedRegions (tableOf labels₂) regions pending)
       → destinations (tableOf labels₁) pending ≡ destinations (tableOf labels₂) pending
   same-destinations i =
-      sym (read-back job (tableOf labels₁) entry regions pending pr₁) ∙ ap (λ (x : _). readings x pending) i ∙ read-back job (tableOf labels₂) entry regions pending pr₂
+      sym (read-back job (tableOf labels₁) entry regions pending pr₁ one₁) ∙ ap (λ (x : _). readings x pending) i ∙ read-back job (tableOf labels₂) entry regions pending pr₂ one₂
 
   pending-used : imageOf (patchedRegions (tableOf labels₁) regions pending) ≡ imageOf (patchedRegions (tableOf labels₂) regions pending)
       → (p : ℕ) → In pending p → (byteAt pending (p + 19) ≡ 0 → ⊥) → usedBy (tableOf labels₁) pending p ≡ usedBy (tableOf labels₂) pending p
@@ -87,7 +89,7 @@ module _ (job : Job) (labels₁ labels₂ entry regions pending : List ℕ) (b�
       (sym (named-is (tableOf labels₁) pending p n) ∙ k) (sym (named-is (tableOf labels₂) pending p n) ∙ sym d ∙ k)
 
   -- the entry
-  entry-known : (labels : Table) → Premises job labels entry regions pending → (p : ℕ) → places entry ≡ p ∷ []
+  entry-known : (labels : Table) → PremisesBy Shared job labels entry regions pending → (p : ℕ) → places entry ≡ p ∷ []
       → destination labels entry (addressLabelAt entry (p + 4) (next entry p)) ≡ Known (entryAddress labels entry (entryOf entry (places entry)))
   entry-known labels pr p e =
       go (destination labels entry (addressLabelAt entry (p + 4) (next entry p))) refl

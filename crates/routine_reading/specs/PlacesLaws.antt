@@ -17,7 +17,7 @@ use Rattle.address_label.specs.declared.AddressLabel.{AddressLabel}
 use Rattle.pending.specs.Pendings.{regionOf, patchKindOf, pendingBody, pendingOk}
 use Rattle.routine.specs.PatchValues.{Patch, Target, Name, targetOf, patchAt}
 use Rattle.routine.specs.InsideLaws.{each-mem}
-use Rattle.reading.specs.Premises.{SameTarget}
+use Rattle.reading.specs.Premises.{SharedTarget}
 use Rattle.routine_reading.specs.LinePatchesLaws.{Beyond, Spaced}
 
 module _ (f : ℕ → Patch) where
@@ -107,14 +107,16 @@ form-one regions s at ok n = go (eqb (byteAt s (at + 19)) 1) refl
         cc
 
 -- two records that wait for one name, from one source, with one offset
-pub same-target : (regions : ℕ) (pending : List ℕ) (p q : ℕ) (name : List ℕ) (location : Location) (added : ℕ) → pendingOk regions pending p ≡ true → pendingOk regions pending q ≡ true
-    → patchAt pending p .target ≡ Name name location added → patchAt pending q .target ≡ Name name location added → SameTarget pending p q
-same-target regions pending p q name location added okp okq ep eq =
+pub shared-target : (regions : ℕ) (pending : List ℕ) (p q : ℕ) (name : List ℕ) (location : Location) (added : ℕ) → pendingOk regions pending p ≡ true → pendingOk regions pending q ≡ true
+    → patchAt pending p .target ≡ Name name location added → patchAt pending q .target ≡ Name name location added → SharedTarget pending p q
+shared-target regions pending p q name location added okp okq ep eq =
     let a = named-at pending p name location added ep in
     let b = named-at pending q name location added eq in
     record {
-      form = form-one regions pending p okp (a .form) ∙ sym (form-one regions pending q okq (b .form));
-      value = a .value ∙ sym (b .value);
+      same = record {
+        form = form-one regions pending p okp (a .form) ∙ sym (form-one regions pending q okq (b .form));
+        value = a .value ∙ sym (b .value);
+        name = a .name-is ∙ sym (b .name-is);
+      };
       source = a .source ∙ sym (b .source);
-      name = a .name-is ∙ sym (b .name-is);
     }

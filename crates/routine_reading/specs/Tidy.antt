@@ -6,7 +6,7 @@ use mathlib.Core.List.{List}
 use Rattle.pending.specs.Pendings.{pendingAt}
 use Rattle.pending.specs.declared.InstructionLabelKind.the-variants.{Lower, Upper, Full}
 use Rattle.finished_words.specs.Listed.{In, Apart}
-use Rattle.reading.specs.Premises.{Pair}
+use Rattle.reading.specs.Premises.{SharedTarget, Pair}
 
 pub record Tidy (pending : List ℕ) : Type 0 where
   -- "patch addresses multiples of four", where their regions' are
@@ -14,7 +14,7 @@ pub record Tidy (pending : List ℕ) : Type 0 where
   -- "patches not overlapping"
   pub apart : Apart pending
   -- "every half in a pair"
-  pub upper-paired : (p : ℕ) → In pending p → pendingAt pending p .kind ≡ Upper → (q : ℕ) × Pair pending p q
-  pub lower-paired : (q : ℕ) → In pending q → pendingAt pending q .kind ≡ Lower → (p : ℕ) × Pair pending p q
+  pub upper-paired : (p : ℕ) → In pending p → pendingAt pending p .kind ≡ Upper → (q : ℕ) × Pair SharedTarget pending p q
+  pub lower-paired : (q : ℕ) → In pending q → pendingAt pending q .kind ≡ Lower → (p : ℕ) × Pair SharedTarget pending p q
   -- no word of a line waits for a whole address
   pub none-full : (p : ℕ) → In pending p → pendingAt pending p .kind ≡ Full → ⊥

@@ -10,13 +10,13 @@ use Rattle.record.specs.declared.Layout.the-variants.{Good}
 use Rattle.pending.specs.Pendings.{pendingOk, pendingLayout}
 use Rattle.pending.specs.PendingsLaws.{pending-good}
 use Rattle.finished_words.specs.Listed.{In}
-use Rattle.reading.specs.Premises.{Pair}
+use Rattle.reading.specs.Premises.{SharedTarget, Pair}
 use Rattle.routine.specs.PatchValues.{Patch, patchAt, patchesIn}
 use Rattle.routine.specs.Run.{Each}
 use Rattle.routine.specs.InsideLaws.{each-mem}
 use Rattle.routine_reading.specs.LinePatchesLaws.{OnWord, Beyond, Spaced, Mates, Mated}
 use Rattle.routine_reading.specs.ListedLaws.{Listed}
-use Rattle.routine_reading.specs.PlacesLaws.{PlaceOf, place-of, spaced-at, same-target}
+use Rattle.routine_reading.specs.PlacesLaws.{PlaceOf, place-of, spaced-at, shared-target}
 use Rattle.routine_reading.specs.Tidy.{Tidy}
 
 -- a pending list that keeps its layout, for some count of regions, and that reads as these patches
@@ -49,7 +49,7 @@ module _ (pending : List ℕ) (patches : List Patch) (left : Left pending patche
   pub found : (y : Patch) → List·Memᴰ y patches → PlaceOf at (places pending) y
   found y m = place-of at (places pending) y (subst (List·Memᴰ y) (sym placed-are) m)
 
-  pair-at : (p q : ℕ) → In pending p → In pending q → Mates (at p) (at q) → Pair pending p q
+  pair-at : (p q : ℕ) → In pending p → In pending q → Mates (at p) (at q) → Pair SharedTarget pending p q
   pair-at p q mp mq x = record {
     upper-in = mp;
     lower-in = mq;
@@ -57,7 +57,7 @@ module _ (pending : List ℕ) (patches : List Patch) (left : Left pending patche
     lower-kind = x .lower-kind;
     region = x .region;
     later = x .later;
-    target = same-target (left .regions) pending p q (x .name) (x .location) (x .added) (ok-each p mp) (ok-each q mq) (x .upper-target) (x .lower-target);
+    target = shared-target (left .regions) pending p q (x .name) (x .location) (x .added) (ok-each p mp) (ok-each q mq) (x .upper-target) (x .lower-target);
   }
 
   spaced : Spaced (map at (places pending))
