@@ -7,6 +7,7 @@ ghost use Rattle.record.specs.Records.{places, firstBad, limit};
 ghost use Rattle.names.specs.Owners.{hasOwnedName};
 ghost use Rattle.name_index.specs.Index.{IndexOf};
 ghost use Rattle.name_order.specs.declared.Ordered.the-variants.{Less};
+ghost use Rattle.labels.specs.Labels.{labelLayout, labelRepeat};
 ghost use Rattle.pending.specs.Pendings.{labelOf, pendingOk};
 ghost use Rattle.pending.specs.PendingsLaws.{PendingIs};
 ghost use Rattle.label_uses.specs.Uses.{useOrder, keyFor};
@@ -17,6 +18,7 @@ ghost use Rattle.index_check.specs.Checks.{Tells, RecordIn, sourceIn, St
 use address_label::AddressLabel;
 use label_uses::Standing;
 use name_order::Ordered;
+use names::Repeat;
 use record::Layout;
 
 // The most pendings of a list: one has 36 bytes at least.
@@ -24,6 +26,12 @@ const MOST_PENDINGS: usize = 1820;
 
 // The record kind.
 const USE: usize = 39;
+
+// What is found of an index and its labels.
+pub struct UsesChecked {
+    pub layout: Layout,
+    pub repeat: Repeat,
+}
 
 // The source of a name that was asked for, or that a pending has no such name.
 enum NameSource {
@@ -286,13 +294,7 @@ fn is_index(
 }
 
 // Refusal 1 for an index: over the limit, a fill count over its length, or any other bytes than those of the index made afresh.
-pub fn check_index(
-    index: &[u8],
-    fill: usize,
-    pending: &[u8],
-    labels: &[u8],
-    order: &[u16],
-) -> Layout
+fn check_index(index: &[u8], fill: usize, pending: &[u8], labels: &[u8], order: &[u16]) -> Layout
     requires { ⌜ firstBad (pendingOk 16 (now pending)) (places (now pending)) ≡ Layout.Good ⌝ }
     requires { ⌜ length (now pending) ≤ limit ⌝ }
     requires { ⌜ firstBad (hasOwnedName 4 (now labels)) (places (now labels)) ≡ Layout.Good ⌝ }
@@ -312,4 +314,19 @@ pub fn check_index(
     } else {
         Layout::Bad(0)
     }
+}
+
+// What a label list and an index that are handed in are found to be: how the index is laid out, and whether a label repeats another's name. Labels
+// are not yet known to be distinct where the index is looked at: a wrong index goes before two labels of one name.
+pub fn check_uses(index: &[u8], fill: usize, pending: &[u8], labels: &[u8]) -> UsesChecked
+    requires { ⌜ (firstBad (pendingOk 16 (now pending)) (places (now pending)) ≡ Layout.Good) × (length (now pending) ≤ limit) ⌝ }
+    requires { ⌜ labelLayout (now labels) ≡ Layout.Good ⌝ }
+    ensures { λ r. ⌜ (r .layout ≡ indexLayout (now (labels .entry)) (now (pending .entry)) fill (now (index .entry))) × (r .repeat ≡ labelRepeat (now (labels .entry))) ⌝ }
+{
+    let mut order = [0u16; labels::MOST];
+    let mut spare = [0u16; labels::MOST];
+    let n = labels::make_index(labels, &mut order, &mut spare);
+    let layout = check_index(index, fill, pending, labels, &order[..n]);
+    let repeat = labels::first_repeat(labels, &order[..n]);
+    UsesChecked { layout, repeat }
 }
