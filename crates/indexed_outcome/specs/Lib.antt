@@ -1,5 +1,6 @@
 pub mod Indexed
 pub mod Make
+pub mod Contract
 pub mod Beside
 pub mod BesideLaws
 pub mod SameCall
