@@ -8,30 +8,28 @@ use Rattle.jobs.specs.declared.Job.{Job}
 use Rattle.record.specs.declared.Layout.the-variants.{Good}
 use Rattle.names.specs.declared.Named.{Named}
 use Rattle.names.specs.declared.Named.the-variants.{At, Missing}
+use Rattle.record.specs.declared.Location.{Location}
+use mathlib.Core.Bool.{Bool, true, false}
 use Rattle.refusal.specs.declared.Refusal.{Refusal}
+use Rattle.refusal.specs.declared.Refusal.the-variants.{UnknownInstruction}
 use Rattle.refusal.specs.declared.Verdict.{Verdict}
 use Rattle.refusal.specs.declared.Verdict.the-variants.{Pass, Stop}
 use Rattle.descriptors.specs.declared.Instruction.{Instruction}
 use Rattle.lexer.specs.declared.Token.{Token}
-use Rattle.lexer.specs.Tokens.{tokens}
 use Rattle.cursor.specs.declared.Cursor.{Cursor}
-use Rattle.cursor.specs.Cursors.{cursorAt}
 use Rattle.descriptors.specs.Mnemonics.{mnemonicName}
 use Rattle.descriptors.specs.Descriptors.{descriptorLayout, findDescriptor, instructionAt}
 use Rattle.descriptors.specs.DescriptorsLaws.{descriptor-found}
-use Rattle.pseudo_names.specs.declared.Pseudo.{Pseudo}
 use Rattle.pseudo_names.specs.declared.MaybePseudo.{MaybePseudo}
 use Rattle.pseudo_names.specs.declared.MaybePseudo.the-variants.{Some, Nothing}
 use Rattle.pseudo_names.specs.PseudoNames.{pseudoOf}
 use Rattle.emit_pairs.specs.declared.EmitInstruction.{EmitInstruction}
 use Rattle.emit_dispatch.specs.declared.LineAnswer.{LineAnswer}
 use Rattle.emit_dispatch.specs.declared.LineEmit.{LineEmit}
-use Rattle.emit_dispatch.specs.Lines.{Line}
-use Rattle.emit_dispatch.specs.Lines.{encodingLine}
+use Rattle.emit_dispatch.specs.Lines.{Line, encodingLine}
 use Rattle.emit_dispatch.specs.Contract.{LineAs}
-use Rattle.emit_dispatch.specs.Lines.{pseudoLine}
 use Rattle.emit_outcome.specs.declared.Meaning.{Meaning}
-use Rattle.emit_outcome.specs.declared.Meaning.the-variants.{Table, Builtin}
+use Rattle.emit_outcome.specs.declared.Meaning.the-variants.{Table, Builtin, Neither}
 use Rattle.emit_outcome.specs.Dispatch.{meaning, orNeither, orPseudo, tableLine}
 use Rattle.emit_outcome.specs.declared.EmitAnswer.{EmitAnswer}
 use Rattle.emit_outcome.specs.declared.FillCounts.{FillCounts}
@@ -39,8 +37,9 @@ use Rattle.emit_outcome.specs.Call.{Lent, Call, EmitOutcome, outcomeOf}
 use Rattle.emit_outcome.specs.Returned.{returned}
 use Rattle.emit_outcome.specs.Contract.{EmittedBy}
 use Rattle.emit_outcome.specs.Checks.{listStop}
-use Rattle.emit_outcome.specs.Emit.{startOf, callLine, callRefused, listOutcome, meaningOutcome, emitOutcome}
+use Rattle.emit_outcome.specs.Emit.{callLine, callRefused, lineOutcome, listOutcome, meaningOutcome, emitOutcome}
 use Rattle.emit_checks.specs.Made.{lineMade, MadeGood}
+use Rattle.emit_core.specs.Read.{LineFor, ReadIs}
 
 -- what a name is, by what the table and the pseudo-instructions say
 module _ (descriptors name : List ℕ) where
@@ -77,7 +76,7 @@ table-as job descriptors p {x} {s} ts i {answer} {emit} {cursor} e a =
 -- ---- a made line
 
 -- a line is what was made of it
-line-made : {s : List ℕ} {line : Line} {made : LineEmit} → LineAs s line (made .answer) (made .emit) (made .cursor) → line ≡ lineMade made
+pub line-made : {s : List ℕ} {line : Line} {made : LineEmit} → LineAs s line (made .answer) (made .emit) (made .cursor) → line ≡ lineMade made
 line-made a = rw (a .answer-is, a .words-are .pairs-are, a .words-are .form-is, a .cursor-is)
 
 pub made-good : {s : List ℕ} {line : Line} {made : LineEmit} → LineAs s line (made .answer) (made .emit) (made .cursor) → length (made .emit .instructions) ≡ 5 → MadeGood s made
@@ -100,18 +99,24 @@ module _ (job : Job) (c : Call) where
   unfolding emitOutcome
   by-meaning e f = ap (listOutcome job c) e ∙ ap (meaningOutcome job c) f
 
-  -- the line of a table's descriptor or of a pseudo-instruction, read from where the call starts
-  module _ {at : Cursor} (start : at ≡ cursorAt (c .token-list) (startOf c)) {made : LineEmit} (pass : stop ≡ Pass) where
-    started : (line : ℕ → Line) → LineAs (c .token-list) (line (at .index)) (made .answer) (made .emit) (made .cursor) → callLine c (line (startOf c)) ≡ callLine c (lineMade made)
-    started line a = ap (λ (x : Cursor). callLine c (line (x .index))) (sym start) ∙ ap (callLine c) (line-made {made = made} a)
+  -- a line that was read, from where the call starts
+  abbrev pub readOutcome : (known : Bool) → Location → LineEmit → EmitOutcome
+  readOutcome true line made = lineOutcome (c .token-list) line (c .numbers) (c .lent) (lineMade made)
+  readOutcome false line made = callRefused c (UnknownInstruction line)
 
-    pub by-descriptor : (p : ℕ) → meaning (c .descriptors) (mnemonicName (c .mnemonic)) ≡ Table p
-        → LineAs (c .token-list) (tableLine job (c .descriptors) p (tokens (c .token-list)) (at .index)) (made .answer) (made .emit) (made .cursor) → emitOutcome job c ≡ callLine c (lineMade made)
-    by-descriptor p f a = by-meaning pass f ∙ started (tableLine job (c .descriptors) p (tokens (c .token-list))) a
+  module _ (known : Bool) (line : Location) (made : LineEmit) (read : ReadIs job (c .token-list) (c .mnemonic) (c .descriptors) (c .numbers .place .position) known line made) (pass : stop ≡ Pass) where
+    located : (l : Line) → l ≡ lineMade made → callLine c l ≡ lineOutcome (c .token-list) line (c .numbers) (c .lent) (lineMade made)
+    located l e = ap (callLine c) e ∙ ap (λ (x : Location). lineOutcome (c .token-list) x (c .numbers) (c .lent) (lineMade made)) (sym (read .location-is))
 
-    pub by-builtin : (p : Pseudo) → meaning (c .descriptors) (mnemonicName (c .mnemonic)) ≡ Builtin p
-        → LineAs (c .token-list) (pseudoLine job p (tokens (c .token-list)) (at .index)) (made .answer) (made .emit) (made .cursor) → emitOutcome job c ≡ callLine c (lineMade made)
-    by-builtin p f a = by-meaning pass f ∙ started (pseudoLine job p (tokens (c .token-list))) a
+    by-read : (m : Meaning) → meaning (c .descriptors) (mnemonicName (c .mnemonic)) ≡ m → LineFor job (c .token-list) (c .descriptors) (c .numbers .place .position) m known made
+        → emitOutcome job c ≡ readOutcome known line made
+    by-read (Table p) e l = by-meaning pass e ∙ located _ (l .1) ∙ sym (ap (λ (k : Bool). readOutcome k line made) (l .0))
+    by-read (Builtin p) e l = by-meaning pass e ∙ located _ (l .1) ∙ sym (ap (λ (k : Bool). readOutcome k line made) (l .0))
+    by-read Neither e l =
+        by-meaning pass e ∙ ap (λ (x : Location). callRefused c (UnknownInstruction x)) (sym (read .location-is)) ∙ sym (ap (λ (k : Bool). readOutcome k line made) l)
+
+    pub read-outcome : emitOutcome job c ≡ readOutcome known line made
+    read-outcome = by-read (meaning (c .descriptors) (mnemonicName (c .mnemonic))) refl (read .line-is)
 
 -- an outcome that is the call's is all that a call promises
 pub emitted : {job : Job} {call : Call} {answer : EmitAnswer} {counts : FillCounts} {lent : Lent} → emitOutcome job call ≡ outcomeOf answer counts lent → EmittedBy job call answer counts lent

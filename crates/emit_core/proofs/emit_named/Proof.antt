@@ -1,6 +1,6 @@
 -- `emit_named` meets its contract: the outcome of the line that was read. Assumes nothing.
 use mathlib.Core.Bool.{Bool}
-use mathlib.Core.Path.{_≡_, refl, sym, ap, _∙_}
+use mathlib.Core.Path.{_≡_, sym, ap, _∙_}
 use borrow.Author.Needs.{needs}
 use borrow.Author.Tests.{not-true, not-false}
 use Rattle.emit_outcome.specs.declared.Emitted.{Emitted}
@@ -8,7 +8,7 @@ use Rattle.emit_outcome.specs.Call.{Lent, Call, lentOf, callOf, outcomeOf}
 use Rattle.emit_outcome.specs.Emit.{emitOutcome}
 use Rattle.emit_checks.specs.Made.{ListsGood}
 use Rattle.emit_checks.specs.ListsLaws.{lists-pass}
-use Rattle.emit_core.specs.Read.{readOutcome}
+use Rattle.emit_core.specs.EmitLaws.{readOutcome, read-outcome}
 use Rattle.emit_core.proofs.emit_named.Statement.{statement}
 use Rattle.emit_core.proofs.emit_named.Tie as tie
 
@@ -24,11 +24,11 @@ lists c = lists-pass _ _ _ _ (c .args .numbers .place .region) _ (c .pre)
 -- the outcome by whether the mnemonic is known
 by-read : (c : tie.After-read-line) (known : Bool) → c .read-line .result .known ≡ known →
     let s = c .before .before .before .before .before .before .before in
-    emitOutcome (s .args .job) (call s) ≡ readOutcome (call s) known (c .read-line .result .line) (c .read-line .result .made)
+    emitOutcome (s .args .job) (call s) ≡ readOutcome (s .args .job) (call s) known (c .read-line .result .line) (c .read-line .result .made)
 by-read c known e =
     let s = c .before .before .before .before .before .before .before in
     let r = c .read-line .result in
-    c .read-line .ensures .outcome-is (lent s) (s .args .numbers .counts) (s .args .numbers .place) refl (s .pre) ∙ ap (λ (k : Bool). readOutcome (call s) k (r .line) (r .made)) e
+    read-outcome (s .args .job) (call s) (r .known) (r .line) (r .made) (c .read-line .ensures) (s .pre) ∙ ap (λ (k : Bool). readOutcome (s .args .job) (call s) k (r .line) (r .made)) e
 
 returns : tie.Need-returns
 returns c =
