@@ -1,5 +1,5 @@
 -- Lemmas on an accepted call: the room it has, and what its bytes leave in each buffer. Assumes nothing.
-use Prim.Native.Nat.{ℕ, _+_, _*_, _<_, _≤_}
+use Prim.Native.Nat.{ℕ, _+_, _*_, _^_, _<_, _≤_}
 use native.Mathlib.Omega.{arith}
 use mathlib.Core.Path.{_≡_, refl, sym, ap, subst, _∙_}
 use mathlib.Core.List.{List, [], _∷_, _++_}
@@ -35,7 +35,7 @@ use Rattle.routine.specs.PatchValues.{patchesIn, patchesFrom}
 use Rattle.routine.specs.BreakpointValues.{breakpointsIn}
 use Rattle.routine.specs.CallValues.{callPairs, callOrigin, callPatches, callBreakpoint}
 use Rattle.routine.specs.TokenLaws.{location-fits}
-use Rattle.routine.specs.BehindLaws.{Behind, pendings-behind, BreakpointBehind, breakpointOf, breakpoint-follows}
+use Rattle.routine.specs.BehindLaws.{OriginFits, Behind, pendings-behind, BreakpointBehind, breakpointOf, breakpoint-follows}
 use Rattle.routine.specs.AcceptedLaws.{AcceptedCall}
 use Rattle.routine.specs.FilledLaws.{still-short, filled-within, filled-is, data-passes, pending-passes, breakpoints-pass, build-passes, selected-below}
 
@@ -115,6 +115,19 @@ module _ (job : Job) (c : Call) (a : AcceptedCall job c) (mnemonic : Bytes (c .m
       (pendings-behind regions (c .token-list) pendings (callOrigin c) pairs kept
       (record { region-ok = h; region-fits = omega (arith, region-selected); location-fits = location-within })
       (omega (arith, room .data-fits, data-before .1)) (a .words .fit))
+
+  -- its filled part, and that its records fit behind it
+  pub pending-is : filledWith (c .lent .pending) (counts .pending) waits ≡ take (counts .pending) (c .lent .pending) ++ waits
+  pending-is = filled-is (c .lent .pending) (counts .pending) waits pending-room
+
+  pub pending-kept : firstBad (pendingOk 16 (take (counts .pending) (c .lent .pending))) (places (take (counts .pending) (c .lent .pending))) ≡ Good
+  pending-kept = pending-before .2
+
+  pub origin-fits : OriginFits 16 (callOrigin c)
+  origin-fits = record { region-ok = region-selected; region-fits = omega (arith, region-selected); location-fits = location-within }
+
+  pub offsets-fit : counts .«data_len» + 4 * length pairs ≤ 2 ^ 32
+  offsets-fit = omega (arith, room .data-fits, data-before .1)
 
   pub pending-after : pendingBufferLayout (counts .pending + length waits) (append (c .lent .pending) (counts .pending) waits) ≡ Good
   pending-after =
