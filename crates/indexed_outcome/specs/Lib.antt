@@ -6,5 +6,6 @@ pub mod BesideLaws
 pub mod SameCall
 pub mod AsWithout
 pub mod NextTakes
+pub mod RefusedStays
 pub mod MakeLaws
 pub mod MakeTakes
