@@ -1,0 +1,5 @@
+pub mod Steps
+pub mod NewUsesLaws
+pub mod ChecksLaws
+pub mod StepsLaws
+pub mod Roomy
