@@ -1,17 +1,19 @@
 -- Laws of a page's checks, and of the count of its lines. Assumes nothing.
-use Prim.Native.Nat.{ℕ, _+_, _-_, _/_, _≤_, _<_}
+use Prim.Native.Nat.{ℕ, _+_, _-_, _*_, _/_, _≤_, _<_}
 use native.Mathlib.Omega.{arith}
 use mathlib.Core.List.{List, [], map}
 use mathlib.Core.Path.{_≡_, sym, ap}
 use lib.ListN.{length, length-take, length-drop}
 use borrow.Author.Tests.{le-leb, lt-leb}
 use Rattle.record.specs.Bytes.{part}
-use Rattle.record.specs.Records.{bodyLen, next, placesFrom}
+use Rattle.record.specs.Records.{bodyLen, next, placesFrom, places}
 use Rattle.record.specs.RecordsLaws.{places-all, places-step, places-end}
 use Rattle.record.specs.declared.Layout.{Layout}
 use Rattle.record.specs.declared.Layout.the-variants.{Good, Bad}
 use Rattle.refusal.specs.Verdicts.{andThen, layoutVerdict}
-use Rattle.labels.specs.Labels.{labelLayout}
+use Rattle.name_index.specs.CountLaws.{count-at-least}
+use Rattle.labels.specs.Labels.{labelOk, labelLayout}
+use Rattle.labels.specs.LabelsLaws.{label-is, labels-good}
 use Rattle.regions.specs.Regions.{regionLayout}
 use Rattle.regions.specs.RegionsLaws.{RegionIs}
 use Rattle.reading.specs.Reading.{imageRegion, imageOf}
@@ -52,3 +54,7 @@ lines-end s at h = ap (λ (ps : List ℕ). lineCount (map (imageRegion s) ps)) (
 
 pub lines-most : (s : List ℕ) → regionLayout s ≡ Good → lineCount (imageOf s) < 16384
 lines-most s g = omega (arith, page-length [] s, page-most [] s g)
+
+-- ---- a label has nine bytes at least
+pub labels-few : (s : List ℕ) → labelLayout s ≡ Good → length (places s) * 9 ≤ length s
+labels-few s g = count-at-least 9 s (labelOk s) (λ p e. let l = label-is s p e in (l .whole-at, omega (arith, l .least))) (labels-good s g)

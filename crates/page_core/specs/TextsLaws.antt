@@ -1,9 +1,9 @@
 -- Laws of the page as it is put. Assumes nothing.
-use Prim.Native.Nat.{ℕ, zero, suc, _+_, _*_, _/_, _%_, _≤_, _<_}
+use Prim.Native.Nat.{ℕ, _+_, _*_, _/_, _%_, _≤_, _<_}
 use native.Mathlib.Omega.{arith}
 use mathlib.Core.Path.{_≡_, refl, sym, ap, _∙_}
 use mathlib.Core.List.{List, [], _∷_, _++_, map, append-nil, append-assoc, flatten}
-use lib.ListN.{length, replicate, drop, getD}
+use lib.ListN.{length, drop, getD}
 use Rattle.io.specs.Digits.{digits}
 use Rattle.record.specs.Bytes.{le32}
 use Rattle.regions.specs.Regions.{regionCount, regionPlace}
@@ -15,7 +15,7 @@ use Rattle.reading.specs.RowsLaws.{rows-none, rows-word, rows-part}
 use Rattle.text.specs.Text.{hexBytes, wordText}
 use Rattle.text.specs.TextLaws.{text-part}
 use Rattle.page_outcome.specs.Page.{wordLine, regionLine, rowLine, labelAt, pageLines, pageOf}
-use Rattle.page_labels.specs.Slots.{SlotOk, nameIn, AllZero, Shows}
+use Rattle.page_labels.specs.Slots.{SlotOk, nameIn, Shows}
 use Rattle.page_core.specs.Texts.{dataText, regionText, imageText}
 
 flatten-append : (a b : List (List ℕ)) → flatten (a ++ b) ≡ flatten a ++ flatten b
@@ -66,9 +66,3 @@ regions-end label s n h = rw (image-end s n h)
 pub page-is : (labels regions : List ℕ) → imageText (labelAt labels) 0 (imageOf regions) ≡ pageOf labels regions
 unfolding pageOf imageText
 page-is labels regions = refl
-
--- ---- an array of zeros
-pub all-zero : (n : ℕ) → AllZero (replicate n 0)
-all-zero zero k = refl
-all-zero (suc n) zero = refl
-all-zero (suc n) (suc k) = all-zero n k

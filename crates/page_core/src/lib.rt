@@ -2,7 +2,9 @@
 ghost use mathlib.Core.Path.{_≡_};
 ghost use Prim.Native.Nat.{_+_, _*_, _≤_, _<_};
 ghost use lib.ListN.{length};
-ghost use Rattle.labels.specs.Labels.{labelLayout, labelRepeat};
+ghost use Rattle.record.specs.Records.{places};
+ghost use Rattle.name_index.specs.Index.{IndexOf};
+ghost use Rattle.labels.specs.Labels.{labelLayout};
 ghost use Rattle.regions.specs.Regions.{regionLayout, regionCount, regionPlace};
 ghost use Rattle.reading.specs.Reading.{imageRegion, imageOf};
 ghost use Rattle.text.specs.Text.{Put};
@@ -19,6 +21,9 @@ use refusal::Verdict;
 
 // "the page buffer, alone allowed up to 1,195,959 bytes"
 pub const LIMIT: usize = 1_195_959;
+
+// Labels and regions of so many bytes together are short. A label has nine bytes at least.
+const SHORT: usize = 2304;
 
 // A line for each four bytes, and one for what is left behind them.
 fn put_data(
@@ -50,9 +55,18 @@ fn put_data(
     page_lines::put_part(out, end, pc, &data[i..], name)
 }
 
-// The region of that number.
-fn put_region(out: &mut [u8], at: usize, labels: &[u8], regions: &[u8], number: usize) -> usize
+// The region of that number, with the labels of its words in the lent slots.
+fn put_region(
+    out: &mut [u8],
+    at: usize,
+    labels: &[u8],
+    index: &[u16],
+    regions: &[u8],
+    number: usize,
+    slots: &mut [u16],
+) -> usize
     requires { ⌜ (labelLayout (now labels) ≡ Layout.Good) × (regionLayout (now regions) ≡ Layout.Good) ⌝ }
+    requires { ⌜ IndexOf 4 (now labels) (now index) × (length (now regions) ≤ 4 * length (now slots)) ⌝ }
     requires { ⌜ number < regionCount (now regions) ⌝ }
     requires { ⌜ at + length (regionText (labelAt (now labels)) number (imageRegion (now regions) (regionPlace (now regions) number))) ≤ length (now out) ⌝ }
     ensures { λ r. ⌜ Put (now (out .entry)) at
@@ -62,8 +76,7 @@ fn put_region(out: &mut [u8], at: usize, labels: &[u8], regions: &[u8], number: 
     let address = region.address;
     let start = region.start;
     let size = region.size;
-    let mut slots = [0u16; page_labels::MOST_WORDS];
-    page_labels::find_shown(labels, address, size, &mut slots);
+    page_labels::find_shown(labels, index, address, size, &mut *slots);
     let data_at = page_lines::put_number(&mut *out, at, number);
     put_data(
         out,
@@ -71,13 +84,20 @@ fn put_region(out: &mut [u8], at: usize, labels: &[u8], regions: &[u8], number: 
         address,
         &regions[start..start + size],
         labels,
-        &slots,
+        slots,
     )
 }
 
 // All regions in turn.
-fn put_page(out: &mut [u8], labels: &[u8], regions: &[u8]) -> usize
+fn put_page(
+    out: &mut [u8],
+    labels: &[u8],
+    index: &[u16],
+    regions: &[u8],
+    slots: &mut [u16],
+) -> usize
     requires { ⌜ (labelLayout (now labels) ≡ Layout.Good) × (regionLayout (now regions) ≡ Layout.Good) ⌝ }
+    requires { ⌜ IndexOf 4 (now labels) (now index) × (length (now regions) ≤ 4 * length (now slots)) ⌝ }
     requires { ⌜ length (pageOf (now labels) (now regions)) ≤ length (now out) ⌝ }
     ensures { λ r. ⌜ Put (now (out .entry)) 0 (pageOf (now (labels .entry)) (now (regions .entry))) (now (out .exit)) r ⌝ }
 {
@@ -85,7 +105,7 @@ fn put_page(out: &mut [u8], labels: &[u8], regions: &[u8]) -> usize
     let mut end = 0;
     let mut number = 0;
     while number < count {
-        end = put_region(&mut *out, end, labels, regions, number);
+        end = put_region(&mut *out, end, labels, index, regions, number, &mut *slots);
         number += 1;
     }
     end
@@ -121,29 +141,41 @@ fn check_layouts(labels: &[u8], regions: &[u8], page: &[u8]) -> Verdict
     Verdict::Pass
 }
 
-// The first label that repeats another's name and owner.
-fn find_repeat(labels: &[u8]) -> Repeat
-    requires { ⌜ labelLayout (now labels) ≡ Layout.Good ⌝ }
-    ensures { λ r. ⌜ r ≡ labelRepeat (now (labels .entry)) ⌝ }
+// What the call does with lists that keep their layouts, in the lent arrays: the slots are scratch while the index is made.
+fn lay_out_in(
+    labels: &[u8],
+    regions: &[u8],
+    page: &mut [u8],
+    index: &mut [u16],
+    slots: &mut [u16],
+) -> LaidOut
+    requires { ⌜ layoutVerdicts (now labels) (now regions) (length (now page)) ≡ Verdict.Pass ⌝ }
+    requires { ⌜ (length (places (now labels)) ≤ length (now index)) × (length (places (now labels)) ≤ length (now slots)) × (length (now regions) ≤ 4 * length (now slots)) ⌝ }
+    ensures { λ r. ⌜ pageOutcome (now (labels .entry)) (now (regions .entry)) (now (page .entry)) ≡ (record { answer = r; page = now (page .exit) }) ⌝ }
 {
-    let mut index = [0u16; labels::MOST];
-    let mut spare = [0u16; labels::MOST];
-    let n = labels::make_index(labels, &mut index, &mut spare);
-    labels::first_repeat(labels, &index[..n])
+    let n = name_index::make(labels, 4, &mut *index, &mut *slots);
+    if let Repeat::Later(place) = labels::first_repeat(labels, &index[..n]) {
+        return LaidOut::Refused(Refusal::DuplicateName(0, place as u32));
+    }
+    if page.len() < 73 * count_lines(regions) {
+        return LaidOut::Refused(Refusal::NoPageSpace);
+    }
+    LaidOut::Length(put_page(page, labels, &index[..n], regions, slots) as u32)
 }
 
-// Lays the image out and gives the page's length, or refuses and leaves every byte as it was.
+// Lays the image out and gives the page's length, or refuses and leaves every byte as it was. Short lists have small arrays.
 pub fn lay_out(labels: &[u8], regions: &[u8], page: &mut [u8]) -> LaidOut
     ensures { λ r. ⌜ pageOutcome (now (labels .entry)) (now (regions .entry)) (now (page .entry)) ≡ (record { answer = r; page = now (page .exit) }) ⌝ }
 {
     if let Verdict::Stop(refusal) = check_layouts(labels, regions, &*page) {
         return LaidOut::Refused(refusal);
     }
-    if let Repeat::Later(place) = find_repeat(labels) {
-        return LaidOut::Refused(Refusal::DuplicateName(0, place as u32));
+    if labels.len() + regions.len() <= SHORT {
+        let mut index = [0u16; SHORT / 9];
+        let mut slots = [0u16; SHORT / 4];
+        return lay_out_in(labels, regions, page, &mut index, &mut slots);
     }
-    if page.len() < 73 * count_lines(regions) {
-        return LaidOut::Refused(Refusal::NoPageSpace);
-    }
-    LaidOut::Length(put_page(page, labels, regions) as u32)
+    let mut index = [0u16; labels::MOST];
+    let mut slots = [0u16; page_labels::MOST_WORDS];
+    lay_out_in(labels, regions, page, &mut index, &mut slots)
 }
