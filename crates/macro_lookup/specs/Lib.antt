@@ -1,3 +1,4 @@
 pub mod Lookup
 pub mod LookupLaws
+pub mod TogetherLaws
 pub mod RepeatLaws

@@ -4,7 +4,7 @@ use native.Mathlib.Omega.{arith}
 use mathlib.Core.List.{List}
 use mathlib.Core.Bool.{true, false, _&&_, and-eq-true-iff}
 use mathlib.Core.Path.{_≡_, sym, ap, _∙_}
-use lib.ListN.{length}
+use lib.ListN.{length, length-take, length-drop}
 use lib.Dec.{eqb}
 use Rattle.record.specs.Bytes.{part, sameBytes}
 use Rattle.record.specs.Records.{bodyLen, kindAt, next, whole, places, firstBad, limit}
@@ -22,7 +22,7 @@ macro-is s at e =
     let h = and-eq-true-iff (whole s at && eqb (kindAt s at) 40) (macroOk (bodyAt s at)) .0 e in
     let w = and-eq-true-iff (whole s at) (eqb (kindAt s at) 40) .0 (h .0) in
     let r = whole-is s at (w .0) in
-    record { whole-at = w .0; head = r .0; body = r .1; bytes-ok = h .1 }
+    record { whole-at = w .0; head = r .0; body = r .1; long = simp (length-take, length-drop) (omega (arith, r .1)); bytes-ok = h .1 }
 
 pub name-ok : (s : List ℕ) (at : ℕ) → MacroIs s at → nameOk (bodyAt s at) 0 ≡ true
 name-ok s at m = parts-of (bodyAt s at) (m .bytes-ok) .name-ok

@@ -1,23 +1,20 @@
 -- "A name not above is treated as an ordinary mnemonic": in a macro's body its own name, and those of the macros below, call nothing. Assumes nothing.
-use Prim.Native.Nat.{ℕ, _≤_, _<_}
+use Prim.Native.Nat.{ℕ, _≤_}
 use native.Mathlib.Omega.{arith}
 use mathlib.Core.List.{List, [], _∷_, List·Memᴰ, List·Memᴰ·cases-cons}
 use mathlib.Core.Logic.{⊎-elim}
 use mathlib.Core.Bool.{Bool, true, false}
 use mathlib.Core.Path.{_≡_, refl, sym, ap, _∙_}
 use lib.Dec.{ltb}
-use borrow.Author.Tests.{lt-ltb, ltb-true, eq-eqb, eqb-true}
-use Rattle.record.specs.Bytes.{sameBytes}
-use Rattle.record.specs.BytesLaws.{eq-same}
-use Rattle.record.specs.Records.{next, placesFrom, places}
-use Rattle.record.specs.RecordsLaws.{places-all, places-cons}
+use borrow.Author.Tests.{ltb-true, eqb-true}
+use Rattle.record.specs.Records.{places}
 use Rattle.names.specs.Names.{firstWhere, isAt, firstLater}
 use Rattle.names.specs.NamesLaws.{later-hit, later-pass}
 use Rattle.names.specs.declared.Named.{Named}
 use Rattle.names.specs.declared.Named.the-variants.{At, Missing}
 use Rattle.names.specs.declared.Repeat.the-variants.{None}
-use Rattle.macros.specs.Macros.{Macro, nameAt, macroOf, bodyAt, sameMacro, macroRepeat}
-use Rattle.written_out.specs.Written.{no-macro, macro, called}
+use Rattle.macros.specs.Macros.{Macro, macroOf, sameMacro, macroRepeat}
+use Rattle.written_out.specs.Written.{no-macro, called}
 use Rattle.written_out.specs.Above.{macroAt, aboveFrom, above}
 
 at-is : (n : Named) (p : ℕ) → isAt n p ≡ true → n ≡ At p
@@ -60,83 +57,3 @@ module _ (s : List ℕ) (limit q : ℕ) (h : limit ≤ q) where
 pub not-above : (s : List ℕ) (limit q : ℕ) → macroRepeat s ≡ None → List·Memᴰ q (places s) → limit ≤ q → called (macroAt s q .name) (above s limit) ≡ no-macro
 unfolding macroRepeat above called
 not-above s limit q e m h = none-above s limit q h (places s) [] (first-of s (places s) (places s) e q m)
-
--- ---- the other way round: a macro whose name none above has is the first of its name
-module _ (s : List ℕ) (at : ℕ) where
-  abbrev own : List ℕ
-  own = macroAt s at .name
-
-  still-none : (ps : List ℕ) (ms : List Macro) → called own (aboveFrom s at ps ms) ≡ no-macro → called own ms ≡ no-macro
-  unfolding aboveFrom called
-  still-none [] ms e = e
-  still-none (p ∷ ps) ms e = go (ltb p at) refl (sameBytes (macroAt s p .name) own) refl (still-none ps (macroAt s p ∷ ms))
-    where
-      go : (t : Bool) → ltb p at ≡ t → (b : Bool) → sameBytes (macroAt s p .name) own ≡ b
-          → (called own (aboveFrom s at ps (macroAt s p ∷ ms)) ≡ no-macro → called own (macroAt s p ∷ ms) ≡ no-macro) → called own ms ≡ no-macro
-      go false et b eb ih = sym (rw (et, aboveFrom)) ∙ e
-      go true et true eb ih =
-          let f : called own (macroAt s p ∷ ms) ≡ macro (macroAt s p) ms = rw (eb, called) in
-          let g = ih (sym (rw (et, aboveFrom)) ∙ e) in
-          let z : _≡_ {A = ℕ} 0 1 = cc in
-          absurd (omega arith)
-      go true et false eb ih = sym (rw (eb, called)) ∙ ih (sym (rw (et, aboveFrom)) ∙ e)
-
-  not-in : (ps : List ℕ) → ps ≡ [] → List·Memᴰ at ps → ⊥
-  not-in [] e m = elim m [ ]
-  not-in (p ∷ ps) e m = let z : _≡_ {A = ℕ} 0 1 = cc in absurd (omega arith)
-
-  pub least-from : (ps : List ℕ) (f : ℕ) → placesFrom s f ≡ ps → List·Memᴰ at ps → f ≤ at
-  least-from [] f e m = elim m [ ]
-  least-from (p ∷ ps) f e m =
-      let c = places-cons s f p ps e in
-      ⊎-elim (λ (h : at ≡ p). omega (arith, c .1))
-      (λ t. ⊎-elim (λ w. let k = least-from ps (next s f) (w .1) t in omega (arith, k)) (λ w. absurd (not-in ps (w .1) t)) (c .2))
-      (List·Memᴰ·cases-cons m)
-
-  hit-own : (p : ℕ) (ps : List ℕ) → at ≡ p → firstWhere (sameMacro s at) (p ∷ ps) ≡ At at
-  unfolding firstWhere macroOf
-  hit-own p ps h = ap (λ (q : ℕ). firstWhere (sameMacro s at) (q ∷ ps)) (sym h) ∙ rw (eq-same (nameAt (bodyAt s at) 0), firstWhere)
-
-  pass-own : (p : ℕ) (ps : List ℕ) (ms : List Macro) → p < at → called own (aboveFrom s at (p ∷ ps) ms) ≡ no-macro
-      → (called own (aboveFrom s at ps (macroAt s p ∷ ms)) ≡ no-macro) × (firstWhere (sameMacro s at) (p ∷ ps) ≡ firstWhere (sameMacro s at) ps)
-  unfolding aboveFrom firstWhere called macroOf
-  pass-own p ps ms h n = go (sameMacro s at p) refl
-    where
-      k : called own (aboveFrom s at ps (macroAt s p ∷ ms)) ≡ no-macro
-      k = sym (rw (lt-ltb p at h, aboveFrom)) ∙ n
-
-      go : (b : Bool) → sameMacro s at p ≡ b → (called own (aboveFrom s at ps (macroAt s p ∷ ms)) ≡ no-macro) × (firstWhere (sameMacro s at) (p ∷ ps) ≡ firstWhere (sameMacro s at) ps)
-      go false e = (k, rw (e, firstWhere))
-      go true e =
-          let f : called own (macroAt s p ∷ ms) ≡ macro (macroAt s p) ms = rw (e, called) in
-          let g = still-none ps (macroAt s p ∷ ms) k in
-          let z : _≡_ {A = ℕ} 0 1 = cc in
-          absurd (omega arith)
-
-  first-own : (ps : List ℕ) (f : ℕ) (ms : List Macro) → placesFrom s f ≡ ps → List·Memᴰ at ps → called own (aboveFrom s at ps ms) ≡ no-macro → firstWhere (sameMacro s at) ps ≡ At at
-  first-own [] f ms e m n = elim m [ ]
-  first-own (p ∷ ps) f ms e m n =
-      let c = places-cons s f p ps e in
-      ⊎-elim (λ (h : at ≡ p). hit-own p ps h)
-      (λ t. ⊎-elim
-      (λ w. let k = least-from ps (next s f) (w .1) t in
-      let r = pass-own p ps ms (omega (arith, c .1, k)) n in
-      r .1 ∙ first-own ps (next s f) (macroAt s p ∷ ms) (w .1) t (r .0))
-      (λ w. absurd (not-in ps (w .1) t))
-      (c .2))
-      (List·Memᴰ·cases-cons m)
-
-  pub first-if : List·Memᴰ at (places s) → called own (above s at) ≡ no-macro → isAt (firstWhere (sameMacro s at) (places s)) at ≡ true
-  unfolding above
-  first-if m n = ap (λ (x : Named). isAt x at) (first-own (places s) 0 [] (sym (places-all s)) m n) ∙ eq-eqb at at refl
-
-  pub later-if : (m : Macro) (ms : List Macro) → called own (above s at) ≡ macro m ms → isAt (firstWhere (sameMacro s at) (places s)) at ≡ false
-  unfolding above called
-  later-if m ms e = go (isAt (firstWhere (sameMacro s at) (places s)) at) refl
-    where
-      go : (b : Bool) → isAt (firstWhere (sameMacro s at) (places s)) at ≡ b → isAt (firstWhere (sameMacro s at) (places s)) at ≡ false
-      go false b = b
-      go true b =
-          let n = none-above s at at (omega arith) (places s) [] (at-is _ at b) in
-          let z : _≡_ {A = ℕ} 0 1 = cc in
-          absurd (omega arith)
