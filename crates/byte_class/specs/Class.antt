@@ -64,3 +64,15 @@ isWord Nothing = false
 
 abbrev pub wordByte : ℕ → Bool
 wordByte b = isWord (classOf b)
+
+-- "blank (space, tab, carriage return)", of a class
+abbrev pub isBlankClass : Class → Bool
+isBlankClass Blank = true
+isBlankClass Newline = false
+isBlankClass Digit = false
+isBlankClass Letter = false
+isBlankClass (Mark m) = false
+isBlankClass Nothing = false
+
+abbrev pub blankByte : ℕ → Bool
+blankByte b = isBlankClass (classOf b)

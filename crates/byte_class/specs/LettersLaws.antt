@@ -9,7 +9,7 @@ use Rattle.byte_class.specs.declared.Class.{Class}
 use Rattle.byte_class.specs.declared.Class.the-variants.{Blank, Newline, Digit, Letter, Mark, Nothing}
 use Rattle.byte_class.specs.declared.Mark.{Mark as MarkKind}
 use Rattle.byte_class.specs.declared.Mark.the-variants.{Comment, Directive, Parameter, Register, StringLiteral, Plus, Minus, Comma, Colon, LeftBrace, RightBrace}
-use Rattle.byte_class.specs.Class.{isWord}
+use Rattle.byte_class.specs.Class.{isWord, isBlankClass}
 use Rattle.byte_class.specs.Letters.{letterOf}
 
 -- the class of that letter among these
@@ -76,3 +76,12 @@ no-word Digit n e h = absurd (h .1 e)
 no-word Letter n e h = absurd (h .0 .1 e)
 no-word (Mark m) n e h = refl
 no-word Nothing n e h = refl
+
+-- no letter of a blank is met
+pub no-blank : (k : Class) (n : ℕ) → n ≡ letterOf k → NoneOf n (Blank ∷ []) → false ≡ isBlankClass k
+no-blank Blank n e h = absurd (h .1 e)
+no-blank Newline n e h = refl
+no-blank Digit n e h = refl
+no-blank Letter n e h = refl
+no-blank (Mark m) n e h = refl
+no-blank Nothing n e h = refl

@@ -1,6 +1,6 @@
 // The class of each byte of a text, from a constant table.
 ghost use mathlib.Core.Path.{_≡_};
-ghost use Rattle.byte_class.specs.Class.{classOf, wordByte};
+ghost use Rattle.byte_class.specs.Class.{classOf, wordByte, blankByte};
 ghost use Rattle.byte_class.specs.Letters.{letterOf, letters};
 
 pub enum Class {
@@ -85,6 +85,17 @@ pub fn is_word_byte(table: &[u8; 256], byte: u8) -> bool
     match letter_of(table, byte) {
         b'a' => true,
         b'0' => true,
+        _ => false,
+    }
+}
+
+// Whether the byte is a blank.
+pub fn is_blank(table: &[u8; 256], byte: u8) -> bool
+    requires { ⌜ now table ≡ letters ⌝ }
+    ensures { λ r. ⌜ r ≡ blankByte byte ⌝ }
+{
+    match letter_of(table, byte) {
+        b'b' => true,
         _ => false,
     }
 }

@@ -3,6 +3,7 @@ pub mod Outcome
 pub mod FitLaws
 pub mod ReadingLaws
 pub mod OutcomeLaws
+pub mod Pass
 pub mod TokensLaws
 pub mod Places
 pub mod ReadsBack

@@ -15,7 +15,11 @@ use Rattle.lexer.specs.declared.Token.{Token as TokenRead}
 use Rattle.lexer.specs.declared.TokenKind.{TokenKind}
 use Rattle.token_bytes.specs.TokenBytes.{carriedBy, carriedSize, tokenBytes, CarriedFits}
 use Rattle.token_bytes.specs.TokenBytesLaws.{token-length}
-use Rattle.text_pieces.specs.Pieces.{pieceAt}
+use Rattle.record.specs.Bytes.{byteAt}
+use Rattle.byte_class.specs.Class.{classOf, isBlankClass, blankByte}
+use Rattle.byte_class.specs.declared.Class.{Class}
+use Rattle.byte_class.specs.declared.Class.the-variants.{Blank as BlankClass, Newline, Digit, Letter, Mark, Nothing}
+use Rattle.text_pieces.specs.Pieces.{pieceOf, pieceAt}
 use Rattle.text_pieces.specs.declared.Piece.{Piece}
 use Rattle.text_pieces.specs.declared.Piece.the-variants.{Blank, Token, BadByte, BadToken}
 use Rattle.text_reader.specs.declared.TextRead.{TextRead}
@@ -24,6 +28,19 @@ use Rattle.text_reader.specs.Reading.{Reading, End, Next, Fault, locatio
 use Rattle.text_reader.specs.ReadingLaws.{reading-end, reading-step}
 use Rattle.text_reader.specs.FitLaws.{Good, Stands, piece-good}
 use Rattle.text_reader.specs.Outcome.{answerFrom, bytesOf, answerOf, leaves, outcomeOf, readText, isRead}
+
+-- where a blank byte stands there is a blank
+pub blank-stands : (s : List ℕ) (at : ℕ) → blankByte (byteAt s at) ≡ true → Blank ≡ pieceAt s at
+unfolding pieceAt
+blank-stands s at e = go (classOf (byteAt s at)) e
+  where
+    go : (k : Class) → isBlankClass k ≡ true → Blank ≡ pieceOf k s at
+    go BlankClass f = refl
+    go Newline f = absurd (false≢true f)
+    go Digit f = absurd (false≢true f)
+    go Letter f = absurd (false≢true f)
+    go (Mark m) f = absurd (false≢true f)
+    go Nothing f = absurd (false≢true f)
 
 -- how many bytes a token's record has
 abbrev pub recordSize : TokenKind → ℕ

@@ -8,6 +8,7 @@ ghost use Rattle.record.specs.Records.{limit};
 ghost use Rattle.record.specs.Stores.{append};
 ghost use Rattle.text_reader.specs.Reading.{reading, locationOf};
 ghost use Rattle.text_reader.specs.Outcome.{answerFrom, isRead, bytesOf, readText};
+ghost use Rattle.text_reader.specs.Pass.{Accepts, Leaves};
 use lexer::Token;
 use record::Location;
 use refusal::Refusal;
@@ -30,67 +31,51 @@ fn location_of(source: u32, at: usize) -> Location
     }
 }
 
-// The first pass: the answer for a token buffer of `room` bytes. Nothing is written.
-fn measure(text: &[u8], source: u32, room: usize) -> TextRead
-    requires { ⌜ (length (now text) ≤ limit) × (room ≤ limit) ⌝ }
-    ensures { λ r. ⌜ r ≡ answerFrom (now (text .entry)) room 0 (reading source (now (text .entry))) ⌝ }
+// One pass over the text: its answer for the token buffer and, where `writes`, the records of a text that is accepted.
+fn pass(text: &[u8], source: u32, tokens: &mut [u8], writes: bool) -> TextRead
+    requires { ⌜ (length (now text) ≤ limit) × (length (now tokens) ≤ limit) ⌝ }
+    requires { ⌜ Accepts writes (answerFrom (now text) (length (now tokens)) 0 (reading source (now text))) ⌝ }
+    ensures { λ r. ⌜ (r ≡ answerFrom (now (text .entry)) (length (now (tokens .entry))) 0 (reading source (now (text .entry))))
+        × Leaves writes (now (tokens .entry)) (now (tokens .exit)) (bytesOf (now (text .entry)) (reading source (now (text .entry)))) ⌝ }
 {
     let table = byte_class::table();
     let names = register_names::all_names();
+    let room = tokens.len();
     let mut at: usize = 0;
     let mut fill: usize = 0;
     while at < text.len() {
-        match text_pieces::piece_at(&table, &names, text, at) {
-            Piece::Blank => {
-                at += 1;
-            }
-            Piece::Token(kind, size) => {
-                fill += token_bytes::record_size(kind);
-                if room < fill {
-                    return TextRead::Refused(Refusal::NoTokenSpace(location_of(source, at)));
+        if byte_class::is_blank(&table, text[at]) {
+            at += 1;
+        } else {
+            match text_pieces::piece_at(&table, &names, text, at) {
+                Piece::Blank => {
+                    at += 1;
                 }
-                at += size;
-            }
-            Piece::BadByte => {
-                return TextRead::Refused(Refusal::BadByte(location_of(source, at)));
-            }
-            Piece::BadToken => {
-                return TextRead::Refused(Refusal::BadToken(location_of(source, at)));
+                Piece::Token(kind, size) => {
+                    let end = fill + token_bytes::record_size(kind);
+                    if room < end {
+                        return TextRead::Refused(Refusal::NoTokenSpace(location_of(source, at)));
+                    }
+                    if writes {
+                        let location = location_of(source, at);
+                        token_bytes::put_token(&mut *tokens, text, fill, Token { location, kind });
+                        fill = end;
+                        at += size;
+                    } else {
+                        fill = end;
+                        at += size;
+                    }
+                }
+                Piece::BadByte => {
+                    return TextRead::Refused(Refusal::BadByte(location_of(source, at)));
+                }
+                Piece::BadToken => {
+                    return TextRead::Refused(Refusal::BadToken(location_of(source, at)));
+                }
             }
         }
     }
     TextRead::Read(fill as u32)
-}
-
-// The second pass, over a text that the first accepted.
-fn write(text: &[u8], source: u32, tokens: &mut [u8])
-    requires { ⌜ (length (now text) ≤ limit) × (length (now tokens) ≤ limit) ⌝ }
-    requires { ⌜ isRead (answerFrom (now text) (length (now tokens)) 0 (reading source (now text))) ≡ true ⌝ }
-    ensures { λ _. ⌜ now (tokens .exit) ≡ append (now (tokens .entry)) 0 (bytesOf (now (text .entry)) (reading source (now (text .entry)))) ⌝ }
-{
-    let table = byte_class::table();
-    let names = register_names::all_names();
-    let mut at: usize = 0;
-    let mut fill: usize = 0;
-    while at < text.len() {
-        match text_pieces::piece_at(&table, &names, text, at) {
-            Piece::Blank => {
-                at += 1;
-            }
-            Piece::Token(kind, size) => {
-                let location = location_of(source, at);
-                token_bytes::put_token(&mut *tokens, text, fill, Token { location, kind });
-                fill += token_bytes::record_size(kind);
-                at += size;
-            }
-            Piece::BadByte => {
-                return;
-            }
-            Piece::BadToken => {
-                return;
-            }
-        }
-    }
 }
 
 fn is_read(answer: TextRead) -> bool
@@ -112,9 +97,9 @@ pub fn read_text(text: &[u8], source: u32, tokens: &mut [u8]) -> TextRead
     if tokens.len() > record::LIMIT {
         return TextRead::Refused(Refusal::BadLayout(1, 65536));
     }
-    let answer = measure(text, source, tokens.len());
+    let answer = pass(text, source, &mut *tokens, false);
     if is_read(answer) {
-        write(text, source, tokens);
+        return pass(text, source, tokens, true);
     }
     answer
 }
