@@ -2,7 +2,6 @@
 use Prim.Native.Nat.{ℕ, _+_, _-_, _≤_, _<_}
 use native.Mathlib.Omega.{arith}
 use mathlib.Core.Path.{_≡_, refl, sym, ap, ap₂, _∙_}
-use mathlib.Core.List.{[], _∷_}
 use mathlib.Core.Bool.{Bool, true, false}
 use lib.Dec.{eqb}
 use lib.ListN.{getD, set}
@@ -23,7 +22,7 @@ use Rattle.dry_run_outcome.specs.declared.Fetched.the-variants.{Word, Missing}
 use Rattle.dry_run_outcome.specs.Fetch.{fetch}
 use Rattle.dry_run_outcome.specs.Run.{step, later, run}
 use Rattle.dry_run_outcome.specs.RunLaws.{ranFor, loop-start, loop-end, loop-goes, loop-stops}
-use Rattle.dry_run_outcome.specs.Zero.{step-zero}
+use Rattle.dry_run_outcome.specs.Zero.{set-held, step-zero}
 
 -- ---- $zero holds 0, so that it reads and writes as any register
 
@@ -34,11 +33,6 @@ read-held g r z = go (eqb r 0) refl
     go : (b : Bool) → eqb r 0 ≡ b → readRegister g r ≡ getD g r 0
     go true e = rw (e, readRegister) (sym (ap (λ (i : ℕ). getD g i 0) (eqb-true r 0 e) ∙ z))
     go false e = rw (e, readRegister)
-
--- a 0 stored where one is
-set-held : (g : Registers) → Zero g → set g 0 0 ≡ g
-set-held [] z = refl
-set-held (x ∷ g) z = rw (sym z)
 
 write-held : (g : Registers) (r v : ℕ) → Zero g → set (set g r v) 0 0 ≡ writeRegister g r v
 unfolding writeRegister

@@ -8,5 +8,6 @@ pub mod Counted
 pub mod Split
 pub mod Stopping
 pub mod Zero
+pub mod Call
 pub mod Targets
 pub mod Worked

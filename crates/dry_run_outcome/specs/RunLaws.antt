@@ -1,14 +1,14 @@
 -- Laws of runs: one step more, and the turns of a loop that has some steps taken and the rest of the allowance left. Assumes nothing.
-use Prim.Native.Nat.{ℕ, suc, _+_, _-_, _<_, _≤_}
+use Prim.Native.Nat.{ℕ, zero, suc, _+_, _-_, _<_, _≤_}
 use native.Mathlib.Nat.{zero-add, add-zero, add-assoc}
 use native.Mathlib.Omega.{arith}
-use mathlib.Core.Path.{_≡_, sym, ap, _∙_, subst}
+use mathlib.Core.Path.{_≡_, refl, sym, ap, _∙_, subst}
 use Rattle.reading.specs.Reading.{Image}
 use Rattle.machine.specs.declared.Machine.{Machine}
 use Rattle.machine.specs.declared.Reason.{Reason}
 use Rattle.machine.specs.declared.Reason.the-variants.{Allowance}
-use Rattle.machine.specs.Step.{goes, stops}
-use Rattle.machine.specs.StepLaws.{StopsOtherwise, word-stop}
+use Rattle.machine.specs.Step.{Step, goes, stops, stepWord}
+use Rattle.machine.specs.StepLaws.{After, StopsOtherwise, word-stop}
 use Rattle.dry_run_outcome.specs.declared.Fetched.{Fetched}
 use Rattle.dry_run_outcome.specs.declared.Fetched.the-variants.{Word, Missing}
 use Rattle.dry_run_outcome.specs.declared.Ran.{Ran}
@@ -45,6 +45,25 @@ stops-otherwise image m reason e = subst StopsOtherwise e (fetched (fetch image 
     fetched : (f : Fetched) → StopsOtherwise (stepFetched f m)
     fetched (Word w) = word-stop w m
     fetched Missing = λ x. let y : _≡_ {A = ℕ} 0 1 = cc in omega arith
+
+-- what every word keeps, every run keeps
+module _ (P : Machine → Type 0) (keeps : (w : ℕ) (m : Machine) → P m → After P (stepWord w m)) where
+  pub step-keeps : (image : Image) (m m' : Machine) → step image m ≡ goes m' → P m → P m'
+  unfolding step
+  step-keeps image m m' e p = subst (After P) e (fetched (fetch image (m .pc)))
+    where
+      fetched : (f : Fetched) → After P (stepFetched f m)
+      fetched (Word w) = keeps w m p
+      fetched Missing = tt
+
+  pub run-keeps : (n : ℕ) (image : Image) (m : Machine) → P m → P (run n image m .machine)
+  unfolding run
+  run-keeps zero image m p = p
+  run-keeps (suc n) image m p = go (step image m) refl (run-keeps n image)
+    where
+      go : (s : Step) → step image m ≡ s → ((x : Machine) → P x → P (run n image x .machine)) → P (run (suc n) image m .machine)
+      go (goes x) e ih = rw (run-goes n image m x e) (ih x (step-keeps image m x e p))
+      go (stops reason) e ih = rw (run-stops n image m reason e) p
 
 -- ---- a loop: `taken` steps are taken, and the rest of the allowance n is left
 

@@ -6,5 +6,7 @@ pub mod Effects
 pub mod EffectsLaws
 pub mod Step
 pub mod StepLaws
+pub mod Fits
+pub mod FitsLaws
 pub mod WordStepsLaws
 pub mod LoadingAgrees

@@ -27,19 +27,22 @@ write-zero g r v z = go (eqb r 0) refl
     go true e = rw (e, writeRegister) z
     go false e = rw (e, writeRegister) (getD-set-other g r 0 v 0 (λ x. eqb-false r 0 e (sym x)) ∙ z)
 
--- the registers that a step leads to have $zero 0
-abbrev pub ZeroAfter : Step → Type 0
-ZeroAfter (goes m) = Zero (m .registers)
-ZeroAfter (stops reason) = Unit {0}
+-- P holds of the machine that a step leads to
+abbrev pub After : (Machine → Type 0) → Step → Type 0
+After P (goes m) = P m
+After P (stops reason) = Unit {0}
 
-zero-applied : (e : Effect) (w : ℕ) (m : Machine) → Zero (m .registers) → ZeroAfter (apply e w m)
+abbrev pub HoldsZero : Machine → Type 0
+HoldsZero m = Zero (m .registers)
+
+zero-applied : (e : Effect) (w : ℕ) (m : Machine) → HoldsZero m → After HoldsZero (apply e w m)
 zero-applied (SetRt v) w m z = write-zero (m .registers) (rt w) v z
 zero-applied (SetRd v) w m z = write-zero (m .registers) (rd w) v z
 zero-applied (Go pc) w m z = z
 zero-applied Overflows w m z = tt
 zero-applied Unknown w m z = tt
 
-pub word-zero : (w : ℕ) (m : Machine) → Zero (m .registers) → ZeroAfter (stepWord w m)
+pub word-zero : (w : ℕ) (m : Machine) → HoldsZero m → After HoldsZero (stepWord w m)
 unfolding stepWord
 word-zero w m z = zero-applied (effectOn w m) w m z
 

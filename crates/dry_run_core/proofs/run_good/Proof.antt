@@ -24,7 +24,7 @@ returns c =
 run-requires : tie.Need-run-requires
 run-requires c κs =
     let a = c .before .before .before .before .before .before .before .before in
-    (a .pre, (c .before .before .before .before .before .before .region-places .ensures .0, rw (c .start .ensures) (started-zero (a .args .machine) (search needs))))
+    (a .pre, (c .before .before .before .before .before .before .region-places .ensures .0, rw (c .start .ensures) (started-zero (a .args .machine))))
 
 returns-2 : tie.Need-returns-2
 returns-2 c =
