@@ -12,7 +12,7 @@ const JOBS: [(&str, &str); 3] = [
 
 fn main() {
     println!("cargo:rustc-check-cfg=cfg(library_build, library_line, library_count, library_text)");
-    println!("cargo:rustc-check-cfg=cfg(library_dry_run, library_macros, library_page)");
+    println!("cargo:rustc-check-cfg=cfg(library_dry_run, library_macros, library_page, library_index)");
     for name in [
         "NAZGWERN_FOLDER",
         "NAZGWERN_BUILD",
@@ -22,6 +22,7 @@ fn main() {
         "NAZGWERN_DRY_RUN",
         "NAZGWERN_MACROS",
         "NAZGWERN_PAGE",
+        "NAZGWERN_INDEX",
     ] {
         println!("cargo:rerun-if-env-changed={name}");
     }
@@ -64,5 +65,8 @@ fn main() {
     }
     if env::var("NAZGWERN_PAGE").is_ok() {
         println!("cargo:rustc-cfg=library_page");
+    }
+    if env::var("NAZGWERN_INDEX").is_ok() {
+        println!("cargo:rustc-cfg=library_index");
     }
 }

@@ -36,6 +36,12 @@ mod generate_job_line;
 mod generate_line;
 mod generate_many_labels;
 mod generate_owners;
+mod index_bench;
+mod index_generate;
+mod index_input;
+mod index_library;
+mod index_plain;
+mod index_run;
 mod job;
 mod judge_build;
 mod judge_job;
@@ -111,7 +117,10 @@ fn main() -> ExitCode {
         "dry_run" if dry_run_library::HAS_DRY_RUN => dry_run::run(&options),
         "macros" if macro_library::HAS_MACROS => macro_run::run(&options),
         "page" if page_library::HAS_PAGE => page_run::run(&options),
-        "bench" | "build" | "count_forms" | "dry_run" | "line" | "list" | "macros" | "page" | "text" => {
+        "index" if index_library::HAS_INDEX || options.other == Other::Second => {
+            index_run::run(&options)
+        }
+        "bench" | "build" | "count_forms" | "dry_run" | "index" | "line" | "list" | "macros" | "page" | "text" => {
             eprintln!("the library has no entry for {}", options.mode);
             return ExitCode::from(2);
         }

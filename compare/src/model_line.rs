@@ -80,7 +80,7 @@ fn is_breakpoint(body: &[u8]) -> bool {
 
 /// The filled part of a buffer, where neither the buffer nor the count is over its limit. "the
 /// limit, such a buffer's records being unread": of two limits the lesser.
-fn filled<'a>(buffer: &'a [u8], count: u32, number: u32, faults: &mut Faults) -> &'a [u8] {
+pub fn filled<'a>(buffer: &'a [u8], count: u32, number: u32, faults: &mut Faults) -> &'a [u8] {
     if buffer.len() > LIMIT {
         faults.add(number, LIMIT);
     }

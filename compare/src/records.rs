@@ -9,6 +9,7 @@ pub mod kind {
     pub const PENDING: u16 = 36;
     pub const BREAKPOINT: u16 = 37;
     pub const ENTRY: u16 = 38;
+    pub const USE: u16 = 39;
     pub const OWNED_LABEL: u16 = 41;
 }
 
