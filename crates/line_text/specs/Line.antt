@@ -18,7 +18,8 @@ use Rattle.emit_outcome.specs.declared.EmitAnswer.the-variants.{Done, Refused}
 use Rattle.emit_outcome.specs.Call.{Lent, EmitOutcome, lentOf, callOf}
 use Rattle.emit_outcome.specs.Emit.{emitOutcome}
 use Rattle.input.specs.Input.{wordOrZero, halfOrZero, behindLists, listOf, held}
-use Rattle.text.specs.Text.{field, lastField, hexBytes, refusedLine}
+use Rattle.text.specs.Text.{field, lastField, refusedLine}
+use Rattle.bytes_line.specs.BytesLine.{bytesLine}
 use Rattle.line_text.specs.declared.JobAsked.{JobAsked}
 use Rattle.line_text.specs.declared.JobAsked.the-variants.{Of, NoSuch}
 
@@ -48,10 +49,6 @@ loadedText (Refused r position) = []
 
 unfoldable pub headText : EmitAnswer → FillCounts → List ℕ
 headText a c = answerText a ++ fillsLine c ++ loadedText a
-
--- a buffer: its name, and all its bytes, two hexadecimal digits each
-unfoldable pub bytesLine : (name bytes : List ℕ) → List ℕ
-bytesLine name bytes = name ++ hexBytes bytes ++ bytesOf "\n"
 
 unfoldable pub outcomeText : EmitOutcome → List ℕ
 outcomeText o =

@@ -1,5 +1,5 @@
 -- The lengths of the lines of an emit call's outcome. Assumes nothing.
-use Prim.Native.Nat.{ℕ, _+_, _*_, _≤_}
+use Prim.Native.Nat.{ℕ, _+_, _≤_}
 use native.Mathlib.Omega.{arith}
 use mathlib.Core.Path.{_≡_}
 use mathlib.Core.List.{List, _++_}
@@ -10,9 +10,9 @@ use Rattle.loading.specs.declared.LoadForm.the-variants.{Nothing, Addiu, Ori, L
 use Rattle.emit_outcome.specs.declared.FillCounts.{FillCounts}
 use Rattle.emit_outcome.specs.declared.EmitAnswer.{EmitAnswer}
 use Rattle.emit_outcome.specs.declared.EmitAnswer.the-variants.{Done, Refused}
-use Rattle.text.specs.Text.{field, lastField, hexBytes, refusedLine}
-use Rattle.text.specs.TextLaws.{field-most, last-most, refused-most, hex-length}
-use Rattle.line_text.specs.Line.{positionLine, answerText, fillsLine, loadedText, headText, bytesLine}
+use Rattle.text.specs.Text.{field, lastField, refusedLine}
+use Rattle.text.specs.TextLaws.{field-most, last-most, refused-most}
+use Rattle.line_text.specs.Line.{positionLine, answerText, fillsLine, loadedText, headText}
 
 pub position-most : (position : ℕ) → length (positionLine position) ≤ 30
 position-most position = omega (arith, last-most position)
@@ -30,7 +30,7 @@ fills-length c =
 pub fills-most : (c : FillCounts) → length (fillsLine c) ≤ 69
 fills-most c = omega (arith, fills-length c, field-most (c .«data_len»), field-most (c .pending), last-most (c .breakpoints))
 
-loaded-most : (a : EmitAnswer) → length (loadedText a) ≤ 13
+pub loaded-most : (a : EmitAnswer) → length (loadedText a) ≤ 13
 loaded-most (Done position Nothing) = omega arith
 loaded-most (Done position Addiu) = omega arith
 loaded-most (Done position Ori) = omega arith
@@ -43,8 +43,3 @@ unfolding headText
 head-most a c =
     let front = answerText a ++ fillsLine c in
     omega (arith, length-append front (loadedText a), length-append (answerText a) (fillsLine c), answer-most a, fills-most c, loaded-most a)
-
-pub bytes-length : (name bytes : List ℕ) → length (bytesLine name bytes) ≡ length name + 2 * length bytes + 1
-unfolding bytesLine
-bytes-length name bytes =
-    omega (arith, length-append (name ++ hexBytes bytes) (bytesOf "\n"), length-append name (hexBytes bytes), hex-length bytes)

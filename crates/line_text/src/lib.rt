@@ -12,7 +12,7 @@ use emit_outcome::LineNumbers;
 use emit_outcome::LinePlace;
 use jobs::Job;
 
-mod lines;
+pub mod lines;
 
 // What the byte of the job asks for.
 pub enum JobAsked {
@@ -53,9 +53,9 @@ fn put_emitted(
     let answer = emitted.answer;
     let counts = emitted.counts;
     let data_at = lines::put_head(&mut *out, answer, counts);
-    let pending_at = lines::put_bytes(&mut *out, data_at, b"data ", data);
-    let breakpoints_at = lines::put_bytes(&mut *out, pending_at, b"pending ", pending);
-    lines::put_bytes(out, breakpoints_at, b"breakpoints ", breakpoints)
+    let pending_at = bytes_line::put_bytes(&mut *out, data_at, b"data ", data);
+    let breakpoints_at = bytes_line::put_bytes(&mut *out, pending_at, b"pending ", pending);
+    bytes_line::put_bytes(out, breakpoints_at, b"breakpoints ", breakpoints)
 }
 
 // Makes the call of an input whose last three buffers are these.

@@ -2,13 +2,13 @@
 ghost use Prim.Native.Nat.{_+_, _≤_};
 ghost use lib.ListN.{length};
 ghost use Rattle.text.specs.Text.{Put};
-ghost use Rattle.line_text.specs.Line.{answerText, fillsLine, loadedLine, loadedText, headText, bytesLine};
+ghost use Rattle.line_text.specs.Line.{answerText, fillsLine, loadedLine, loadedText, headText};
 use emit_outcome::EmitAnswer;
 use emit_outcome::FillCounts;
 use loading::LoadForm;
 
 // The refusal where there is one, and the position.
-fn put_answer(out: &mut [u8], answer: EmitAnswer) -> usize
+pub fn put_answer(out: &mut [u8], answer: EmitAnswer) -> usize
     requires { ⌜ 144 ≤ length (now out) ⌝ }
     ensures { λ r. ⌜ Put (now (out .entry)) 0 (answerText answer) (now (out .exit)) r ⌝ }
 {
@@ -48,7 +48,7 @@ fn put_form(out: &mut [u8], at: usize, form: LoadForm) -> usize
 }
 
 // An accepted line's form.
-fn put_loaded(out: &mut [u8], at: usize, answer: EmitAnswer) -> usize
+pub fn put_loaded(out: &mut [u8], at: usize, answer: EmitAnswer) -> usize
     requires { ⌜ at + 13 ≤ length (now out) ⌝ }
     ensures { λ r. ⌜ Put (now (out .entry)) at (loadedText answer) (now (out .exit)) r ⌝ }
 {
@@ -69,14 +69,4 @@ pub(crate) fn put_head(out: &mut [u8], answer: EmitAnswer, counts: FillCounts) -
     let fills_at = put_answer(&mut *out, answer);
     let loaded_at = put_fills(&mut *out, fills_at, counts);
     put_loaded(out, loaded_at, answer)
-}
-
-// A buffer's name with a blank, and all its bytes.
-pub(crate) fn put_bytes(out: &mut [u8], at: usize, name: &[u8], bytes: &[u8]) -> usize
-    requires { ⌜ at + length (bytesLine (now name) (now bytes)) ≤ length (now out) ⌝ }
-    ensures { λ r. ⌜ Put (now (out .entry)) at (bytesLine (now (name .entry)) (now (bytes .entry))) (now (out .exit)) r ⌝ }
-{
-    let bytes_at = text::put_text(&mut *out, at, name);
-    let end = text::put_hex_bytes(&mut *out, bytes_at, bytes);
-    text::put_byte(out, end, b'\n')
 }

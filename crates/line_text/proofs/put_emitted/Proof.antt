@@ -5,8 +5,10 @@ use lib.ListN.{length}
 use borrow.Author.Needs.{needs}
 use Rattle.pseudo_names.specs.PseudoNames.{bytesOf}
 use Rattle.text.specs.TextLaws.{put-then}
-use Rattle.line_text.specs.Line.{headText, bytesLine, outcomeText}
-use Rattle.line_text.specs.LineLaws.{head-most, bytes-length}
+use Rattle.bytes_line.specs.BytesLine.{bytesLine}
+use Rattle.bytes_line.specs.BytesLineLaws.{bytes-length}
+use Rattle.line_text.specs.Line.{headText, outcomeText}
+use Rattle.line_text.specs.LineLaws.{head-most}
 use Rattle.line_text.proofs.put_emitted.Statement.{statement}
 use Rattle.line_text.proofs.put_emitted.Tie as tie
 

@@ -1,10 +1,10 @@
 -- Three texts, each behind the one before. Assumes nothing.
 use borrow.Author.Needs.{needs}
 use Rattle.text.specs.TextLaws.{put-then, hex-length}
-use Rattle.line_text.specs.Line.{bytesLine}
-use Rattle.line_text.specs.LineLaws.{bytes-length}
-use Rattle.line_text.proofs.lines.put_bytes.Statement.{statement}
-use Rattle.line_text.proofs.lines.put_bytes.Tie as tie
+use Rattle.bytes_line.specs.BytesLine.{bytesLine}
+use Rattle.bytes_line.specs.BytesLineLaws.{bytes-length}
+use Rattle.bytes_line.proofs.put_bytes.Statement.{statement}
+use Rattle.bytes_line.proofs.put_bytes.Tie as tie
 
 returns : tie.Need-returns
 unfolding bytesLine

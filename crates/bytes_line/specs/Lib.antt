@@ -1,0 +1,2 @@
+pub mod BytesLine
+pub mod BytesLineLaws
