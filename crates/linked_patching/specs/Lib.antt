@@ -1,0 +1,2 @@
+pub mod LinkedPatching
+pub mod LinkedPatchingLaws
