@@ -53,14 +53,15 @@
    all state is in the buffers.
 
    ANSWER. Six numbers of four bytes: number, source, index, a, b, and a line's position, a build's
-   entry, a text's or a written-out list's fill, a dry run's pc or a page's length. Number 0 is an
-   accepted call, 1 to 16, 18 to 28 and 30 are refusals; source and index are the refusal's location,
-   a is given by its low 32 bits, and numbers that are not named here are 0. Of an accepted line a says how its constant is
-   loaded: 0 none is, 1 addiu alone, 2 ori alone, 3 lui alone, 4 both halves. The number is
-   returned too. On refusal the answer is written and no other lent byte changes. If the answer has
-   fewer than 24 bytes, or the counts fewer than 12 (a range's fewer than 32), or the registers
-   fewer than 128, the call returns NAZGWERN_TOO_SHORT and changes nothing at all. Bytes behind
-   these stay as they are.
+   entry, a text's or a written-out list's fill, a dry run's pc, a page's length, or how many
+   pendings the steps of patching have patched. Number 0 is an accepted call, 1 to 16, 18 to 28 and
+   30 are refusals; source and index are the refusal's location, a is given by its low 32 bits, and
+   numbers that are not named here are 0. Of an accepted line a says how its constant is loaded: 0
+   none is, 1 addiu alone, 2 ori alone, 3 lui alone, 4 both halves. The number is returned too. On
+   refusal the answer is written and no other lent byte changes, but where a step of patching puts
+   back what it has patched. If the answer has fewer than 24 bytes, or the counts fewer than 12 (a
+   range's fewer than 32), the registers fewer than 128 or patching's state fewer than 20, the call
+   returns NAZGWERN_TOO_SHORT and changes nothing at all. Bytes behind these stay as they are.
 
       1  A record breaks the layout or sits in the wrong list, a buffer is over its limit, a fill
          count is over its buffer's length, or the region's number is none (a: buffer in argument
@@ -130,6 +131,7 @@ extern "C" {
 #define NAZGWERN_COUNTS_BYTES 12
 #define NAZGWERN_FORM_COUNTS_BYTES 32
 #define NAZGWERN_REGISTERS_BYTES 128
+#define NAZGWERN_STATE_BYTES 20
 #define NAZGWERN_NO_REGION 65535
 #define NAZGWERN_TOO_SHORT UINT32_C(0xFFFFFFFF)
 
@@ -281,6 +283,41 @@ uint32_t nazgwern_lay_out(
     const uint8_t *labels, size_t labels_length,
     const uint8_t *regions, size_t regions_length,
     uint8_t *page, size_t page_length,
+    uint8_t *answer, size_t answer_length);
+
+/* Patches by steps, so that lines may be added in between: each call patches one pending, in the
+   order in which a build would, or finds that none is left.
+   labels       kinds 34 and 41, as for a build
+   entry        at most one record of kind 38, as for a build
+   regions      the buffer of the region list: 1 to 16 records of kind 35 as far as filled
+   pending      the buffer of the pendings: kind 36 as far as filled, only read
+   kept         the bytes that stood where a pending was patched, four for each of the list's
+                pendings at least; 7,280 are always enough
+   state        five numbers of four bytes: the fill counts of regions, pending and breakpoints,
+                how many pendings are patched (0 before the first step), and whether patching runs
+                (0), has ended (1) or was refused (any other)
+   Of a step that is not refused a is 0 where it patched a pending, and the last number is then how
+   many are patched; a is 1 where none is left, and the last number is then the entry, as of every
+   later step. The refusals are a build's. 14, 15 and 16 put all that was patched back, and set the
+   number of patches to 0 and the state to 2; every later step is refused as a build would be. The
+   others change nothing. All calls of one patching get what the last one left. */
+uint32_t nazgwern_patch_step(
+    const uint8_t *labels, size_t labels_length,
+    const uint8_t *entry, size_t entry_length,
+    uint8_t *regions, size_t regions_length,
+    const uint8_t *pending, size_t pending_length,
+    uint8_t *kept, size_t kept_length,
+    uint8_t *state, size_t state_length,
+    uint8_t *answer, size_t answer_length);
+
+/* The same for a manual or a Release 6 job. */
+uint32_t nazgwern_patch_step_manual(
+    const uint8_t *labels, size_t labels_length,
+    const uint8_t *entry, size_t entry_length,
+    uint8_t *regions, size_t regions_length,
+    const uint8_t *pending, size_t pending_length,
+    uint8_t *kept, size_t kept_length,
+    uint8_t *state, size_t state_length,
     uint8_t *answer, size_t answer_length);
 
 #ifdef __cplusplus

@@ -1,4 +1,4 @@
-// The library to link: a build and a line in each sort of job, the counts of a range, a text's tokens, a dry run, a list with its macros written out and a page by the C calling convention, where a slice goes as a pointer and a length.
+// The library to link: a build and a line in each sort of job, the counts of a range, a text's tokens, a dry run, a list with its macros written out, a page, and patching by steps by the C calling convention, where a slice goes as a pointer and a length.
 ghost use mathlib.Core.Path.{_≡_};
 ghost use Rattle.emit_outcome.specs.Call.{lentOf};
 ghost use Rattle.linked_build.specs.LinkedBuild.{linkedBuildBy, linkedBuild};
@@ -8,6 +8,7 @@ ghost use Rattle.linked_text.specs.LinkedText.{linkedText};
 ghost use Rattle.linked_dry_run.specs.LinkedDryRun.{linkedDryRun};
 ghost use Rattle.linked_macros.specs.LinkedMacros.{linkedMacros};
 ghost use Rattle.linked_page.specs.LinkedPage.{linkedPage};
+ghost use Rattle.linked_patching.specs.LinkedPatching.{linkedStep};
 use emit_outcome::LinePlace;
 use jobs::Job;
 
@@ -242,4 +243,58 @@ pub extern "C" fn nazgwern_lay_out(
         ≡ (record { result = r; page = now (page .exit); answer = now (answer .exit) }) ⌝ }
 {
     linked_page::lay_out(labels, regions, page, answer)
+}
+
+// Patches one pending, ends or refuses: linked_patching says how.
+#[no_mangle]
+pub extern "C" fn nazgwern_patch_step(
+    labels: &[u8],
+    entry: &[u8],
+    regions: &mut [u8],
+    pending: &[u8],
+    kept: &mut [u8],
+    state: &mut [u8],
+    answer: &mut [u8],
+) -> u32
+    ensures { λ r. ⌜ linkedStep Job.Commit (now (labels .entry)) (now (entry .entry)) (now (regions .entry)) (now (pending .entry)) (now (kept .entry))
+        (now (state .entry)) (now (answer .entry))
+        ≡ (record { result = r; regions = now (regions .exit); kept = now (kept .exit); state = now (state .exit); answer = now (answer .exit) }) ⌝ }
+{
+    linked_patching::patch_step(
+        Job::Commit,
+        labels,
+        entry,
+        regions,
+        pending,
+        kept,
+        state,
+        answer,
+    )
+}
+
+// The same by the manual.
+#[no_mangle]
+pub extern "C" fn nazgwern_patch_step_manual(
+    labels: &[u8],
+    entry: &[u8],
+    regions: &mut [u8],
+    pending: &[u8],
+    kept: &mut [u8],
+    state: &mut [u8],
+    answer: &mut [u8],
+) -> u32
+    ensures { λ r. ⌜ linkedStep Job.Manual (now (labels .entry)) (now (entry .entry)) (now (regions .entry)) (now (pending .entry)) (now (kept .entry))
+        (now (state .entry)) (now (answer .entry))
+        ≡ (record { result = r; regions = now (regions .exit); kept = now (kept .exit); state = now (state .exit); answer = now (answer .exit) }) ⌝ }
+{
+    linked_patching::patch_step(
+        Job::Manual,
+        labels,
+        entry,
+        regions,
+        pending,
+        kept,
+        state,
+        answer,
+    )
 }
