@@ -10,12 +10,14 @@ use Rattle.record.specs.Bytes.{le32}
 use Rattle.record.specs.Stores.{append}
 use Rattle.refusal.specs.Numbers.{zeroLocation, numbered}
 use Rattle.labels.specs.Labels.{tableOf}
+use Rattle.linked_line.specs.LineWords.{emittedWords}
 use Rattle.linked_answer.specs.Words.{answerBytes, tooShort, answerWords, numberOf, wordsAsBytes}
 use Rattle.patching_outcome.specs.declared.PatchCounts.{PatchCounts}
 use Rattle.patching_outcome.specs.declared.StepAnswer.{StepAnswer}
 use Rattle.patching_outcome.specs.declared.StepAnswer.the-variants.{Patched, Ended, Refused}
 use Rattle.patching_outcome.specs.Patching.{patchingOf}
 use Rattle.patching_outcome.specs.Step.{StepOutcome, stepOutcome}
+use Rattle.patching_outcome.specs.Line.{LineGiven, LineOutcome, lineOutcome}
 
 -- ---- the caller's record: five numbers of four bytes
 abbrev pub stateBytes : ℕ
@@ -59,4 +61,33 @@ linkedStep job labels entry regions pending kept state answer =
     elim (leb answerBytes (length answer) && leb stateBytes (length state)) [
       | true ↦ stepAnswered (stepOutcome job (tableOf labels) entry (patchingOf regions pending [] kept (stateAt state))) state answer
       | false ↦ record { result = tooShort; regions = regions; kept = kept; state = state; answer = answer }
+    ]
+
+-- ---- a line
+pub record LinkedPatchLine : Type 0 where
+  pub result : ℕ
+  pub regions : List ℕ
+  pub pending : List ℕ
+  pub breakpoints : List ℕ
+  pub state : List ℕ
+  pub answer : List ℕ
+
+abbrev pub lineAnswered : LineOutcome → (state answer : List ℕ) → LinkedPatchLine
+lineAnswered outcome state answer =
+    let words = emittedWords (outcome .answer) in
+    record {
+      result = numberOf words;
+      regions = outcome .after .regions;
+      pending = outcome .after .pending;
+      breakpoints = outcome .after .breakpoints;
+      state = append state 0 (wordsAsBytes (stateWords (outcome .after .counts)));
+      answer = append answer 0 (wordsAsBytes words);
+    }
+
+-- with an answer of fewer than 24 bytes, or a record of fewer than 20, nothing is done; a line is lent no kept words
+unfoldable pub linkedPatchLine : Job → LineGiven → (regions pending breakpoints state answer : List ℕ) → LinkedPatchLine
+linkedPatchLine job given regions pending breakpoints state answer =
+    elim (leb answerBytes (length answer) && leb stateBytes (length state)) [
+      | true ↦ lineAnswered (lineOutcome job given (patchingOf regions pending breakpoints [] (stateAt state))) state answer
+      | false ↦ record { result = tooShort; regions = regions; pending = pending; breakpoints = breakpoints; state = state; answer = answer }
     ]

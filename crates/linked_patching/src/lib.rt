@@ -4,7 +4,8 @@ ghost use Prim.Native.Nat.{_≤_};
 ghost use lib.ListN.{length};
 ghost use Rattle.record.specs.Stores.{append};
 ghost use Rattle.linked_answer.specs.Words.{wordsAsBytes};
-ghost use Rattle.linked_patching.specs.LinkedPatching.{stateBytes, stateAt, stateWords, stepWords, linkedStep};
+ghost use Rattle.patching_line.specs.Contract.{givenOf};
+ghost use Rattle.linked_patching.specs.LinkedPatching.{stateBytes, stateAt, stateWords, stepWords, linkedStep, linkedPatchLine};
 use jobs::Job;
 use linked_answer::ANSWER_BYTES;
 use linked_answer::TOO_SHORT;
@@ -85,6 +86,59 @@ pub fn patch_step(
     let given = stepped.answer;
     let left = stepped.counts;
     let words = step_words(given);
+    put_state(state, left);
+    linked_answer::store_words(answer, &words[..]);
+    words[0]
+}
+
+// Appends a line to its region or refuses it, writes the caller's record and the answer and returns its number: 0 for an accepted line.
+// Where the answer or the record is too short it returns TOO_SHORT and changes nothing.
+pub fn patch_line(
+    job: Job,
+    tokens: &[u8],
+    mnemonic: &[u8],
+    descriptors: &[u8],
+    regions: &mut [u8],
+    pending: &mut [u8],
+    breakpoints: &mut [u8],
+    state: &mut [u8],
+    position: u32,
+    region: u16,
+    answer: &mut [u8],
+) -> u32
+    ensures { λ r. ⌜ linkedPatchLine job (givenOf (now (tokens .entry)) (now (mnemonic .entry)) (now (descriptors .entry)) position region)
+        (now (regions .entry)) (now (pending .entry)) (now (breakpoints .entry)) (now (state .entry)) (now (answer .entry))
+        ≡ (record {
+          result = r;
+          regions = now (regions .exit);
+          pending = now (pending .exit);
+          breakpoints = now (breakpoints .exit);
+          state = now (state .exit);
+          answer = now (answer .exit);
+        }) ⌝ }
+{
+    if answer.len() < ANSWER_BYTES {
+        return TOO_SHORT;
+    }
+    if state.len() < STATE_BYTES {
+        return TOO_SHORT;
+    }
+    let counts = state_at(&*state);
+    let lined = patching_line::patch_line(
+        job,
+        counts,
+        tokens,
+        mnemonic,
+        descriptors,
+        regions,
+        pending,
+        breakpoints,
+        position,
+        region,
+    );
+    let given = lined.answer;
+    let left = lined.counts;
+    let words = linked_line::emitted_words(given);
     put_state(state, left);
     linked_answer::store_words(answer, &words[..]);
     words[0]
