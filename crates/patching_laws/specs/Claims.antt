@@ -1,21 +1,27 @@
 -- P12's claims on every script, as statements (document 02); ScriptLaws proves them. Assumes nothing.
 use Prim.Native.Nat.{ℕ, _+_, _-_, _*_, _/_, _<_, _≤_}
 use mathlib.Core.List.{List, [], _∷_, _++_, List·Memᴰ}
-use mathlib.Core.Bool.{false}
+use mathlib.Core.Bool.{Bool, true, false, _||_}
 use mathlib.Core.Logic.{_⊎_}
 use mathlib.Core.Path.{_≡_}
 use lib.ListN.{length, drop}
+use lib.Dec.{eqb}
 use Rattle.jobs.specs.declared.Job.{Job}
 use Rattle.record.specs.Records.{places, limit}
+use Rattle.record.specs.declared.Location.{Location}
+use Rattle.refusal.specs.Numbers.{numbered}
 use Rattle.refusal.specs.declared.Refusal.{Refusal}
+use Rattle.refusal.specs.declared.Refusal.the-variants.{LateLine}
 use Rattle.refusal.specs.declared.Verdict.the-variants.{Pass}
 use Rattle.labels.specs.Labels.{Table}
 use Rattle.regions.specs.Regions.{regionCount}
-use Rattle.pending.specs.Pendings.{regionOf}
+use Rattle.pending.specs.Pendings.{regionOf, pendingAt}
+use Rattle.patch.specs.Patches.{regionFor}
 use Rattle.loading.specs.declared.LoadForm.{LoadForm}
 use Rattle.build_outcome.specs.Build.{orderFrom, writePatches, BuildOutcome, buildOutcome}
 use Rattle.build_outcome.specs.declared.Built.the-variants.{Entry as BuiltEntry, Refused as BuiltRefused}
-use Rattle.emit_outcome.specs.declared.EmitAnswer.the-variants.{Done}
+use Rattle.emit_outcome.specs.declared.EmitAnswer.{EmitAnswer}
+use Rattle.emit_outcome.specs.declared.EmitAnswer.the-variants.{Done, Refused as LineRefused}
 use Rattle.finished_words.specs.Listed.{Bytes}
 use Rattle.patching_outcome.specs.declared.StepAnswer.{StepAnswer}
 use Rattle.patching_outcome.specs.declared.StepAnswer.the-variants.{Patched, Ended, Refused}
@@ -33,6 +39,12 @@ pub record Start (p : Patching) : Type 0 where
   pub pending-within : (length (p .pending) ≤ limit) × (p .counts .pending ≤ length (p .pending))
   -- a pending takes 36 bytes or more, so 7,280 bytes always suffice
   pub kept-within : (length (p .kept) ≤ limit) × (4 * (length (p .pending) / 36) ≤ length (p .kept))
+
+-- "every pending at the start lies inside its region's data"
+abbrev pub AllInside : Patching → Type 0
+AllInside p =
+    (at : ℕ) → List·Memᴰ at (places (pendingsOf p))
+    → pendingAt (pendingsOf p) at .offset + 4 ≤ regionFor (regionsOf p) (pendingAt (pendingsOf p) at) .size
 
 -- a line's elements are bytes, as those of a lent slice are
 abbrev pub OfBytes : Turn → Type 0
@@ -135,3 +147,24 @@ module _ (job : Job) (labels : Table) (entry : List ℕ) where
 
   abbrev pub AllFinish : Type 0
   AllFinish = (ts : List Turn) (p : Patching) → AllOfBytes ts → Start p → Finishes ts p
+
+  -- The request's own sentence, with its premise: "Where every pending at the start lies inside its region's data, the finished image, or the
+  -- first refusal, equals that of all accepted lines first and a whole build after." AllFinish says more, and without the premise.
+  pub record EqualsBuild (ts : List Turn) (p : Patching) : Type 0 where
+    pub finished-image : (a : ℕ) → stepOutcome job labels entry (run job labels entry ts p) .answer ≡ Ended a
+        → (buildFirst ts p .answer ≡ BuiltEntry a) × (buildFirst ts p .regions ≡ regionsOf (run job labels entry ts p))
+    pub first-refusal : (r : Refusal) → stepOutcome job labels entry (run job labels entry ts p) .answer ≡ Refused r → buildFirst ts p .answer ≡ BuiltRefused r
+
+  abbrev pub AsRequested : Type 0
+  AsRequested = (ts : List Turn) (p : Patching) → AllOfBytes ts → Start p → AllInside p → EqualsBuild ts p
+
+-- ---- a late line: 29 stands "before 11", and so behind 10
+
+-- 11 and 12 are what a line gets for want of room
+abbrev pub isRoom : Refusal → Bool
+isRoom r = eqb (numbered r .number) 11 || eqb (numbered r .number) 12
+
+-- what a late line answers, by what the same line would answer were it not late
+abbrev pub instead : Location → EmitAnswer → EmitAnswer
+instead line (Done position loaded) = LineRefused (LateLine line) position
+instead line (LineRefused r position) = LineRefused (elim (isRoom r) [ true ↦ LateLine line | false ↦ r ]) position

@@ -29,7 +29,7 @@ use Rattle.patching_outcome.specs.Patching.{Patching, regionsOf, pendingsOf, or
 use Rattle.patching_outcome.specs.Step.{stepChecks, StepOutcome, nextBy, runningStep, stoppedStep, stepBy, stepOutcome, nowAt}
 use Rattle.patching_outcome.specs.Line.{LineGiven, isLate, LineOutcome, lined, lineOutcome}
 use Rattle.patching_laws.specs.Script.{Turn, Step, Line, turn, run, ifDone, acceptedTurn, acceptedLines, linesFirst}
-use Rattle.patching_laws.specs.Claims.{Start, OfBytes, AllOfBytes, JoinsEnd, JoinsAfter, SameAnswers, ImageIs, ImageAfter, AcceptedFirst, OneMore, patchedBy, patchedTurn, patchedSteps, Counted, AllFinish}
+use Rattle.patching_laws.specs.Claims.{Start, OfBytes, AllOfBytes, JoinsEnd, JoinsAfter, SameAnswers, ImageIs, ImageAfter, AcceptedFirst, OneMore, patchedBy, patchedTurn, patchedSteps, Counted, AllFinish, AsRequested}
 use Rattle.patching_outcome.specs.LayoutLaws.{line-lists}
 use Rattle.patching_laws.specs.LineLaws.{emitted, LineDone, line-from, line-refused, line-done}
 use Rattle.patching_laws.specs.HeldLaws.{Held, held-image, image-is, done-same}
@@ -401,6 +401,15 @@ module _ (job : Job) (labels : Table) (entry : List ℕ) where
         ended-later = λ a us ofBytes x. ap (λ (w : Patching). stepOutcome job labels entry w .answer) (run-append ts (Step ∷ us) p) ∙ ended-on q b i a us ofBytes x;
         refused = λ r x. refused-by q b r i x;
         same-later = λ r us ofBytes x. ap (λ (w : Patching). stepOutcome job labels entry w .answer) (run-append ts (Step ∷ us) p) ∙ same-by q b i r us ofBytes x;
+      }
+
+  -- the request's own sentence
+  pub as-requested : AsRequested job labels entry
+  as-requested ts p bytes s inside =
+      let f = all-finish ts p bytes s in
+      record {
+        finished-image = λ a x. (ap (λ (o : BuildOutcome). o .answer) (f .ended a x), ap (λ (o : BuildOutcome). o .regions) (f .ended a x));
+        first-refusal = λ r x. ap (λ (o : BuildOutcome). o .answer) (f .refused r x);
       }
 
   -- ---- one more for each step that finds one
