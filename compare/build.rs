@@ -13,6 +13,7 @@ const JOBS: [(&str, &str); 3] = [
 fn main() {
     println!("cargo:rustc-check-cfg=cfg(library_build, library_line, library_count, library_text)");
     println!("cargo:rustc-check-cfg=cfg(library_dry_run, library_macros, library_page, library_index)");
+    println!("cargo:rustc-check-cfg=cfg(library_patching)");
     for name in [
         "NAZGWERN_FOLDER",
         "NAZGWERN_BUILD",
@@ -23,6 +24,7 @@ fn main() {
         "NAZGWERN_MACROS",
         "NAZGWERN_PAGE",
         "NAZGWERN_INDEX",
+        "NAZGWERN_PATCHING",
     ] {
         println!("cargo:rerun-if-env-changed={name}");
     }
@@ -68,5 +70,8 @@ fn main() {
     }
     if env::var("NAZGWERN_INDEX").is_ok() {
         println!("cargo:rustc-cfg=library_index");
+    }
+    if env::var("NAZGWERN_PATCHING").is_ok() {
+        println!("cargo:rustc-cfg=library_patching");
     }
 }

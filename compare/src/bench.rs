@@ -21,7 +21,7 @@ const ENTRY: u32 = 0x0040_0000;
 
 /// Labels, pendings, regions, how a label is named by its number, builds in one timed batch.
 /// Batches are small, so that what was prepared for them is still in the processor's caches.
-type Size = (usize, usize, usize, fn(usize) -> Vec<u8>, usize);
+pub type Size = (usize, usize, usize, fn(usize) -> Vec<u8>, usize);
 
 /// First as many pendings as labels, then as many as a list of 65,536 bytes holds: with a name of
 /// twelve bytes a pending takes 48, with one of sixteen 52, with one of four 40, with one of two
@@ -39,7 +39,7 @@ const SIZES: [Size; 8] = [
 
 /// How a list stands: in an order drawn at random, or rising by names.
 #[derive(Clone, Copy, PartialEq)]
-enum Order {
+pub enum Order {
     Random,
     Rising,
 }
@@ -128,7 +128,7 @@ fn row(options: &Options, size: Size, order: Order, shown: &str) -> bool {
     true
 }
 
-fn call_library(mut lent: BuildInput) -> BuildInput {
+pub fn call_library(mut lent: BuildInput) -> BuildInput {
     let mut answer = [0; Answer::SIZE];
     library::build(&mut lent, &mut answer);
     black_box(answer);
@@ -158,7 +158,7 @@ pub fn median(mut times: Vec<f64>) -> f64 {
 
 /// A routine with a label on every so many words and a patch in each word, of each kind in
 /// turn, that names them all over the table.
-fn input((labels, pendings, regions, name, _): Size, order: Order) -> BuildInput {
+pub fn input((labels, pendings, regions, name, _): Size, order: Order) -> BuildInput {
     let mut random = Random::of(labels as u64, pendings as u64);
     let mut table: Vec<Label> = random
         .shuffled(labels)

@@ -68,6 +68,11 @@ mod page_input;
 mod page_library;
 mod page_plain;
 mod page_run;
+mod patching_generate;
+mod patching_input;
+mod patching_library;
+mod patching_plain;
+mod patching_run;
 mod random;
 mod records;
 mod run_build;
@@ -120,7 +125,11 @@ fn main() -> ExitCode {
         "index" if index_library::HAS_INDEX || options.other == Other::Second => {
             index_run::run(&options)
         }
-        "bench" | "build" | "count_forms" | "dry_run" | "index" | "line" | "list" | "macros" | "page" | "text" => {
+        "patching" if patching_library::HAS_PATCHING || options.other == Other::Second => {
+            patching_run::run(&options)
+        }
+        "bench" | "build" | "count_forms" | "dry_run" | "index" | "line" | "list" | "macros"
+        | "page" | "patching" | "text" => {
             eprintln!("the library has no entry for {}", options.mode);
             return ExitCode::from(2);
         }

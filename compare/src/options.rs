@@ -18,7 +18,7 @@ pub fn read() -> Result<Options, String> {
     let mut words = env::args().skip(1);
     let mode = words
         .next()
-        .ok_or("a mode is needed: build, line, cases, count_forms, text, dry_run, macros, page, index, bench or list")?;
+        .ok_or("a mode is needed: build, line, cases, count_forms, text, dry_run, macros, page, index, patching, bench or list")?;
     let mut options = Options {
         mode,
         count: 200_000,

@@ -7,15 +7,29 @@ use crate::build_input::{BuildInput, BuildOutcome};
 use crate::job::Job;
 use crate::second_list::{reference_size_ok, text_ok, walk, Bytes, Walk};
 
-struct Refused {
-    number: u32,
-    source: u32,
-    index: u32,
-    a: u32,
-    b: u32,
+pub struct Refused {
+    pub number: u32,
+    pub source: u32,
+    pub index: u32,
+    pub a: u32,
+    pub b: u32,
 }
 
-fn layout(buffer: u32, place: usize) -> Refused {
+impl Refused {
+    /// As a build answers it.
+    pub fn answer(&self) -> Answer {
+        Answer {
+            number: self.number,
+            source: self.source,
+            index: self.index,
+            a: self.a,
+            b: self.b,
+            last: NO_ENTRY,
+        }
+    }
+}
+
+pub fn layout(buffer: u32, place: usize) -> Refused {
     Refused {
         number: 1,
         source: 0,
@@ -25,11 +39,11 @@ fn layout(buffer: u32, place: usize) -> Refused {
     }
 }
 
-struct Region {
-    address: u32,
+pub struct Region {
+    pub address: u32,
     /// Where the data begin in the region list, and how many bytes they are.
-    begin: usize,
-    length: usize,
+    pub begin: usize,
+    pub length: usize,
 }
 
 struct Label<'a> {
@@ -40,26 +54,19 @@ struct Label<'a> {
     name: &'a [u8],
 }
 
-struct Lists<'a> {
+pub struct Lists<'a> {
     labels: Vec<Label<'a>>,
     entry: Option<usize>,
-    regions: Vec<Region>,
+    pub regions: Vec<Region>,
     /// Places of the pending records in patch order.
-    patches: Vec<usize>,
+    pub patches: Vec<usize>,
 }
 
 pub fn build(job: Job, input: &BuildInput) -> BuildOutcome {
     match check_and_patch(job, input) {
         Ok(outcome) => outcome,
         Err(refused) => BuildOutcome {
-            answer: Answer {
-                number: refused.number,
-                source: refused.source,
-                index: refused.index,
-                a: refused.a,
-                b: refused.b,
-                last: NO_ENTRY,
-            },
+            answer: refused.answer(),
             regions: input.regions.to_vec(),
         },
     }
@@ -67,8 +74,21 @@ pub fn build(job: Job, input: &BuildInput) -> BuildOutcome {
 
 fn check_and_patch(job: Job, input: &BuildInput) -> Result<BuildOutcome, Refused> {
     let lists = read(input)?;
+    let entry = entry_of(input, &lists)?;
+    let mut regions = input.regions.to_vec();
 
-    // Refusal 2.
+    for place in &lists.patches {
+        patch(job, input, &lists, *place, &mut regions)?;
+    }
+
+    Ok(BuildOutcome {
+        answer: Answer::accepted(entry),
+        regions,
+    })
+}
+
+/// The entry address, or refusal 2 or 13.
+pub fn entry_of(input: &BuildInput, lists: &Lists) -> Result<u32, Refused> {
     for (count, later) in lists.labels.iter().enumerate() {
         for earlier in &lists.labels[..count] {
             if (earlier.owner, earlier.name) == (later.owner, later.name) {
@@ -83,25 +103,14 @@ fn check_and_patch(job: Job, input: &BuildInput) -> Result<BuildOutcome, Refused
         }
     }
 
-    let entry = match lists.entry {
-        None => 0x0040_0000,
-        Some(place) => destination(&lists, &input.entry, place + 4, 13)?,
-    };
-
-    let mut regions = input.regions.to_vec();
-
-    for place in &lists.patches {
-        patch(job, input, &lists, *place, &mut regions)?;
+    match lists.entry {
+        None => Ok(0x0040_0000),
+        Some(place) => destination(lists, &input.entry, place + 4, 13),
     }
-
-    Ok(BuildOutcome {
-        answer: Answer::accepted(entry),
-        regions,
-    })
 }
 
 /// Refusal 1 over the four lists in argument order.
-fn read(input: &BuildInput) -> Result<Lists<'_>, Refused> {
+pub fn read(input: &BuildInput) -> Result<Lists<'_>, Refused> {
     let labels = labels(&input.labels)?;
 
     let entry = walk(&input.entry, |place, length, kind| {
@@ -212,7 +221,7 @@ fn destination(lists: &Lists, list: &[u8], form: usize, unknown: u32) -> Result<
     })
 }
 
-fn patch(
+pub fn patch(
     job: Job,
     input: &BuildInput,
     lists: &Lists,

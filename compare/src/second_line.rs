@@ -193,7 +193,7 @@ fn additions(input: &LineInput, source: u32, index: u32, words: &[Word]) -> [Vec
 
 /// Refusal 1 over the six buffers in argument order: the buffer and the place, or the record
 /// places of the first three.
-fn check(input: &LineInput) -> Result<[Vec<usize>; 3], (u32, usize)> {
+pub fn check(input: &LineInput) -> Result<[Vec<usize>; 3], (u32, usize)> {
     let tokens = whole(
         0,
         walk(&input.tokens, |place, length, kind| {
@@ -274,7 +274,7 @@ fn whole(buffer: u32, walk: Walk) -> Result<Vec<usize>, (u32, usize)> {
 }
 
 /// The filled part of a buffer.
-fn part(number: u32, buffer: &[u8], count: u32) -> Result<&[u8], (u32, usize)> {
+pub fn part(number: u32, buffer: &[u8], count: u32) -> Result<&[u8], (u32, usize)> {
     if buffer.len() > 65_536 {
         return Err((number, 65_536));
     }
