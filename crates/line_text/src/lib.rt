@@ -5,7 +5,7 @@ ghost use Prim.Native.Nat.{_≤_};
 ghost use lib.ListN.{length};
 ghost use Rattle.emit_outcome.specs.Call.{lentOf, outcomeOf};
 ghost use Rattle.text.specs.Text.{Put};
-ghost use Rattle.line_text.specs.Line.{numbersIn, outcomeText, callText, jobText, jobIn, lineText};
+ghost use Rattle.line_text.specs.Line.{numbersIn, outcomeText, callText, jobText, jobNumbered, jobIn, lineText};
 use emit_outcome::Emitted;
 use emit_outcome::FillCounts;
 use emit_outcome::LineNumbers;
@@ -108,15 +108,22 @@ fn put_job(job: Job, input: &[u8], out: &mut [u8; text::MOST]) -> usize
     )
 }
 
-fn job_in(input: &[u8]) -> JobAsked
-    ensures { λ r. ⌜ r ≡ jobIn (now (input .entry)) ⌝ }
+// The job of that number.
+pub fn job_numbered(number: u8) -> JobAsked
+    ensures { λ r. ⌜ r ≡ jobNumbered number ⌝ }
 {
-    match input::byte_or_zero(input::behind_lists(input, 6), 22) {
+    match number {
         0 => JobAsked::Of(Job::Commit),
         1 => JobAsked::Of(Job::Manual),
         2 => JobAsked::Of(Job::Release6),
         _ => JobAsked::NoSuch,
     }
+}
+
+fn job_in(input: &[u8]) -> JobAsked
+    ensures { λ r. ⌜ r ≡ jobIn (now (input .entry)) ⌝ }
+{
+    job_numbered(input::byte_or_zero(input::behind_lists(input, 6), 22))
 }
 
 // The text that `emit_line` prints for an input.

@@ -24,7 +24,7 @@ pub fn put_answer(out: &mut [u8], answer: EmitAnswer) -> usize
     }
 }
 
-fn put_fills(out: &mut [u8], at: usize, counts: FillCounts) -> usize
+pub fn put_fills(out: &mut [u8], at: usize, counts: FillCounts) -> usize
     requires { ⌜ at + length (fillsLine counts) ≤ length (now out) ⌝ }
     ensures { λ r. ⌜ Put (now (out .entry)) at (fillsLine counts) (now (out .exit)) r ⌝ }
 {
