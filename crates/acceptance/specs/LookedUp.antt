@@ -6,7 +6,7 @@ use mathlib.Core.Path.{_≡_, refl}
 use Rattle.record.specs.Bytes.{sameBytes}
 use Rattle.names.specs.declared.Named.the-variants.{At, Missing}
 use Rattle.name_order.specs.Order.{order}
-use Rattle.name_index.specs.Index.{searchF, searchFrom, lookup}
+use Rattle.name_index.specs.Index.{searchF, searchFrom, lookupFrom, lookup}
 use Rattle.labels.specs.Lookup.{lookedForAll, lookedUp}
 use Rattle.finished_words.specs.InstanceTables.{loop, labels₁}
 
@@ -19,11 +19,11 @@ pub record LookedUp : Type 0 where
   pub other-own : lookedUp labels₁ index 2 loop ≡ record { named = At 28; compared = 2; end = 1 }
   -- for file 3: two are compared, and then the one where the search has ended, which is the one for all
   pub ended-there : lookedUp labels₁ index 3 loop ≡ record { named = At 0; compared = 3; end = 2 }
-  -- for file 0 the search ends, after three comparisons, at file 1's: one comparison there, and one more finds the one for all
-  pub searched-again : lookedUp labels₁ index 0 loop ≡ record { named = At 0; compared = 5; end = 2 }
-  -- the name "a": three, the one where the search has ended, and three again
-  pub nowhere : lookedUp labels₁ index 1 (97 ∷ []) ≡ record { named = Missing; compared = 7; end = 0 }
+  -- for file 0 the search ends, after three comparisons, at file 1's, whose name is not compared, and one more finds the one for all
+  pub searched-again : lookedUp labels₁ index 0 loop ≡ record { named = At 0; compared = 4; end = 2 }
+  -- the name "a": three, and three again
+  pub nowhere : lookedUp labels₁ index 1 (97 ∷ []) ≡ record { named = Missing; compared = 6; end = 0 }
 
 pub looked-up : LookedUp
-unfolding labels₁ lookedUp lookedForAll lookup searchFrom searchF order sameBytes
+unfolding labels₁ lookedUp lookedForAll lookupFrom lookup searchFrom searchF order sameBytes
 looked-up = record { own = refl; other-own = refl; ended-there = refl; searched-again = refl; nowhere = refl }

@@ -97,31 +97,24 @@ pub fn first_repeat(labels: &[u8], index: &[u16]) -> Repeat
     name_index::first_repeat(labels, 4, index)
 }
 
-// The label for all of that name, which may stand where the search for the source's has ended.
-fn look_for_all(labels: &[u8], index: &[u16], end: usize, name: &[u8]) -> Looked
-    requires { ⌜ Indexed (now labels) (now index) ⌝ }
-    ensures { λ r. ⌜ r ≡ lookedForAll (now (labels .entry)) (now (index .entry)) end (now (name .entry)) ⌝ }
+// The label for all of that name, which may stand where the search for the source's has ended; so many names have been compared before.
+fn look_for_all(labels: &[u8], index: &[u16], end: usize, name: &[u8], before: u32) -> Looked
+    requires { ⌜ Indexed (now labels) (now index) × (before ≤ 13) ⌝ }
+    ensures { λ r. ⌜ r ≡ lookedForAll (now (labels .entry)) (now (index .entry)) end (now (name .entry)) before ⌝ }
 {
     if end >= index.len() {
-        return name_index::find(labels, 4, index, names::FOR_ALL, name);
+        return name_index::find_from(labels, 4, index, names::FOR_ALL, name, before);
     }
     let place = record::widened(index[end]);
-    if names::is_owned(labels, 4, names::FOR_ALL, name, place) {
+    let told = name_index::is_owned(labels, 4, names::FOR_ALL, name, place, before);
+    if told.same {
         return Looked {
             named: Named::At(place),
-            compared: 1,
+            compared: told.compared,
             end,
         };
     }
-    let other = name_index::find(labels, 4, index, names::FOR_ALL, name);
-    let named = other.named;
-    let compared = other.compared + 1;
-    let end = other.end;
-    Looked {
-        named,
-        compared,
-        end,
-    }
+    name_index::find_from(labels, 4, index, names::FOR_ALL, name, told.compared)
 }
 
 // The label of that name, the source's before the one for all, and how many names were compared.
@@ -133,17 +126,7 @@ pub fn look_up(labels: &[u8], index: &[u16], source: u32, name: &[u8]) -> Looked
     let named = own.named;
     match named {
         Named::At(_) => own,
-        Named::Missing => {
-            let other = look_for_all(labels, index, own.end, name);
-            let named = other.named;
-            let compared = own.compared + other.compared;
-            let end = other.end;
-            Looked {
-                named,
-                compared,
-                end,
-            }
-        }
+        Named::Missing => look_for_all(labels, index, own.end, name, own.compared),
     }
 }
 

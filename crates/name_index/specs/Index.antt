@@ -3,8 +3,10 @@ use Prim.Native.Nat.{ℕ, zero, suc, _+_, _-_, _/_}
 use mathlib.Core.List.{List}
 use mathlib.Core.Bool.{Bool, true, false}
 use lib.ListN.{length, getD}
-use lib.Dec.{ltb}
+use lib.Dec.{ltb, eqb}
+use Rattle.record.specs.Bytes.{sameBytes}
 use Rattle.record.specs.Records.{places}
+use Rattle.names.specs.Owners.{ownerOf, ownedName}
 use Rattle.names.specs.declared.Named.the-variants.{At, Missing}
 use Rattle.name_order.specs.Order.{keyOrder}
 use Rattle.name_order.specs.declared.Ordered.{Ordered}
@@ -12,6 +14,7 @@ use Rattle.name_order.specs.declared.Ordered.the-variants.{Less, Same, More}
 use Rattle.name_sort.specs.Sorting.{SortOf, inOrder}
 use Rattle.name_sort.specs.Before.{keyOf, before}
 use Rattle.name_index.specs.declared.Looked.{Looked}
+use Rattle.name_index.specs.declared.Told.{Told}
 
 -- "an ordered index": the places of the list's records, each as often as there, by name, then by owner, then by place
 abbrev pub IndexOf : ℕ → List ℕ → List ℕ → Type 0
@@ -56,7 +59,19 @@ searchFrom stands index lo hi c = searchF (hi - lo) stands index lo hi c
 abbrev pub standing : ℕ → List ℕ → (owner : ℕ) → (name : List ℕ) → ℕ → Ordered
 standing skip s owner name p = keyOrder (keyOf skip s p) (name, owner)
 
--- "a lookup through an ordered index, returning its count of name comparisons"
-unfoldable pub lookup : ℕ → List ℕ → (index : List ℕ) → (owner : ℕ) → (name : List ℕ) → Looked
+-- "a lookup through an ordered index, returning its count of name comparisons"; c have been made before
+unfoldable pub lookupFrom : ℕ → List ℕ → (index : List ℕ) → (owner : ℕ) → (name : List ℕ) → (c : ℕ) → Looked
 unfolding searchFrom
-lookup skip s index owner name = searchFrom (standing skip s owner name) index 0 (length index) 0
+lookupFrom skip s index owner name c = searchFrom (standing skip s owner name) index 0 (length index) c
+
+unfoldable pub lookup : ℕ → List ℕ → (index : List ℕ) → (owner : ℕ) → (name : List ℕ) → Looked
+unfolding lookupFrom
+lookup skip s index owner name = lookupFrom skip s index owner name 0
+
+-- whether the record at p has the owner and the name, after c comparisons of names: the name of a record that has another owner is not compared
+abbrev pub told : ℕ → List ℕ → (owner : ℕ) → (name : List ℕ) → (p c : ℕ) → Told
+told skip s owner name p c =
+    elim (eqb (ownerOf skip s p) owner) [
+      | true ↦ record { same = sameBytes (ownedName skip s p) name; compared = c + 1 }
+      | false ↦ record { same = false; compared = c }
+    ]

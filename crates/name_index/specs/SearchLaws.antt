@@ -21,7 +21,7 @@ use Rattle.name_order.specs.declared.Ordered.the-variants.{Less, Same, More}
 use Rattle.name_sort.specs.SortingLaws.{at-in}
 use Rattle.name_sort.specs.Before.{keyOf}
 use Rattle.name_index.specs.declared.Looked.{Looked}
-use Rattle.name_index.specs.Index.{IndexOf, middle, searchF, searchFrom, standing, lookup}
+use Rattle.name_index.specs.Index.{IndexOf, middle, searchF, searchFrom, standing, lookupFrom, lookup}
 use Rattle.name_index.specs.PlacesLaws.{none-where, all-first}
 use Rattle.name_index.specs.IndexLaws.{owned-key, is-at, in-index, at-list, keyAt, goes, below-before}
 
@@ -96,9 +96,16 @@ module _ (stands : ℕ → Ordered) (l : List ℕ) where
       unfolding searchFrom
       search-down e = more-fuel ∙ downF (hi - lo) lo hi c h e ∙ same (hi - lo) (middle lo hi - lo) lo (middle lo hi) (c + 1) (omega arith) (omega arith)
 
-pub lookup-all : (skip : ℕ) (s l : List ℕ) (owner : ℕ) (name : List ℕ) → lookup skip s l owner name ≡ searchFrom (standing skip s owner name) l 0 (length l) 0
+pub lookup-from : (skip : ℕ) (s l : List ℕ) (owner : ℕ) (name : List ℕ) (c : ℕ) → lookupFrom skip s l owner name c ≡ searchFrom (standing skip s owner name) l 0 (length l) c
+unfolding lookupFrom
+lookup-from skip s l owner name c = refl
+
+pub lookup-first : (skip : ℕ) (s l : List ℕ) (owner : ℕ) (name : List ℕ) → lookup skip s l owner name ≡ lookupFrom skip s l owner name 0
 unfolding lookup
-lookup-all skip s l owner name = refl
+lookup-first skip s l owner name = refl
+
+pub lookup-all : (skip : ℕ) (s l : List ℕ) (owner : ℕ) (name : List ℕ) → lookup skip s l owner name ≡ searchFrom (standing skip s owner name) l 0 (length l) 0
+lookup-all skip s l owner name = lookup-first skip s l owner name ∙ lookup-from skip s l owner name 0
 
 -- ---- what is found
 module _ (skip : ℕ) (s l : List ℕ) (ix : IndexOf skip s l) (owner : ℕ) (name : List ℕ) where

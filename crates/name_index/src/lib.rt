@@ -1,11 +1,11 @@
 // An ordered index of the names of a list of records, made in lent arrays: finds a record by owner and name, and the first that repeats both.
 ghost use mathlib.Core.Path.{_≡_};
 ghost use mathlib.Core.Bool.{true, not};
-ghost use Prim.Native.Nat.{_≤_, _<_};
+ghost use Prim.Native.Nat.{_+_, _≤_, _<_};
 ghost use lib.ListN.{length, take, drop, getD};
 ghost use Rattle.record.specs.Records.{places, firstBad, limit};
 ghost use Rattle.names.specs.Owners.{hasOwnedName, ownedRepeat};
-ghost use Rattle.name_index.specs.Index.{IndexOf, below, namesRise, lookup};
+ghost use Rattle.name_index.specs.Index.{IndexOf, below, namesRise, standing, told, lookupFrom, lookup};
 ghost use Rattle.name_index.specs.IndexLaws.{ownedFirst};
 use name_order::Ordered;
 use names::Named;
@@ -17,6 +17,18 @@ pub struct Looked {
     pub named: Named,
     pub compared: u32,
     pub end: usize,
+}
+
+// How a record stands to a name of an owner, and how many names have been compared by then.
+struct Standing {
+    ordered: Ordered,
+    compared: u32,
+}
+
+// Whether a record has a name and an owner, and how many names have been compared by then.
+pub struct Told {
+    pub same: bool,
+    pub compared: u32,
 }
 
 // Writes the places of the list's records, and answers their count. What stands behind them stays.
@@ -84,20 +96,56 @@ pub fn make(list: &[u8], skip: usize, index: &mut [u16], spare: &mut [u16]) -> u
     n
 }
 
-// The place of the record of that owner and name, by an index of the list's records.
-pub fn find(list: &[u8], skip: usize, index: &[u16], owner: u32, name: &[u8]) -> Looked
+// Compares the name of the record at `at`, and then its owner. On the way of a lookup names are compared here and in `is_owned`, and the count of
+// comparisons grows where they are.
+fn stands(list: &[u8], skip: usize, at: usize, owner: u32, name: &[u8], compared: u32) -> Standing
+    requires { ⌜ (hasOwnedName skip (now list) at ≡ true) × (compared < 131072) ⌝ }
+    ensures { λ r. ⌜ r ≡ (record { ordered = standing skip (now (list .entry)) owner (now (name .entry)) at; compared = compared + 1 }) ⌝ }
+{
+    let ordered = name_sort::stands(list, skip, at, owner, name);
+    let compared = compared + 1;
+    Standing { ordered, compared }
+}
+
+// Whether the record at `at` has that owner and name. The owner is looked at first: a name of another owner is not compared.
+pub fn is_owned(list: &[u8], skip: usize, owner: u32, name: &[u8], at: usize, compared: u32) -> Told
+    requires { ⌜ (hasOwnedName skip (now list) at ≡ true) × (compared < 131072) ⌝ }
+    ensures { λ r. ⌜ r ≡ told skip (now (list .entry)) owner (now (name .entry)) at compared ⌝ }
+{
+    if names::owner_at(list, skip, at) == owner {
+        let same = record::same(names::name_at(list, skip, at), name);
+        let compared = compared + 1;
+        return Told { same, compared };
+    }
+    Told {
+        same: false,
+        compared,
+    }
+}
+
+// The place of the record of that owner and name, by an index of the list's records; so many names have been compared before.
+pub fn find_from(
+    list: &[u8],
+    skip: usize,
+    index: &[u16],
+    owner: u32,
+    name: &[u8],
+    before: u32,
+) -> Looked
     requires { ⌜ firstBad (hasOwnedName skip (now list)) (places (now list)) ≡ Layout.Good ⌝ }
-    requires { ⌜ IndexOf skip (now list) (now index) × (length (now index) < 65536) ⌝ }
-    ensures { λ r. ⌜ r ≡ lookup skip (now (list .entry)) (now (index .entry)) owner (now (name .entry)) ⌝ }
+    requires { ⌜ IndexOf skip (now list) (now index) × (length (now index) < 65536) × (before < 65536) ⌝ }
+    ensures { λ r. ⌜ r ≡ lookupFrom skip (now (list .entry)) (now (index .entry)) owner (now (name .entry)) before ⌝ }
 {
     let mut lo: usize = 0;
     let mut hi: usize = index.len();
-    let mut compared: u32 = 0;
+    let mut compared: u32 = before;
     while lo < hi {
         let mid = lo + (hi - lo) / 2;
         let p = record::widened(index[mid]);
-        compared += 1;
-        match name_sort::stands(list, skip, p, owner, name) {
+        let told = stands(list, skip, p, owner, name, compared);
+        let ordered = told.ordered;
+        compared = told.compared;
+        match ordered {
             Ordered::Less => {
                 lo = mid + 1;
             }
@@ -118,6 +166,15 @@ pub fn find(list: &[u8], skip: usize, index: &[u16], owner: u32, name: &[u8]) ->
         compared,
         end: lo,
     }
+}
+
+// The same where none has been compared before.
+pub fn find(list: &[u8], skip: usize, index: &[u16], owner: u32, name: &[u8]) -> Looked
+    requires { ⌜ firstBad (hasOwnedName skip (now list)) (places (now list)) ≡ Layout.Good ⌝ }
+    requires { ⌜ IndexOf skip (now list) (now index) × (length (now index) < 65536) ⌝ }
+    ensures { λ r. ⌜ r ≡ lookup skip (now (list .entry)) (now (index .entry)) owner (now (name .entry)) ⌝ }
+{
+    find_from(list, skip, index, owner, name, 0)
 }
 
 // Whether the record at the index's place `i` has the owner and name of an earlier one: equal ones are neighbours.

@@ -1,97 +1,19 @@
--- `name_index::find` meets its contract. The loop's invariant: the search goes on between `lo` and `hi`. Assumes nothing.
-use Prim.Native.Nat.{ℕ, _+_, _-_, _≤_}
+-- `name_index::find` meets its contract: no name has been compared before. Assumes nothing.
 use native.Mathlib.Omega.{arith}
-use mathlib.Core.Path.{_≡_, sym, ap, _∙_}
-use lib.ListN.{length, getD}
+use mathlib.Core.Path.{sym, _∙_}
 use borrow.Author.Needs.{needs}
-use Rattle.names.specs.declared.Named.the-variants.{At}
-use Rattle.name_order.specs.declared.Ordered.{Ordered}
-use Rattle.name_index.specs.Index.{middle, searchFrom, standing, lookup}
-use Rattle.name_index.specs.IndexLaws.{named-at}
-use Rattle.name_index.specs.SearchLaws.{lookup-all, search-end, search-up, search-hit, search-down}
+use Rattle.name_index.specs.SearchLaws.{lookup-first}
 use Rattle.name_index.proofs.find.Statement.{statement}
 use Rattle.name_index.proofs.find.Tie as tie
 
-abbrev Inv-loop : tie.InvT-loop
-Inv-loop list skip index owner name lo₀ hi₀ compared₀ lo hi compared =
-    (hi ≤ length index) × (compared + (hi - lo) ≤ length index)
-    × (lookup skip list index owner name ≡ searchFrom (standing skip list owner name) index lo hi compared)
-
-abbrev μ-loop : tie.MeasureT-loop
-μ-loop list skip index owner name lo₀ hi₀ compared₀ lo hi compared = hi - lo
-
-loop-holds : tie.Need-loop-holds Inv-loop μ-loop
-loop-holds c = (omega arith, omega arith, lookup-all _ _ _ _ _)
-
-stands-requires : tie.Need-stands-requires Inv-loop μ-loop
-stands-requires c κs =
-    let l = c .before .before .before in
-    let s = l .before .before .before .before in
-    let a = s .args in
-    rw (c .widened .ensures) (named-at (a .skip) (a .list .now) (a .index .now) (s .pre .1 .0) (s .pre .0) (middle (l .loop .lo) (l .loop .hi)) (omega arith))
-
--- the middle one is compared
-compared : (c : tie.After-stands Inv-loop μ-loop) (o : Ordered) → c .stands .result ≡ o → let l = c .before .before .before .before in
-    let a = l .before .before .before .before .args in
-    standing (a .skip) (a .list .now) (a .owner) (a .name .now) (getD (a .index .now) (middle (l .loop .lo) (l .loop .hi)) 0) ≡ o
-compared c o e =
-    let a = c .before .before .before .before .before .before .before .before .args in
-    sym (c .stands .ensures ∙ ap (standing (a .skip) (a .list .now) (a .owner) (a .name .now)) (c .before .widened .ensures)) ∙ e
-
-loop-again : tie.Need-loop-again Inv-loop μ-loop
-loop-again c =
-    let l = c .before .before .before .before .before .before in
-    let a = l .before .before .before .before .args in (
-      omega arith,
-      omega arith,
-      l .loop .inv .2 ∙ search-up (standing (a .skip) (a .list .now) (a .owner) (a .name .now)) (a .index .now) (l .loop .lo) (l .loop .hi) (l .loop .compared) (c .before .before .before .before .before .loop-test .taken)
-          (compared (c .before .before) _ (c .enum-told .given .1)),
-    )
-
-returns : tie.Need-returns Inv-loop μ-loop
+returns : tie.Need-returns
 returns c =
-    let l = c .before .before .before .before .before .before in
-    let a = l .before .before .before .before .args in
-    ap (λ (p : ℕ). record { named = At p; compared = l .loop .compared + 1; end = middle (l .loop .lo) (l .loop .hi) }) (c .before .before .before .widened .ensures)
-    ∙ sym (l .loop .inv .2 ∙ search-hit (standing (a .skip) (a .list .now) (a .owner) (a .name .now)) (a .index .now) (l .loop .lo) (l .loop .hi) (l .loop .compared) (c .before .before .before .before .before .loop-test .taken)
-    (compared (c .before .before) _ (c .enum-told2 .given .1)))
-
-loop-again-2 : tie.Need-loop-again-2 Inv-loop μ-loop
-loop-again-2 c =
-    let l = c .before .before .before .before .before .before in
-    let a = l .before .before .before .before .args in (
-      omega arith,
-      omega arith,
-      l .loop .inv .2 ∙ search-down (standing (a .skip) (a .list .now) (a .owner) (a .name .now)) (a .index .now) (l .loop .lo) (l .loop .hi) (l .loop .compared) (c .before .before .before .before .before .loop-test .taken)
-          (compared (c .before .before) _ (c .enum-told3 .given .1)),
-    )
-
-returns-2 : tie.Need-returns-2 Inv-loop μ-loop
-returns-2 c =
-    let l = c .before in
-    sym (l .loop .inv .2 ∙ search-end _ _ (l .loop .lo) (l .loop .hi) (l .loop .compared) (c .loop-test .left))
+    let a = c .before .before .before .before .args in
+    c .find-from .ensures ∙ sym (lookup-first (a .skip) (a .list .now) (a .index .now) (a .owner) (a .name .now))
 
 pub find-spec : {M : Type 1} → statement M
 find-spec =
     tie.close
     (tie.spec
-    Inv-loop
-    μ-loop
-    loop-holds
-    (λ c. omega arith)
-    (λ c. omega arith)
-    (λ c. omega arith)
-    (λ c. omega arith)
-    (λ c κs. search needs)
-    (λ c. omega (arith, c .before .before .before .before .before .before .before .pre .1 .1))
-    stands-requires
-    (λ c. search needs)
-    (λ c. omega arith)
-    (λ c. omega arith)
-    loop-again
-    (λ c. search needs)
-    returns
-    (λ c. search needs)
-    (λ c. omega arith)
-    loop-again-2
-    returns-2)
+    (λ c κs. let p = c .before .before .before .pre in (p .0, (p .1 .0, p .1 .1, omega arith)))
+    returns)
