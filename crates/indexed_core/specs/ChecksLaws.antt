@@ -1,5 +1,5 @@
 -- Laws of the checks of the lists: the first that stops, and what is known where all pass. Assumes nothing.
-use Prim.Native.Nat.{ℕ, _≤_, _<_}
+use Prim.Native.Nat.{ℕ, _≤_}
 use native.Mathlib.Omega.{arith}
 use mathlib.Core.List.{List}
 use mathlib.Core.Bool.{Bool, true, false}
@@ -7,15 +7,13 @@ use mathlib.Core.Path.{_≡_, refl, sym, ap, ap₂, _∙_}
 use lib.ListN.{length, take}
 use lib.Dec.{ltb}
 use borrow.Author.Tests.{ltb-true, ltb-false}
-use Rattle.jobs.specs.declared.Job.{Job}
 use Rattle.record.specs.Bytes.{sameBytes}
 use Rattle.record.specs.Records.{places, firstBad, limit}
 use Rattle.record.specs.declared.Layout.{Layout}
 use Rattle.record.specs.declared.Layout.the-variants.{Good, Bad}
 use Rattle.names.specs.declared.Repeat.{Repeat}
-use Rattle.names.specs.declared.Repeat.the-variants.{None}
 use Rattle.refusal.specs.Verdicts.{andThen, layoutVerdict, nameVerdict}
-use Rattle.refusal.specs.VerdictsLaws.{both-pass, layout-pass, name-pass}
+use Rattle.refusal.specs.VerdictsLaws.{both-pass, layout-pass}
 use Rattle.refusal.specs.declared.Verdict.{Verdict}
 use Rattle.refusal.specs.declared.Verdict.the-variants.{Pass}
 use Rattle.lexer.specs.Tokens.{tokenLayout}
@@ -23,7 +21,7 @@ use Rattle.descriptors.specs.Mnemonics.{mnemonicLayout}
 use Rattle.descriptors.specs.Descriptors.{descriptorLayout, descriptorRepeat}
 use Rattle.labels.specs.Labels.{labelLayout, labelRepeat}
 use Rattle.pending.specs.Pendings.{pendingOk}
-use Rattle.breakpoints.specs.Breakpoints.{dataBufferLayout, pendingBufferLayout, breakpointBufferLayout}
+use Rattle.breakpoints.specs.Breakpoints.{dataBufferLayout, pendingBufferLayout}
 use Rattle.breakpoints.specs.BreakpointsLaws.{pending-buffer-good}
 use Rattle.emit_outcome.specs.Call.{Call, Lent}
 use Rattle.emit_outcome.specs.Checks.{layoutStop, listStop}
@@ -32,7 +30,6 @@ use Rattle.label_uses.specs.UseBytes.{indexOf, indexLayout}
 use Rattle.label_uses.specs.IndexLaws.{layout-long, layout-over, layout-by}
 use Rattle.label_uses.specs.UseOrderLaws.{never}
 use Rattle.indexed_outcome.specs.Indexed.{IndexedCall, filledPending, indexedStop}
-use Rattle.indexed_outcome.specs.BesideLaws.{stop-is}
 
 -- a place that a check of an index names is at most the limit
 pub index-place : (labels pending index : List ℕ) (fill p : ℕ) → indexLayout labels pending fill index ≡ Bad p → p ≤ limit

@@ -12,10 +12,9 @@ use Rattle.jobs.specs.declared.Job.{Job}
 use Rattle.record.specs.Records.{places, firstBad}
 use Rattle.record.specs.declared.Layout.the-variants.{Good}
 use Rattle.descriptors.specs.Mnemonics.{mnemonicName}
-use Rattle.lexer.specs.Tokens.{tokens}
 use Rattle.pending.specs.Pendings.{pendingOk}
 use Rattle.pending.specs.PendingBytes.{pendingBytes}
-use Rattle.pending.specs.Written.{Written, written-behind}
+use Rattle.pending.specs.Written.{written-behind}
 use Rattle.pending.specs.declared.Origin.{Origin}
 use Rattle.emit_pairs.specs.declared.InstructionPair.{InstructionPair}
 use Rattle.emit_pairs.specs.declared.PairLabel.{PairLabel}
@@ -29,18 +28,18 @@ use Rattle.emit_outcome.specs.Emit.{emitOutcome}
 use Rattle.emit_outcome.specs.declared.EmitAnswer.the-variants.{Done}
 use Rattle.emit_outcome.specs.declared.Meaning.{Meaning}
 use Rattle.emit_outcome.specs.declared.Meaning.the-variants.{Table, Builtin, Neither}
-use Rattle.emit_checks.specs.Made.{pairsOf, lineMade}
-use Rattle.emit_core.specs.Read.{LineFor, ReadIs}
+use Rattle.emit_checks.specs.Made.{pairsOf}
+use Rattle.emit_core.specs.Read.{LineFor}
 use Rattle.loading.specs.declared.LoadForm.{LoadForm}
 use Rattle.finished_words.specs.Listed.{Bytes}
 use Rattle.routine.specs.WordLaws.{PairFits, PairsFit}
 use Rattle.routine.specs.BehindLaws.{OriginFits}
 use Rattle.routine.specs.CallValues.{meaningPairs, callPairs, callOrigin}
-use Rattle.routine.specs.AcceptedLaws.{AcceptedCall, accepted}
+use Rattle.routine.specs.AcceptedLaws.{accepted}
 use Rattle.routine.specs.LineFitsLaws.{pending-is, pending-kept, origin-fits, offsets-fit}
-use Rattle.label_uses.specs.Uses.{Use, useOf, usesOf}
+use Rattle.label_uses.specs.Uses.{Use, usesOf}
 use Rattle.label_uses.specs.UseBytes.{usesBytes, indexOf, indexLayout}
-use Rattle.label_uses.specs.IndexLaws.{IndexIs, index-is}
+use Rattle.label_uses.specs.IndexLaws.{index-is}
 use Rattle.label_uses.specs.OneMoreLaws.{AllBytes, uses-written, owners-fit}
 use Rattle.label_uses.specs.UseOrderLaws.{never}
 use Rattle.line_uses.specs.LineUses.{pairUse, nextNumber, lineUses}

@@ -1,9 +1,9 @@
 -- What the steps of an emit call with an index know and leave. Assumes nothing.
-use Prim.Native.Nat.{ℕ, _≤_}
+use Prim.Native.Nat.{ℕ}
 use mathlib.Core.List.{List}
 use mathlib.Core.Bool.{true, false}
 use mathlib.Core.Path.{_≡_}
-use lib.ListN.{length, take}
+use lib.ListN.{length}
 use lib.Dec.{leb}
 use Rattle.record.specs.Records.{places, firstBad}
 use Rattle.record.specs.Stores.{append}
@@ -19,7 +19,6 @@ use Rattle.emit_outcome.specs.Call.{Lent, EmitOutcome, outcomeOf}
 use Rattle.emit_outcome.specs.Emit.{accept}
 use Rattle.emit_outcome.specs.declared.EmitAnswer.{EmitAnswer}
 use Rattle.emit_outcome.specs.declared.EmitAnswer.the-variants.{Done, Refused}
-use Rattle.emit_outcome.specs.declared.FillCounts.{FillCounts}
 use Rattle.emit_outcome.specs.declared.LineNumbers.{LineNumbers}
 use Rattle.emit_checks.specs.Made.{pairsOf, lineMade, Filled, MadeGood}
 use Rattle.label_uses.specs.Uses.{usesOf}

@@ -1,6 +1,5 @@
 -- Laws of the steps: the outcome by what the checks, the line and the index's room say. Assumes nothing.
 use Prim.Native.Nat.{ℕ, _≤_, _<_}
-use native.Mathlib.Omega.{arith}
 use mathlib.Core.List.{List}
 use mathlib.Core.Bool.{Bool, true, false}
 use mathlib.Core.Path.{_≡_, refl, sym, ap, ap₂, _∙_}
@@ -15,8 +14,8 @@ use Rattle.refusal.specs.declared.Refusal.{Refusal}
 use Rattle.refusal.specs.declared.Verdict.the-variants.{Pass, Stop}
 use Rattle.descriptors.specs.Mnemonics.{mnemonicLocation}
 use Rattle.emit_dispatch.specs.declared.LineEmit.{LineEmit}
-use Rattle.emit_outcome.specs.Call.{Call, Lent, EmitOutcome, outcomeOf}
-use Rattle.emit_outcome.specs.Emit.{refuse, accept, lineStop, lineOutcome, callRefused, emitOutcome}
+use Rattle.emit_outcome.specs.Call.{Call, Lent, EmitOutcome}
+use Rattle.emit_outcome.specs.Emit.{accept, lineStop, lineOutcome, callRefused, emitOutcome}
 use Rattle.emit_outcome.specs.declared.EmitAnswer.{EmitAnswer}
 use Rattle.emit_outcome.specs.declared.EmitAnswer.the-variants.{Done, Refused}
 use Rattle.emit_outcome.specs.declared.LineNumbers.{LineNumbers}

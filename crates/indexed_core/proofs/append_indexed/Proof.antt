@@ -1,10 +1,10 @@
 -- `append_indexed` meets its contract: the line's own append, and its uses behind those of the list. Assumes nothing.
 use borrow.Author.Needs.{needs}
-use Prim.Native.Nat.{ℕ, _≤_}
+use Prim.Native.Nat.{ℕ}
 use native.Mathlib.Omega.{arith}
 use mathlib.Core.List.{List}
-use mathlib.Core.Path.{_≡_, refl, sym, ap, _∙_}
-use lib.ListN.{length, take, length-take}
+use mathlib.Core.Path.{_≡_, sym, ap, _∙_}
+use lib.ListN.{length}
 use lib.Seq.{length-take-le}
 use Rattle.record.specs.Records.{places}
 use Rattle.record.specs.Stores.{append}

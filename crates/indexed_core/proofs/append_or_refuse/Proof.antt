@@ -1,9 +1,9 @@
 -- `append_or_refuse` meets its contract: the outcome by what the checks say of the line and by the index's room. Assumes nothing.
 use borrow.Author.Needs.{needs}
-use Prim.Native.Nat.{ℕ, _≤_, _<_}
+use Prim.Native.Nat.{ℕ}
 use native.Mathlib.Omega.{arith}
 use mathlib.Core.List.{List}
-use mathlib.Core.Path.{_≡_, refl, sym, ap, _∙_}
+use mathlib.Core.Path.{_≡_, sym, ap, _∙_}
 use lib.ListN.{length}
 use Rattle.record.specs.Records.{places}
 use Rattle.refusal.specs.declared.Verdict.the-variants.{Pass}

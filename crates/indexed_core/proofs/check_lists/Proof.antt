@@ -1,9 +1,8 @@
 -- `check_lists` meets its contract: the first check that stops is the one that is named, and its place is at most 65,536. Assumes nothing.
 use borrow.Author.Needs.{needs}
-use Prim.Native.Nat.{ℕ, _≤_}
 use native.Mathlib.Omega.{arith}
 use mathlib.Core.Path.{_≡_, refl, sym, _∙_}
-use lib.ListN.{length, take, length-take}
+use lib.ListN.{length, length-take}
 use lib.Seq.{length-take-le}
 use Rattle.record.specs.declared.Layout.the-variants.{Good, Bad}
 use Rattle.names.specs.declared.Repeat.the-variants.{None, Later}

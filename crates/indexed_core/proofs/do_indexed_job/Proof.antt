@@ -1,6 +1,6 @@
 -- `do_indexed_job` meets its contract: what the lists refuse, or the outcome of lists that pass. Assumes nothing.
 use borrow.Author.Needs.{needs}
-use mathlib.Core.Path.{_≡_, refl, sym, ap, _∙_}
+use mathlib.Core.Path.{sym, ap, _∙_}
 use Rattle.emit_outcome.specs.Call.{Lent, lentOf, callOf}
 use Rattle.indexed_outcome.specs.Indexed.{IndexedCall, indexedCallOf, indexedOutcomeOf}
 use Rattle.indexed_outcome.specs.declared.IndexedEmitted.{IndexedEmitted}

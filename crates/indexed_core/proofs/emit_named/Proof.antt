@@ -5,7 +5,7 @@ use Prim.Native.Nat.{ℕ}
 use native.Mathlib.Omega.{arith}
 use mathlib.Core.List.{List}
 use mathlib.Core.Bool.{Bool, true, false}
-use mathlib.Core.Path.{_≡_, refl, sym, ap, _∙_}
+use mathlib.Core.Path.{_≡_, sym, ap, _∙_}
 use Rattle.emit_outcome.specs.Call.{Lent, Call, EmitOutcome, lentOf, callOf}
 use Rattle.emit_outcome.specs.Emit.{lineOutcome, emitOutcome}
 use Rattle.emit_checks.specs.Made.{ListsGood, pairsOf, lineMade}
@@ -14,7 +14,7 @@ use Rattle.emit_core.specs.EmitLaws.{readOutcome, read-outcome}
 use Rattle.label_uses.specs.UseBytes.{indexOf}
 use Rattle.indexed_outcome.specs.Indexed.{IndexedCall, filledPending, indexedCallOf, indexedOutcomeOf}
 use Rattle.indexed_outcome.specs.declared.IndexedEmitted.{IndexedEmitted}
-use Rattle.indexed_core.specs.Steps.{newIndex, Ready}
+use Rattle.indexed_core.specs.Steps.{newIndex}
 use Rattle.indexed_core.specs.NewUsesLaws.{new-index}
 use Rattle.indexed_core.specs.ChecksLaws.{AllPass, all-pass, pending-passes}
 use Rattle.indexed_core.specs.StepsLaws.{call-unknown, call-line}
