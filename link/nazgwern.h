@@ -108,15 +108,15 @@
 
    STACK. Measured, not proved, on x86-64 with gcc as the caller's compiler: link/stack ran over a
    million calls of nazgwern_do_instruction, of which none took more than 24,088 bytes of stack, 777
-   of nazgwern_build, of which none took more than 38,112, as many by the manual and lines for
+   of nazgwern_build, of which none took more than 37,760, as many by the manual and lines for
    Release 6, of which none took more than these, 20,506 of nazgwern_read_text, of which none took
-   more than 928, 1,338 of nazgwern_dry_run, of which none took more than 680, 4,623 of
-   nazgwern_write_out, of which none took more than 7,176, and 1,608 of nazgwern_lay_out, of which
-   none took more than 51,984; arguments and return address counted. A
-   build's stack is mostly the index of its labels, 29,124 bytes, a line's that of its descriptors,
-   20,164, and a page's has beside the labels' index 32,768 bytes for the labels of a region's
-   words; short lists take them too. The code may also use the 128 bytes below its stack pointer, as
-   the x86-64 convention allows. */
+   more than 928, 1,338 of nazgwern_dry_run, of which none took more than 680, 4,626 of
+   nazgwern_write_out, of which none took more than 44,744, and 1,608 of nazgwern_lay_out, of which
+   none took more than 51,808; arguments and return address counted. A build's stack is mostly the
+   index of its labels, 29,124 bytes, a line's that of its descriptors, 20,164, and that of a list
+   with macros the macros' index, 37,448; a page has beside the labels' index, 14,562, as many as
+   32,768 bytes for the labels of a region's words. The code may also use the 128 bytes below its
+   stack pointer, as the x86-64 convention allows. */
 #ifndef NAZGWERN_H
 #define NAZGWERN_H
 

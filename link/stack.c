@@ -68,8 +68,9 @@ static uint64_t area[10240];
 static uint8_t *frame;
 static size_t greatest, calls;
 
-/* What a call may take: a page has the slots of its words beside an index. */
-enum { MOST = 40 * 1024, MOST_OF_PAGE = 56 * 1024 };
+/* What a call may take: a list with macros has an index of them, of which one may have seven bytes,
+   and a page has the slots of its words beside an index. */
+enum { MOST = 40 * 1024, MOST_OF_MACROS = 48 * 1024, MOST_OF_PAGE = 56 * 1024 };
 static size_t most = MOST;
 static bool seen[GREATEST_NUMBER + 1], short_seen;
 
@@ -675,6 +676,30 @@ static void job(const char *line_name, const char *build_name)
     report(build_name);
 }
 
+static void add_macro(const char *name)
+{
+    size_t length = strlen(name);
+
+    put_head(&macros, 2 + length, 40);
+    put(&macros, length, 1);
+    put_text(&macros, name);
+    put(&macros, 0, 1);
+}
+
+/* Calls with the most macros: with short names and with long ones, and of one name but for the first. */
+static void many_macros(void)
+{
+    fill(&macros, 6, add_macro);
+    measure(write_out);
+    fill_long(&macros, 6, add_macro);
+    measure(write_out);
+    macros.length = 0;
+    add_macro("y");
+    while (macros.length + 7 <= sizeof macros.bytes)
+        add_macro("x");
+    measure(write_out);
+}
+
 /* Macros A to J, of which each calls the one above it, the first with so many parameters; then a call
    of each, with no argument and with eight, and as much room as each token needs. */
 static void all_macros(void)
@@ -713,6 +738,7 @@ static void all_macros(void)
     answer_length--;
     measure(write_out);
     answer_length++;
+    many_macros();
 }
 
 int main(void)
@@ -734,6 +760,7 @@ int main(void)
     all_runs();
     report("nazgwern_dry_run");
 
+    most = MOST_OF_MACROS;
     all_macros();
     report("nazgwern_write_out");
 

@@ -6,6 +6,7 @@ use crate::macro_generate::generated;
 use crate::macro_library;
 use crate::macro_plain;
 use crate::options::Options;
+use crate::random::Random;
 use std::collections::BTreeMap;
 use std::hint::black_box;
 use std::time::Instant;
@@ -136,9 +137,11 @@ fn ordinary(lines: usize) -> (Vec<u8>, Vec<u8>) {
     (tokens, macros)
 }
 
-/// As many macros of two-byte names as a list holds.
+/// As many macros of two-byte names as a list holds, in an order drawn at random.
 fn many_names() -> Vec<u8> {
-    (0..8192u32)
+    Random::of(8192, 2)
+        .shuffled(8192)
+        .into_iter()
         .flat_map(|n| defined(&[0x21 + (n / 90) as u8, 0x21 + (n % 90) as u8], &[], b""))
         .collect()
 }
