@@ -1,6 +1,6 @@
 -- Reading back, patch by patch and of the whole pending list: in the image of an accepted build each reading is its destination, where what
 -- its kind asks holds of that patch. Assumes nothing.
-use Prim.Native.Nat.{ℕ, _+_, _-_, _*_, _/_, _%_, _^_}
+use Prim.Native.Nat.{ℕ, _+_, _-_, _*_, _/_, _%_, _^_, _≤_}
 use native.Mathlib.Omega.{arith}
 use mathlib.Core.List.{List}
 use mathlib.Core.Bool.{Bool, true, false}
@@ -178,7 +178,7 @@ module _ (job : Job) (labels : Table) (entry regions pending : List ℕ) (pass :
   lower-half p m e = field-at Lower p m e
 
   -- where the two of a pair have one destination
-  module _ {Shared : (pending : List ℕ) (p q : ℕ) → Type 0} (one : (p q : ℕ) → Shared pending p q → destinationAt labels pending p ≡ destinationAt labels pending q) where
+  module _ (Shared : (pending : List ℕ) (p q : ℕ) → Type 0) (one : (p q : ℕ) → Shared pending p q → destinationAt labels pending p ≡ destinationAt labels pending q) where
     -- the two of a pair, read together, give the destination of either
     pair-back : (p q : ℕ) → Pair Shared pending p q → half (wordOf p) * 65536 + half (wordOf q) ≡ destinationAt labels pending p
     pair-back p q x =
@@ -210,7 +210,7 @@ module _ (job : Job) (labels : Table) (entry regions pending : List ℕ) (pass :
 
   pub each-back : (p : ℕ) → In pending p → Readable job labels regions pending (pendingAt pending p .kind) p
       → Known (reading image (pendingAt pending p)) ≡ destination labels pending (pendingAt pending p .label)
-  each-back = back-by (shared-destination labels pending)
+  each-back = back-by SharedTarget (shared-destination labels pending)
 
 -- One claim on the whole pending list: under the tender's premises the list of readings is the list of destinations.
 module _ {Shared : (pending : List ℕ) (p q : ℕ) → Type 0} (job : Job) (labels : Table) (entry regions pending : List ℕ) (premises : PremisesBy Shared job labels entry regions pending) (one : (p q : ℕ) → Shared pending p q → destinationAt labels pending p ≡ destinationAt labels pending q) where
@@ -225,4 +225,4 @@ module _ {Shared : (pending : List ℕ) (p q : ℕ) → Type 0} (job : Job) (lab
   unfolding readings destinations
   read-back =
       map-same (places pending)
-      (λ p m. back-by job labels entry regions pending (premises .accepted) (premises .apart) one p m (readable (pendingAt pending p .kind) p m refl))
+      (λ p m. back-by job labels entry regions pending (premises .accepted) (premises .apart) Shared one p m (readable (pendingAt pending p .kind) p m refl))
