@@ -20,6 +20,7 @@ use Rattle.labels.specs.declared.Address.{Address}
 use Rattle.labels.specs.declared.Address.the-variants.{Known}
 use Rattle.regions.specs.Regions.{regionLayout, regionCount, regionPlace, regionAt}
 use Rattle.address_label.specs.Entries.{entryLayout, entryOf}
+use Rattle.pending.specs.declared.InstructionLabelKind.{InstructionLabelKind}
 use Rattle.pending.specs.declared.InstructionLabelKind.the-variants.{Branch, Jump, Lower, Upper}
 use Rattle.breakpoints.specs.BreakpointBytes.{pcsBytes}
 use Rattle.emit_pairs.specs.Pairs.{labelPairs, immediatePairs}
@@ -165,8 +166,8 @@ others = record { labels-good = lists .labels-good; names-good = lists .names-go
 on-words : OnWords regions
 on-words = of-both (λ (r : ℕ). regionNumber regions r .address % 4 ≡ 0) (omega (arith, lists .first-address)) (omega (arith, lists .second-address))
 
-plain : Plain (regionNumber regions 0)
-plain = record { below = omega (arith, lists .first-address, lists .first-size); page = omega (arith, lists .first-address, lists .first-size) }
+plain : (kind : InstructionLabelKind) → Plain kind (regionNumber regions 0)
+plain kind = record { below = omega (arith, lists .first-address, lists .first-size); page = λ e. omega (arith, lists .first-address, lists .first-size) }
 
 -- a branch or a jump of the first region to a label that stands there
 to-label : (y : Patch) → y .region ≡ 0 → Going (y .kind) → (name : List ℕ) (n mark : ℕ) → y .target ≡ Name name (place n) 0 → LineMark 0 example start mark
@@ -183,7 +184,7 @@ to-label y r g name n mark t m e = record {
     address-is = e ∙ ap (λ (a : ℕ). Known (a + mark)) (sym (lists .first-address));
   };
   in-own = λ k. sym r;
-  plain = λ k. subst (λ (x : ℕ). Plain (regionNumber regions x)) (sym r) plain;
+  plain = λ k. subst (λ (x : ℕ). Plain (y .kind) (regionNumber regions x)) (sym r) (plain (y .kind));
 }
 
 half : (y : Patch) → (Going (y .kind) → ⊥) → (n : ℕ) → y .target ≡ Name loop (place n) 0 → Settled example start (tableOf labels) regions y

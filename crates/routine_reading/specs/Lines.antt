@@ -12,6 +12,8 @@ use Rattle.labels.specs.declared.Address.the-variants.{Known}
 use Rattle.regions.specs.declared.Region.{Region}
 use Rattle.regions.specs.Regions.{regionLayout, regionCount, regionPlace, regionAt}
 use Rattle.address_label.specs.Entries.{entryLayout, entryOf}
+use Rattle.pending.specs.declared.InstructionLabelKind.{InstructionLabelKind}
+use Rattle.pending.specs.declared.InstructionLabelKind.the-variants.{Jump}
 use Rattle.build_outcome.specs.Build.{entryVerdict}
 use Rattle.reading.specs.OnTarget.{Going}
 use Rattle.routine.specs.PatchValues.{Patch, Name, targetAddress}
@@ -30,11 +32,11 @@ pub data LineMark (region : ℕ) : List RoutineLine → Buffers → ℕ → Type
   before : {lines : List RoutineLine} {b : Buffers} → LineMark region lines b (b .region-data region .fill)
   behind : {l : RoutineLine} {lines : List RoutineLine} {b : Buffers} {n : ℕ} → LineMark region lines (afterLine l b) n → LineMark region (l ∷ lines) b n
 
--- A region that ends below 2^32, and in the page of 2^28 bytes that it begins in. At an end on 2^32 the last word's pc plus 4 wraps to 0, and at
--- the end of a page it lies in the next one, so that even a branch or a jump to itself is refused with 16.
-pub record Plain (region : Region) : Type 0 where
+-- A region that a branch or a jump does not leave by its pc plus 4: it ends below 2^32, since there pc plus 4 of the last word wraps to 0, and for
+-- a jump in the page of 2^28 bytes that it begins in, since there it lies in the next page. Elsewhere even one to itself is refused with 16.
+pub record Plain (kind : InstructionLabelKind) (region : Region) : Type 0 where
   pub below : region .address + region .size < 2 ^ 32
-  pub page : (region .address + region .size) / 2 ^ 28 ≡ region .address / 2 ^ 28
+  pub page : kind ≡ Jump → (region .address + region .size) / 2 ^ 28 ≡ region .address / 2 ^ 28
 
 module _ (lines : List RoutineLine) (start : Buffers) (labels : Table) (regions : List ℕ) where
   -- The patch waits for a name without an offset, and the table has that name, for the patch's file, where a label stands.
@@ -47,12 +49,12 @@ module _ (lines : List RoutineLine) (start : Buffers) (labels : Table) (regions 
     pub marked : LineMark region lines start mark
     pub address-is : labels .address (location .source) name ≡ Known (regionNumber regions region .address + mark)
 
-  -- What a loft writes: a half's name is known, and a branch or a jump goes to a label of its own region, which is plain.
+  -- What a loft writes: a half's name is known, and a branch or a jump goes to a label of its own region, which is plain for it.
   pub record Settled (y : Patch) : Type 0 where
     pub half-known : (Going (y .kind) → ⊥) → (d : ℕ) × (targetAddress labels (y .target) ≡ Known d)
     pub to-line : Going (y .kind) → ToLine y
     pub in-own : (g : Going (y .kind)) → to-line g .region ≡ y .region
-    pub plain : Going (y .kind) → Plain (regionNumber regions (y .region))
+    pub plain : Going (y .kind) → Plain (y .kind) (regionNumber regions (y .region))
 
 -- the build has the regions that the lines selected, with the data that they left, or more
 pub record Holds (lines : List RoutineLine) (start : Buffers) (regions : List ℕ) : Type 0 where

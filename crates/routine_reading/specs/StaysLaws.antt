@@ -39,7 +39,7 @@ module _ (job : Job) (region : Region) (offset dest : ℕ) (inside : offset + 4 
       let t = taken job (wrap32 (region .address + offset)) dest e in
       (omega (arith, stays .from, stays .to, t .0, t .1), omega (arith, stays .from, stays .to, t .0, t .1))
 
-  branch-taken : region .size ≤ 65528 → Plain region → inRange job Branch (wrap32 (region .address + offset)) dest ≡ true
+  branch-taken : region .size ≤ 65528 → Plain Branch region → inRange job Branch (wrap32 (region .address + offset)) dest ≡ true
   unfolding inRange branchInRange
   branch-taken short plain =
       and-eq-true-iff (leb (after pc / 4) (dest / 4 + mostBack job)) (leb (dest / 4) (after pc / 4 + mostAhead job)) .1 (go (byManual job))
@@ -57,13 +57,13 @@ module _ (job : Job) (region : Region) (offset dest : ℕ) (inside : offset + 4 
       go true = (le-leb (after pc / 4) (dest / 4 + 32768) back, le-leb (dest / 4) (after pc / 4 + 32767) ahead)
       go false = (le-leb (after pc / 4) (dest / 4 + 0x10000) (omega (arith, back)), le-leb (dest / 4) (after pc / 4 + 0xFFFF) (omega (arith, ahead)))
 
-  jump-taken : Plain region → inRange job Jump (wrap32 (region .address + offset)) dest ≡ true
+  jump-taken : Plain Jump region → inRange job Jump (wrap32 (region .address + offset)) dest ≡ true
   unfolding inRange jumpInRange
   jump-taken plain =
-      eq-eqb (dest / 2 ^ 28) (after (wrap32 (region .address + offset)) / 2 ^ 28) (omega (arith, stays .from, stays .to, plain .below, plain .page))
+      eq-eqb (dest / 2 ^ 28) (after (wrap32 (region .address + offset)) / 2 ^ 28) (omega (arith, stays .from, stays .to, plain .below, plain .page refl))
 
   -- a branch or a jump that stays is in range, in every job
-  pub stays-taken : (kind : InstructionLabelKind) → Going kind → region .size ≤ 65528 → Plain region → inRange job kind (wrap32 (region .address + offset)) dest ≡ true
+  pub stays-taken : (kind : InstructionLabelKind) → Going kind → region .size ≤ 65528 → Plain kind region → inRange job kind (wrap32 (region .address + offset)) dest ≡ true
   stays-taken Branch g short plain = branch-taken short plain
   stays-taken Jump g short plain = jump-taken plain
   stays-taken Lower g short plain = absurd g
