@@ -12,6 +12,8 @@ use emit_outcome::LinePlace;
 use jobs::Job;
 use linked_answer::ANSWER_BYTES;
 use linked_answer::TOO_SHORT;
+use linked_answer::done_words;
+use linked_answer::refusal_words;
 use loading::LoadForm;
 
 // The fill counts of the region data, the pending and the breakpoint buffer, each four bytes.
@@ -35,11 +37,8 @@ pub fn emitted_words(answer: EmitAnswer) -> [u32; 6]
     ensures { λ r. ⌜ r ≡ emittedWords answer ⌝ }
 {
     match answer {
-        EmitAnswer::Done { position, loaded } => linked_answer::done_words(
-            form_number(loaded),
-            position,
-        ),
-        EmitAnswer::Refused(refusal, position) => linked_answer::refusal_words(refusal, position),
+        EmitAnswer::Done { position, loaded } => done_words(form_number(loaded), position),
+        EmitAnswer::Refused(refusal, position) => refusal_words(refusal, position),
     }
 }
 

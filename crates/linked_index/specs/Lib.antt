@@ -1,0 +1,2 @@
+pub mod LinkedIndex
+pub mod LinkedIndexLaws
