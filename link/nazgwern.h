@@ -54,7 +54,7 @@
 
    ANSWER. Six numbers of four bytes: number, source, index, a, b, and a line's position, a build's
    entry, a text's or a written-out list's fill, a dry run's pc, a page's length, or how many
-   pendings the steps of patching have patched. Number 0 is an accepted call, 1 to 16, 18 to 28 and
+   pendings the steps of patching have patched. Number 0 is an accepted call, 1 to 16 and 18 to
    30 are refusals; source and index are the refusal's location, a is given by its low 32 bits, and
    numbers that are not named here are 0. Of an accepted line a says how its constant is loaded: 0
    none is, 1 addiu alone, 2 ori alone, 3 lui alone, 4 both halves. The number is returned too. On
@@ -98,12 +98,15 @@
      27  In a Release 6 job, a line of encoding 4 has a third operand, or the descriptor's opcode is
          of class 1 with the key 18 modulo 64.
      28  A dry run's pc is no multiple of four, or no whole word stands there.
+     29  While patching runs, a line's region is below that of a patched pending; or patching has
+         ended or was refused.
      30  The range's start exceeds its end.
 
-   The location is zero for 1, 2, 18, 28 and 30; the mnemonic's for 3, 4, 9 to 12, 19, 20 and 27;
-   for 5 to 8 that of the token that was met, or the mnemonic's at a NewLine; the name's for 13 and
-   15, and the pending's for 14 and 16; for 21 to 23 the call's source and the place of the token's
-   first byte; for 24 and 25 that of the call's name, and for 26 that of the token without room.
+   The location is zero for 1, 2, 18, 28 and 30; the mnemonic's for 3, 4, 9 to 12, 19, 20, 27 and
+   29; for 5 to 8 that of the token that was met, or the mnemonic's at a NewLine; the name's for 13
+   and 15, and the pending's for 14 and 16; for 21 to 23 the call's source and the place of the
+   token's first byte; for 24 and 25 that of the call's name, and for 26 that of the token without
+   room.
    docs/REFUSALS.md says what to do about each.
 
    STACK. Measured, not proved, on x86-64 with gcc as the caller's compiler: link/stack ran over a
@@ -318,6 +321,52 @@ uint32_t nazgwern_patch_step_manual(
     const uint8_t *pending, size_t pending_length,
     uint8_t *kept, size_t kept_length,
     uint8_t *state, size_t state_length,
+    uint8_t *answer, size_t answer_length);
+
+/* Emits one line while patching runs: its words go behind the data of its region in the region
+   list, and the records behind it move up; its pending and breakpoint records go behind the filled
+   parts, as of nazgwern_do_instruction.
+   regions      the buffer of the region list, filled as state says
+   state        as for nazgwern_patch_step; its counts are those after an accepted line
+   region       0 to 15 and listed, or 65535 for none; the address is that of its record
+   A line is refused with 29, looked at straight after 10, where its region is below that of a
+   pending that is patched, or where patching has ended or was refused. Refusal 1 has the region
+   list where nazgwern_do_instruction has the data; a pending that is patched and not there is named
+   by the end of the list, and a region that is not listed by place 0 of the region list. The last
+   number of the answer is the position, on refusal too. */
+uint32_t nazgwern_patch_line(
+    const uint8_t *tokens, size_t tokens_length,
+    const uint8_t *mnemonic, size_t mnemonic_length,
+    const uint8_t *descriptors, size_t descriptors_length,
+    uint8_t *regions, size_t regions_length,
+    uint8_t *pending, size_t pending_length,
+    uint8_t *breakpoints, size_t breakpoints_length,
+    uint8_t *state, size_t state_length,
+    uint32_t position, uint16_t region,
+    uint8_t *answer, size_t answer_length);
+
+/* The same for a manual job. */
+uint32_t nazgwern_patch_manual_line(
+    const uint8_t *tokens, size_t tokens_length,
+    const uint8_t *mnemonic, size_t mnemonic_length,
+    const uint8_t *descriptors, size_t descriptors_length,
+    uint8_t *regions, size_t regions_length,
+    uint8_t *pending, size_t pending_length,
+    uint8_t *breakpoints, size_t breakpoints_length,
+    uint8_t *state, size_t state_length,
+    uint32_t position, uint16_t region,
+    uint8_t *answer, size_t answer_length);
+
+/* The same for a Release 6 job. */
+uint32_t nazgwern_patch_release_6_line(
+    const uint8_t *tokens, size_t tokens_length,
+    const uint8_t *mnemonic, size_t mnemonic_length,
+    const uint8_t *descriptors, size_t descriptors_length,
+    uint8_t *regions, size_t regions_length,
+    uint8_t *pending, size_t pending_length,
+    uint8_t *breakpoints, size_t breakpoints_length,
+    uint8_t *state, size_t state_length,
+    uint32_t position, uint16_t region,
     uint8_t *answer, size_t answer_length);
 
 #ifdef __cplusplus

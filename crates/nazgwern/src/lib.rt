@@ -8,7 +8,8 @@ ghost use Rattle.linked_text.specs.LinkedText.{linkedText};
 ghost use Rattle.linked_dry_run.specs.LinkedDryRun.{linkedDryRun};
 ghost use Rattle.linked_macros.specs.LinkedMacros.{linkedMacros};
 ghost use Rattle.linked_page.specs.LinkedPage.{linkedPage};
-ghost use Rattle.linked_patching.specs.LinkedPatching.{linkedStep};
+ghost use Rattle.linked_patching.specs.LinkedPatching.{linkedStep, linkedPatchLine};
+ghost use Rattle.patching_line.specs.Contract.{givenOf};
 use emit_outcome::LinePlace;
 use jobs::Job;
 
@@ -295,6 +296,126 @@ pub extern "C" fn nazgwern_patch_step_manual(
         pending,
         kept,
         state,
+        answer,
+    )
+}
+
+// Appends a line while patching runs or refuses it: linked_patching says how.
+#[no_mangle]
+pub extern "C" fn nazgwern_patch_line(
+    tokens: &[u8],
+    mnemonic: &[u8],
+    descriptors: &[u8],
+    regions: &mut [u8],
+    pending: &mut [u8],
+    breakpoints: &mut [u8],
+    state: &mut [u8],
+    position: u32,
+    region: u16,
+    answer: &mut [u8],
+) -> u32
+    ensures { λ r. ⌜ linkedPatchLine Job.Commit (givenOf (now (tokens .entry)) (now (mnemonic .entry)) (now (descriptors .entry)) position region)
+        (now (regions .entry)) (now (pending .entry)) (now (breakpoints .entry)) (now (state .entry)) (now (answer .entry))
+        ≡ (record {
+          result = r;
+          regions = now (regions .exit);
+          pending = now (pending .exit);
+          breakpoints = now (breakpoints .exit);
+          state = now (state .exit);
+          answer = now (answer .exit);
+        }) ⌝ }
+{
+    linked_patching::patch_line(
+        Job::Commit,
+        tokens,
+        mnemonic,
+        descriptors,
+        regions,
+        pending,
+        breakpoints,
+        state,
+        position,
+        region,
+        answer,
+    )
+}
+
+// The same in a job by the manual.
+#[no_mangle]
+pub extern "C" fn nazgwern_patch_manual_line(
+    tokens: &[u8],
+    mnemonic: &[u8],
+    descriptors: &[u8],
+    regions: &mut [u8],
+    pending: &mut [u8],
+    breakpoints: &mut [u8],
+    state: &mut [u8],
+    position: u32,
+    region: u16,
+    answer: &mut [u8],
+) -> u32
+    ensures { λ r. ⌜ linkedPatchLine Job.Manual (givenOf (now (tokens .entry)) (now (mnemonic .entry)) (now (descriptors .entry)) position region)
+        (now (regions .entry)) (now (pending .entry)) (now (breakpoints .entry)) (now (state .entry)) (now (answer .entry))
+        ≡ (record {
+          result = r;
+          regions = now (regions .exit);
+          pending = now (pending .exit);
+          breakpoints = now (breakpoints .exit);
+          state = now (state .exit);
+          answer = now (answer .exit);
+        }) ⌝ }
+{
+    linked_patching::patch_line(
+        Job::Manual,
+        tokens,
+        mnemonic,
+        descriptors,
+        regions,
+        pending,
+        breakpoints,
+        state,
+        position,
+        region,
+        answer,
+    )
+}
+
+// The same in a job for a Release 6 board.
+#[no_mangle]
+pub extern "C" fn nazgwern_patch_release_6_line(
+    tokens: &[u8],
+    mnemonic: &[u8],
+    descriptors: &[u8],
+    regions: &mut [u8],
+    pending: &mut [u8],
+    breakpoints: &mut [u8],
+    state: &mut [u8],
+    position: u32,
+    region: u16,
+    answer: &mut [u8],
+) -> u32
+    ensures { λ r. ⌜ linkedPatchLine Job.Release6 (givenOf (now (tokens .entry)) (now (mnemonic .entry)) (now (descriptors .entry)) position region)
+        (now (regions .entry)) (now (pending .entry)) (now (breakpoints .entry)) (now (state .entry)) (now (answer .entry))
+        ≡ (record {
+          result = r;
+          regions = now (regions .exit);
+          pending = now (pending .exit);
+          breakpoints = now (breakpoints .exit);
+          state = now (state .exit);
+          answer = now (answer .exit);
+        }) ⌝ }
+{
+    linked_patching::patch_line(
+        Job::Release6,
+        tokens,
+        mnemonic,
+        descriptors,
+        regions,
+        pending,
+        breakpoints,
+        state,
+        position,
+        region,
         answer,
     )
 }
