@@ -4,7 +4,7 @@ use native.Mathlib.Omega.{arith}
 use mathlib.Core.List.{List}
 use mathlib.Core.Bool.{Bool, true, false}
 use mathlib.Core.Path.{_≡_, refl, sym, ap, subst, _∙_}
-use lib.ListN.{set, length-set}
+use lib.ListN.{length-set}
 use Rattle.record.specs.declared.Layout.{Layout}
 use Rattle.record.specs.declared.Layout.the-variants.{Good, Bad}
 use Rattle.refusal.specs.declared.Refusal.{Refusal}
@@ -19,7 +19,6 @@ use Rattle.machine.specs.StepLaws.{HoldsZero}
 use Rattle.machine.specs.Fits.{Fits}
 use Rattle.machine.specs.FitsLaws.{set-fits, word-fits}
 use Rattle.dry_run_outcome.specs.declared.Ran.{Ran}
-use Rattle.dry_run_outcome.specs.declared.RunAnswer.{RunAnswer}
 use Rattle.dry_run_outcome.specs.declared.RunAnswer.the-variants.{Stopped, Refused}
 use Rattle.dry_run_outcome.specs.declared.DryRun.{DryRun}
 use Rattle.dry_run_outcome.specs.Run.{step, run}

@@ -9,5 +9,6 @@ pub mod Split
 pub mod Stopping
 pub mod Zero
 pub mod Call
+pub mod TwoCalls
 pub mod Targets
 pub mod Worked

@@ -50,6 +50,8 @@ pub record Worked : Type 0 where
   pub no-lui : one 0x3C210001 ≡ ends (holding 0 1 0x7FFFFFFF 0x00400000) (Stopped Word 0)
   pub no-sll : one 0x00010840 ≡ ends (holding 0 1 0x7FFFFFFF 0x00400000) (Stopped Word 0)
   pub no-sltu : one 0x00220829 ≡ ends (holding 0 1 0x7FFFFFFF 0x00400000) (Stopped Word 0)
+  -- the one call of nine steps made as two, of four and of five: the second is refused
+  pub second-refused : dryRunOutcome loop (holding 0 0 0 0x00400008) 5 ≡ ends (holding 0 0 0 0x00400008) (Refused BadStart)
   -- refused with allowance 0 too, and $zero is left as it was
   pub odd-start : dryRunOutcome loop (holding 7 2 0 0x00400002) 0 ≡ ends (holding 7 2 0 0x00400002) (Refused BadStart)
   pub no-word : dryRunOutcome loop (holding 7 2 0 0x00400008) 0 ≡ ends (holding 7 2 0 0x00400008) (Refused BadStart)
@@ -73,6 +75,7 @@ worked = record {
   no-lui = refl;
   no-sll = refl;
   no-sltu = refl;
+  second-refused = refl;
   odd-start = refl;
   no-word = refl;
   no-regions = refl;
