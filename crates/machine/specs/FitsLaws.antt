@@ -1,5 +1,5 @@
 -- What every word keeps: 32 registers of 32 bits, a pc of 32 bits, a pc that is a multiple of four. Assumes nothing.
-use Prim.Native.Nat.{ℕ, zero, suc, _+_, _-_, _*_, _/_, _%_, _^_, _≤_, _<_}
+use Prim.Native.Nat.{ℕ, zero, suc, _+_, _%_, _^_, _<_}
 use native.Mathlib.Nat.{div-le-self}
 use native.Mathlib.Omega.{arith}
 use mathlib.Core.Path.{_≡_, refl, _∙_}
@@ -18,7 +18,7 @@ use Rattle.machine.specs.Instructions.{rs, rt, rd, sa, immediate, target
 use Rattle.machine.specs.Numbers.{signed, bits, isSigned32, bit}
 use Rattle.machine.specs.NumbersLaws.{shift-from, shift-below}
 use Rattle.machine.specs.Effects.{branchIf, unlessOverflow, effectOf}
-use Rattle.machine.specs.Step.{goes, stops, apply, effectOn, stepWord}
+use Rattle.machine.specs.Step.{apply, effectOn, stepWord}
 use Rattle.machine.specs.StepLaws.{After}
 use Rattle.machine.specs.Fits.{Fits, Aligned}
 use Rattle.machine.specs.declared.Effect.{Effect}
