@@ -150,6 +150,11 @@ fn time<T, R>(batch: usize, prepare: impl Fn() -> T, call: impl Fn(T) -> R) -> f
     taken.as_nanos() as f64 / batch as f64
 }
 
+/// The least of the times: what the code takes where nothing else runs beside it.
+pub fn least(times: &[f64]) -> f64 {
+    times.iter().copied().fold(f64::INFINITY, f64::min)
+}
+
 pub fn median(mut times: Vec<f64>) -> f64 {
     times.sort_by(f64::total_cmp);
 

@@ -1,6 +1,6 @@
 //! Generated dry runs, each by the plain interpreter and by the library; and runs timed.
 
-use crate::bench::median;
+use crate::bench::{least, median};
 use crate::dry_run_generate::generated;
 use crate::dry_run_input::{RunInput, RunOutcome, REGISTER_BYTES};
 use crate::dry_run_library;
@@ -12,6 +12,8 @@ use std::hint::black_box;
 use std::time::Instant;
 
 const ROUNDS: usize = 51;
+/// The most time that the library may take, in times the plain interpreter's: the least of each.
+const MOST: f64 = 1.5;
 const STEPS: u32 = 200_000;
 const BASE: u32 = 0x0040_0000;
 const REASONS: [&str; 4] = ["allowance", "pc", "word", "overflow"];
@@ -106,7 +108,7 @@ fn image(words: &[u32], regions_before: usize) -> RunInput {
     }
 }
 
-/// Loops that end by their allowance, run by both sides in turn.
+/// Loops that end by their allowance, run by both sides in turn; false where the library takes too long.
 fn bench() -> bool {
     // addiu $4,$4,-1; addu $2,$2,$4; j back
     let three = [0x2484_ffff, 0x0044_1021, 2 << 26 | BASE >> 2];
@@ -118,6 +120,8 @@ fn bench() -> bool {
             image(&each_once(BASE >> 2), 0),
         ),
     ];
+
+    let mut within = true;
 
     println!();
     println!("{STEPS} steps a call, nanoseconds a step: the median of {ROUNDS} calls, in turn");
@@ -145,6 +149,7 @@ fn bench() -> bool {
             }));
         }
 
+        within &= least(&other) <= MOST * least(&plain);
         let [plain, other] = [plain, other].map(median);
         println!(
             "{name:>27} {plain:>8.2} {other:>9.2} {:>15.2}",
@@ -152,7 +157,11 @@ fn bench() -> bool {
         );
     }
 
-    true
+    if !within {
+        println!("over {MOST} times the plain interpreter's time");
+    }
+
+    within
 }
 
 /// Nanoseconds a step.

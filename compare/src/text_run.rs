@@ -1,7 +1,7 @@
 //! Generated texts, each read by the plain lexer and by the library; and texts timed.
 
 use crate::answer::Answer;
-use crate::bench::median;
+use crate::bench::{least, median};
 use crate::options::Options;
 use crate::text_generate::generated;
 use crate::text_lexer;
@@ -11,6 +11,8 @@ use std::hint::black_box;
 use std::time::Instant;
 
 const ROUNDS: usize = 201;
+/// The most time that the library may take, in times the plain lexer's: the least of each.
+const MOST: f64 = 1.0;
 
 /// Compares `count` texts; false at the first difference.
 pub fn run(options: &Options) -> bool {
@@ -47,8 +49,9 @@ pub fn run(options: &Options) -> bool {
     bench()
 }
 
-/// A routine of lines as lofts write them, read by both sides in turn.
+/// A routine of lines as lofts write them, read by both sides in turn; false where the library takes too long.
 fn bench() -> bool {
+    let mut within = true;
     let line = "loop1:  addiu $t0, $t1, -0x10   # one seam step\n        bne $t0,$zero,loop1\n        lw $a0, 4($sp)\n";
 
     println!();
@@ -79,6 +82,7 @@ fn bench() -> bool {
             }));
         }
 
+        within &= least(&other) <= MOST * least(&plain);
         let [plain, other] = [plain, other].map(median);
         println!(
             "{:>8} {plain:>12.2} {other:>12.2} {:>16.2}",
@@ -87,7 +91,11 @@ fn bench() -> bool {
         );
     }
 
-    true
+    if !within {
+        println!("over {MOST} times the plain lexer's time");
+    }
+
+    within
 }
 
 /// Nanoseconds a byte, over a batch of calls.
