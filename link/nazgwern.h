@@ -113,7 +113,7 @@
    million calls of nazgwern_do_instruction, of which none took more than 24,088 bytes of stack, 777
    of nazgwern_build, of which none took more than 37,760, as many by the manual and lines for
    Release 6, of which none took more than these, 20,506 of nazgwern_read_text, of which none took
-   more than 928, 1,338 of nazgwern_dry_run, of which none took more than 680, 4,626 of
+   more than 904, 1,338 of nazgwern_dry_run, of which none took more than 680, 4,626 of
    nazgwern_write_out, of which none took more than 44,744, and 1,608 of nazgwern_lay_out, of which
    none took more than 51,808; arguments and return address counted. A build's stack is mostly the
    index of its labels, 29,124 bytes, a line's that of its descriptors, 20,164, and that of a list
@@ -268,7 +268,10 @@ uint32_t nazgwern_write_out(
    Of an accepted run a is why it stopped: 0 the allowance is used up, 1 the pc has no whole word,
    2 another word or a field that is not zero where the manual wants it zero, 3 signed overflow of
    add, addi or sub. b is the number of steps taken. The last number of the answer is the pc, on
-   refusal the one that was given. */
+   refusal the one that was given. After reason 0 a next call with the registers as they were left
+   and with that pc goes on: two calls give what one with both allowances gives. But if the
+   allowance ended just behind the last word, the next call is refused with 28, where one call with
+   more steps allowed would have stopped there for reason 1. */
 uint32_t nazgwern_dry_run(
     const uint8_t *regions, size_t regions_length,
     uint8_t *registers, size_t registers_length,
