@@ -1,0 +1,4 @@
+pub mod Ordered
+pub mod OrderedLaws
+pub mod Find
+pub mod FindLaws

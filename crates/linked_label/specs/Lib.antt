@@ -1,0 +1,2 @@
+pub mod LinkedLabel
+pub mod LinkedLabelLaws
