@@ -372,6 +372,18 @@ uint32_t nazgwern_patch_release_6_line(
     uint32_t position, uint16_t region,
     uint8_t *answer, size_t answer_length);
 
+/* Looks a name up in a label list, through an ordered index that the call makes.
+   labels       kinds 34 and 41, as for a build
+   name         the bytes of the name; one that no label can have, as it is empty or longer than
+                64 bytes, is answered with none
+   source       the file that the name stands in: its own label goes before the one for all
+   a is 1 where there is a label and 0 for none, b how many names were compared, at most 32. The
+   last number of the answer is the label's address, and 0 for none and on refusal. */
+uint32_t nazgwern_find_label(
+    const uint8_t *labels, size_t labels_length,
+    const uint8_t *name, size_t name_length, uint32_t source,
+    uint8_t *answer, size_t answer_length);
+
 #ifdef __cplusplus
 }
 #endif

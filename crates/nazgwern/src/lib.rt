@@ -1,4 +1,4 @@
-// The library to link: a build and a line in each sort of job, the counts of a range, a text's tokens, a dry run, a list with its macros written out, a page, and patching by steps by the C calling convention, where a slice goes as a pointer and a length.
+// The library to link: a build and a line in each sort of job, the counts of a range, a text's tokens, a dry run, a list with its macros written out, a page, patching by steps and a lookup of a label by the C calling convention, where a slice goes as a pointer and a length.
 ghost use mathlib.Core.Path.{_≡_};
 ghost use Rattle.emit_outcome.specs.Call.{lentOf};
 ghost use Rattle.linked_build.specs.LinkedBuild.{linkedBuildBy, linkedBuild};
@@ -8,6 +8,7 @@ ghost use Rattle.linked_text.specs.LinkedText.{linkedText};
 ghost use Rattle.linked_dry_run.specs.LinkedDryRun.{linkedDryRun};
 ghost use Rattle.linked_macros.specs.LinkedMacros.{linkedMacros};
 ghost use Rattle.linked_page.specs.LinkedPage.{linkedPage};
+ghost use Rattle.linked_label.specs.LinkedLabel.{linkedFind};
 ghost use Rattle.linked_patching.specs.LinkedPatching.{linkedStep, linkedPatchLine};
 ghost use Rattle.patching_line.specs.Contract.{givenOf};
 use emit_outcome::LinePlace;
@@ -418,4 +419,17 @@ pub extern "C" fn nazgwern_patch_release_6_line(
         region,
         answer,
     )
+}
+
+// Looks a label up or refuses: linked_label says how.
+#[no_mangle]
+pub extern "C" fn nazgwern_find_label(
+    labels: &[u8],
+    name: &[u8],
+    source: u32,
+    answer: &mut [u8],
+) -> u32
+    ensures { λ r. ⌜ linkedFind (now (labels .entry)) (now (name .entry)) source (now (answer .entry)) ≡ (record { result = r; answer = now (answer .exit) }) ⌝ }
+{
+    linked_label::find_label(labels, name, source, answer)
 }
