@@ -1,4 +1,4 @@
-// The library to link: a build and a line in each sort of job, the counts of a range, a text's tokens, a dry run, a list with its macros written out, a page, patching by steps and a lookup of a label by the C calling convention, where a slice goes as a pointer and a length.
+// The library to link: a build and a line in each sort of job, the counts of a range, a text's tokens, a dry run, a list with its macros written out, a page, a line with an index, an index made afresh, patching by steps and a lookup of a label by the C calling convention, where a slice goes as a pointer and a length.
 ghost use mathlib.Core.Path.{_≡_};
 ghost use Rattle.emit_outcome.specs.Call.{lentOf};
 ghost use Rattle.linked_build.specs.LinkedBuild.{linkedBuildBy, linkedBuild};
@@ -8,6 +8,7 @@ ghost use Rattle.linked_text.specs.LinkedText.{linkedText};
 ghost use Rattle.linked_dry_run.specs.LinkedDryRun.{linkedDryRun};
 ghost use Rattle.linked_macros.specs.LinkedMacros.{linkedMacros};
 ghost use Rattle.linked_page.specs.LinkedPage.{linkedPage};
+ghost use Rattle.linked_index.specs.LinkedIndex.{linkedIndexed, linkedMake};
 ghost use Rattle.linked_label.specs.LinkedLabel.{linkedFind};
 ghost use Rattle.linked_patching.specs.LinkedPatching.{linkedStep, linkedPatchLine};
 ghost use Rattle.patching_line.specs.Contract.{givenOf};
@@ -432,4 +433,69 @@ pub extern "C" fn nazgwern_find_label(
     ensures { λ r. ⌜ linkedFind (now (labels .entry)) (now (name .entry)) source (now (answer .entry)) ≡ (record { result = r; answer = now (answer .exit) }) ⌝ }
 {
     linked_label::find_label(labels, name, source, answer)
+}
+
+// Emits a line in the job of a number and updates the index of label uses, or refuses: linked_index says how.
+#[no_mangle]
+pub extern "C" fn nazgwern_do_indexed(
+    tokens: &[u8],
+    mnemonic: &[u8],
+    descriptors: &[u8],
+    data: &mut [u8],
+    pending: &mut [u8],
+    breakpoints: &mut [u8],
+    labels: &[u8],
+    index: &mut [u8],
+    counts: &mut [u8],
+    position: u32,
+    region: u16,
+    address: u32,
+    job: u32,
+    answer: &mut [u8],
+) -> u32
+    ensures { λ r. ⌜ linkedIndexed (now (tokens .entry)) (now (mnemonic .entry)) (now (descriptors .entry))
+        (lentOf (now («data» .entry)) (now (pending .entry)) (now (breakpoints .entry))) (now (labels .entry)) (now (index .entry)) (now (counts .entry))
+        (record { position = position; region = region; address = address }) job (now (answer .entry))
+        ≡ (record {
+          result = r;
+          lent = lentOf (now («data» .exit)) (now (pending .exit)) (now (breakpoints .exit));
+          index = now (index .exit);
+          counts = now (counts .exit);
+          answer = now (answer .exit);
+        }) ⌝ }
+{
+    let place = LinePlace {
+        position,
+        region,
+        address,
+    };
+    linked_index::do_indexed(
+        tokens,
+        mnemonic,
+        descriptors,
+        data,
+        pending,
+        breakpoints,
+        labels,
+        index,
+        counts,
+        place,
+        job,
+        answer,
+    )
+}
+
+// Makes an index of label uses afresh or refuses: linked_index says how.
+#[no_mangle]
+pub extern "C" fn nazgwern_make_index(
+    pending: &[u8],
+    fill: u32,
+    labels: &[u8],
+    index: &mut [u8],
+    answer: &mut [u8],
+) -> u32
+    ensures { λ r. ⌜ linkedMake (now (pending .entry)) fill (now (labels .entry)) (now (index .entry)) (now (answer .entry))
+        ≡ (record { result = r; index = now (index .exit); answer = now (answer .exit) }) ⌝ }
+{
+    linked_index::make_index(pending, fill, labels, index, answer)
 }
