@@ -16,6 +16,9 @@
                            added offset (8), the name's location, name of 1 to 64
      37        breakpoint  location, 1 to 5 pcs (4 each), one a word
      38        entry       form (1), value or added offset (8), the name's location, name of 1 to 64
+     39        use         known (1: 1 or 0), count of list numbers (2) and these (2 each), owner or
+                           source (4), name of 1 to 64: an index of label uses has one for each
+                           label or unknown name that pendings name
      40        macro       name of 1 to 64, count of parameters (1) and their names of 1 to 64, each
                            name after a length byte; then the body's token records
      41        label       address (4), owner (4, below 0xFFFFFFFF), name of 1 to 64: the label of
@@ -53,19 +56,21 @@
    all state is in the buffers.
 
    ANSWER. Six numbers of four bytes: number, source, index, a, b, and a line's position, a build's
-   entry, a text's or a written-out list's fill, a dry run's pc, a page's length, or how many
-   pendings the steps of patching have patched. Number 0 is an accepted call, 1 to 16 and 18 to
-   30 are refusals; source and index are the refusal's location, a is given by its low 32 bits, and
+   entry, a text's, a written-out list's or an index's fill, a dry run's pc, a page's length, or how
+   many pendings the steps of patching have patched. Number 0 is an accepted call, 1 to 30 are
+   refusals; source and index are the refusal's location, a is given by its low 32 bits, and
    numbers that are not named here are 0. Of an accepted line a says how its constant is loaded: 0
    none is, 1 addiu alone, 2 ori alone, 3 lui alone, 4 both halves. The number is returned too. On
    refusal the answer is written and no other lent byte changes, but where a step of patching puts
-   back what it has patched. If the answer has fewer than 24 bytes, or the counts fewer than 12 (a
-   range's fewer than 32), the registers fewer than 128 or patching's state fewer than 20, the call
-   returns NAZGWERN_TOO_SHORT and changes nothing at all. Bytes behind these stay as they are.
+   back what it has patched. If the answer has fewer than 24 bytes, or the counts fewer than 12 (with
+   an index fewer than 16, a range's fewer than 32), the registers fewer than 128 or patching's state
+   fewer than 20, or a job's number is over 2, the call returns NAZGWERN_TOO_SHORT and changes nothing
+   at all. Bytes behind these stay as they are.
 
       1  A record breaks the layout or sits in the wrong list, a buffer is over its limit, a fill
-         count is over its buffer's length, or the region's number is none (a: buffer in argument
-         order from 0, b: the byte place in it).
+         count is over its buffer's length, the region's number is none, or an index is not that
+         of the filled pending list by these labels (a: buffer in argument order from 0, b: the
+         byte place in it, of a wrong index 0).
       2  Two descriptors or two macros share a name, or two labels a name and an owner, or a name
          and kind 34 (a: buffer, b: place of the later).
       3  Neither descriptor nor pseudo-instruction has the mnemonic.
@@ -84,6 +89,7 @@
      14  A patch ends past its region's data.
      15  A patch's name is unknown.
      16  A branch or jump is out of range (a: destination, b: pc).
+     17  The index buffer is too short for the index.
      18  The page buffer is too short for the page.
      19  In a manual job, the shift amount of encoding 5 lies outside 0 to 31.
      20  In a manual job, the condition code of encoding 17, 18 or 20 lies outside 0 to 7.
@@ -102,11 +108,11 @@
          ended or was refused.
      30  The range's start exceeds its end.
 
-   The location is zero for 1, 2, 18, 28 and 30; the mnemonic's for 3, 4, 9 to 12, 19, 20, 27 and
-   29; for 5 to 8 that of the token that was met, or the mnemonic's at a NewLine; the name's for 13
-   and 15, and the pending's for 14 and 16; for 21 to 23 the call's source and the place of the
-   token's first byte; for 24 and 25 that of the call's name, and for 26 that of the token without
-   room.
+   The location is zero for 1, 2, 18, 28 and 30, and for 17 where an index is made afresh; the
+   mnemonic's for 3, 4, 9 to 12, 17 of a line, 19, 20, 27 and 29; for 5 to 8 that of the token that
+   was met, or the mnemonic's at a NewLine; the name's for 13 and 15, and the pending's for 14 and
+   16; for 21 to 23 the call's source and the place of the token's first byte; for 24 and 25 that of
+   the call's name, and for 26 that of the token without room.
    docs/REFUSALS.md says what to do about each.
 
    STACK. Measured, not proved, on x86-64 with gcc as the caller's compiler: link/stack ran over a
@@ -132,6 +138,7 @@ extern "C" {
 
 #define NAZGWERN_ANSWER_BYTES 24
 #define NAZGWERN_COUNTS_BYTES 12
+#define NAZGWERN_INDEXED_COUNTS_BYTES 16
 #define NAZGWERN_FORM_COUNTS_BYTES 32
 #define NAZGWERN_REGISTERS_BYTES 128
 #define NAZGWERN_STATE_BYTES 20
@@ -382,6 +389,47 @@ uint32_t nazgwern_patch_release_6_line(
 uint32_t nazgwern_find_label(
     const uint8_t *labels, size_t labels_length,
     const uint8_t *name, size_t name_length, uint32_t source,
+    uint8_t *answer, size_t answer_length);
+
+/* Emits one line as nazgwern_do_instruction does, and updates an index of label uses: for each
+   label that a filled pending names, and for each unknown name, the list numbers of those pendings,
+   from 0 and constants counted, in rising order. Labels are told apart by name and owner, unknown
+   names by name and source. Records are in the order of their names, byte by byte; of equal names
+   the known go first, and then the lesser owner or source.
+   labels       kinds 34 and 41, as for a build
+   index        kind 39 as far as filled: the index of the filled pending list by these labels, as
+                the last call or nazgwern_make_index left it. With no pendings it is empty. A buffer
+                as long as the pending list after the line is never too short: proved, line-roomy
+                in crates/indexed_core/specs
+   counts       the four fill counts, four bytes each: region data, pending, breakpoints, index
+   job          0 as nazgwern_do_instruction, 1 a manual job, 2 a Release 6 job
+   Refusal 1 is looked at for labels (6) and index (7) behind the other six buffers, 2 for
+   descriptors (2) and then labels (6), and 17 straight after 12. All other arguments, and the
+   answer, are those of nazgwern_do_instruction. */
+uint32_t nazgwern_do_indexed(
+    const uint8_t *tokens, size_t tokens_length,
+    const uint8_t *mnemonic, size_t mnemonic_length,
+    const uint8_t *descriptors, size_t descriptors_length,
+    uint8_t *data, size_t data_length,
+    uint8_t *pending, size_t pending_length,
+    uint8_t *breakpoints, size_t breakpoints_length,
+    const uint8_t *labels, size_t labels_length,
+    uint8_t *index, size_t index_length,
+    uint8_t *counts, size_t counts_length,
+    uint32_t position, uint16_t region, uint32_t address, uint32_t job,
+    uint8_t *answer, size_t answer_length);
+
+/* Makes the index of the first fill bytes of a pending buffer by these labels, from the start of
+   the index buffer on. One of at least fill bytes is never too short: proved, make-roomy in
+   crates/indexed_outcome/specs.
+   pending      kind 36 as far as filled
+   labels       kinds 34 and 41, as for a build
+   index        only written, and what stands behind the records stays
+   The last number of the answer is the index's fill, and 0 on refusal. */
+uint32_t nazgwern_make_index(
+    const uint8_t *pending, size_t pending_length, uint32_t fill,
+    const uint8_t *labels, size_t labels_length,
+    uint8_t *index, size_t index_length,
     uint8_t *answer, size_t answer_length);
 
 #ifdef __cplusplus
