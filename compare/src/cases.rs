@@ -6,6 +6,8 @@ use crate::build_input::{BuildInput, BuildOutcome};
 use crate::job::Job;
 use crate::judge_job;
 use crate::line_input::{LineInput, LineOutcome};
+use crate::patching_input::{Fixed, Line, Patching, Said, Turn};
+use crate::patching_plain;
 use crate::records::{bodies, u32_at};
 use std::fs::read;
 
@@ -23,6 +25,11 @@ pub fn run() -> bool {
         agreed("emit_line_cases", &line),
         agreed("finish_cases", &build),
         agreed("finish_manual_cases", &manual),
+        agreed_in(
+            "link/patching",
+            ["link/patching.in", "link/patching.txt"],
+            &script_text,
+        ),
     ]
     .iter()
     .all(|agreed| *agreed)
@@ -30,9 +37,15 @@ pub fn run() -> bool {
 
 /// Whether what a crate's program has to print is what `printed` gives for each case in turn.
 fn agreed(name: &str, printed: &dyn Fn(&[u8]) -> String) -> bool {
-    let stored =
-        |file: &str| read(format!("crates/{name}/{file}")).map_err(|fault| fault.to_string());
-    let (stdin, stdout) = match (stored("stdin"), stored("stdout")) {
+    let files = ["stdin", "stdout"].map(|file| format!("crates/{name}/{file}"));
+
+    agreed_in(name, [&files[0], &files[1]], printed)
+}
+
+/// The same of these files.
+fn agreed_in(name: &str, files: [&str; 2], printed: &dyn Fn(&[u8]) -> String) -> bool {
+    let [stdin, stdout] = files.map(|file| read(file).map_err(|fault| fault.to_string()));
+    let (stdin, stdout) = match (stdin, stdout) {
         (Ok(stdin), Ok(stdout)) => (stdin, stdout),
         (Err(fault), _) | (_, Err(fault)) => {
             println!("{name}: {fault}");
@@ -146,6 +159,96 @@ fn refused(answer: &Answer) -> String {
         9 => format!("refused 9 {source} {index} {} {b}\n", a as i32),
         _ => format!("refused {number} {source} {index} {a} {b}\n"),
     }
+}
+
+/// What link/patching.c prints of a script, by the plain implementation.
+fn script_text(case: &[u8]) -> String {
+    let mut rest = case;
+    let [labels, entry, descriptors] = [(); 3].map(|()| taken_list(&mut rest));
+    let [regions, pending, breakpoints] = [(); 3].map(|()| {
+        let mut list = taken_list(&mut rest);
+        list.truncate(65_537);
+        list
+    });
+    let fills = [(); 3].map(|()| taken_number(&mut rest, 4));
+    let Some(job) = JOBS.get(taken_number(&mut rest, 1) as usize) else {
+        return "no such job\n".to_string();
+    };
+    let fixed = Fixed {
+        job: *job,
+        labels,
+        entry,
+    };
+    let mut now = Patching {
+        regions,
+        pending,
+        breakpoints,
+        kept: vec![0; 7_280],
+        fills,
+        patches: 0,
+        state: 0,
+    };
+    let mut text = String::new();
+
+    for _ in 0..4_096 {
+        let next = match rest.first() {
+            Some(0) => Turn::Step,
+            Some(1) => {
+                rest = &rest[1..];
+                Turn::Line(taken_line(&mut rest, *job, &descriptors))
+            }
+            _ => break,
+        };
+        if let Turn::Step = next {
+            rest = &rest[1..];
+        }
+        let outcome = patching_plain::turn(&fixed, &now, &next);
+        text += &said_text(&next, outcome.said);
+        now = outcome.after;
+    }
+
+    text + &printed_patching(&now)
+}
+
+fn taken_line(rest: &mut &[u8], job: Job, descriptors: &[u8]) -> Line {
+    Line {
+        job,
+        tokens: taken_list(rest),
+        mnemonic: taken_list(rest),
+        descriptors: descriptors.to_vec(),
+        position: taken_number(rest, 4),
+        region: taken_number(rest, 2) as u16,
+    }
+}
+
+fn said_text(turn: &Turn, said: Said) -> String {
+    match (turn, said) {
+        (_, Said::Patched(count)) => format!("patched {count}\n"),
+        (_, Said::Ended(entry)) => format!("ended {entry:08x}\n"),
+        (Turn::Step, Said::Answered(answer)) => refused(&answer),
+        (Turn::Line(_), Said::Answered(answer)) => {
+            let first = match answer.number {
+                0 => "accepted\n".to_string(),
+                _ => refused(&answer),
+            };
+            first + &format!("position {}\n", answer.last)
+        }
+    }
+}
+
+fn printed_patching(now: &Patching) -> String {
+    let [regions, pending, breakpoints] = now.fills;
+    let state = match now.state {
+        0 => "running",
+        1 => "ended",
+        _ => "refused",
+    };
+
+    format!("state {state}\nfills {regions} {pending} {breakpoints}\n")
+        + &format!("patches {}\n", now.patches)
+        + &format!("regions {}\n", hex(&now.regions))
+        + &format!("pending {}\n", hex(&now.pending))
+        + &format!("breakpoints {}\n", hex(&now.breakpoints))
 }
 
 fn build_text(job: Job, case: &[u8]) -> String {
