@@ -110,6 +110,8 @@ static struct buffer defined, written;                /* macros, and the tokens 
 static struct buffer image, held;                     /* a dry run's regions and registers */
 static struct buffer wall;                            /* a page for the wall */
 
+static struct buffer progress, undo;                  /* patching: the state record, kept words */
+
 static void *mapped(void *at, size_t size, int protection, int flags, int file)
 {
     void *pages = mmap(at, size, protection, flags, file, 0);
@@ -424,9 +426,10 @@ static void line_buffers(void)
 }
 
 /* How much the fill count of a buffer grew; only those bytes behind the old count may differ. */
-static uint32_t grown(const struct buffer *buffer, size_t which, uint32_t most)
+static uint32_t grown(const struct buffer *fills, const struct buffer *buffer, size_t which,
+                      uint32_t most)
 {
-    uint32_t from = number_at(counts.bytes, 4 * which), to = number_at(counts.lent, 4 * which);
+    uint32_t from = number_at(fills->bytes, 4 * which), to = number_at(fills->lent, 4 * which);
 
     if (to < from || to - from > most || to > buffer->length)
         fail("a fill count fell, or grew by more than a line may add");
@@ -478,7 +481,7 @@ static void line(line_call *call)
 
     const uint32_t most[] = {NAZGWERN_LINE_DATA, NAZGWERN_LINE_PENDING, NAZGWERN_LINE_BREAKPOINTS};
     for (size_t i = 0; i < 3; i++) {
-        uint32_t added = grown(lists[3 + i], i, most[i]);
+        uint32_t added = grown(&counts, lists[3 + i], i, most[i]);
         greatest[i] = added > greatest[i] ? added : greatest[i];
     }
     kept(&counts, 0, NAZGWERN_COUNTS_BYTES, "a byte behind the counts was changed");
@@ -533,18 +536,23 @@ static void build_lists(void)
                     0x00400000 + (once_in(8) ? chance() >> 44 : below(256)));
 }
 
-/* Of an accepted build's regions only the four bytes of each patch may differ. */
-static void patched(void)
+/* Of a region list and a pending list of these lengths only the four bytes of each patch that ends
+   within its region may differ. */
+static void patched(size_t filled, size_t waiting)
 {
     static bool may[ROOM];
-    size_t starts[16] = {0}, n = 0;
+    size_t starts[16] = {0}, sizes[16] = {0}, n = 0;
 
     memset(may, 0, regions.length);
-    for (size_t at = 0; at < regions.length; at += 4 + (number_at(regions.bytes, at) & 0xffff))
+    for (size_t at = 0; at < filled; at = starts[n - 1] + sizes[n - 1]) {
+        sizes[n] = (number_at(regions.bytes, at) & 0xffff) - 4;
         starts[n++] = at + 8;
-    for (size_t at = 0; at < patches.length; at += 4 + (number_at(patches.bytes, at) & 0xffff)) {
+    }
+    for (size_t at = 0; at < waiting; at += 4 + (number_at(patches.bytes, at) & 0xffff)) {
         size_t region = number_at(patches.bytes, at + 4) & 0xffff;
-        memset(may + starts[region] + number_at(patches.bytes, at + 6), true, 4);
+        size_t offset = number_at(patches.bytes, at + 6);
+        if (offset + 4 <= sizes[region])
+            memset(may + starts[region] + offset, true, 4);
     }
     for (size_t i = 0; i < regions.length; i++)
         if (!may[i] && regions.lent[i] != regions.bytes[i])
@@ -574,7 +582,7 @@ static void one_build(build_call *call)
     for (size_t i = 0; i < 3; i++)
         unchanged(lists[i]);
     if (answered(number, answer.length >= NAZGWERN_ANSWER_BYTES) && number == 0)
-        patched();
+        patched(regions.length, patches.length);
     else
         unchanged(&regions);
 }
@@ -901,6 +909,179 @@ static void lay_out(void)
     kept(&wall, 0, length, "a byte behind the page was changed");
 }
 
+/* ---- patching by steps, and lines while it runs */
+
+/* The state record: the fill counts of these lists, some patches and some state, now and then any. */
+static void some_progress(uint32_t filled, uint32_t waiting, uint32_t stopped)
+{
+    const uint32_t numbers[] = {filled, waiting, stopped, once_in(2) ? 0 : below(4),
+                                once_in(4) ? below(4) : 0};
+
+    some_room(&progress, NAZGWERN_STATE_BYTES);
+    for (size_t i = 0; i < 5 && 4 * i + 4 <= progress.length; i++) {
+        size_t length = progress.length;
+        progress.length = 4 * i;
+        put(&progress, once_in(200) ? chance() : numbers[i], 4);
+        progress.length = length;
+    }
+}
+
+/* Of a step's lists one that patches changes four bytes of the regions and keeps those that stood
+   there; one that ends or is refused with 14 to 16 says so in the state record, the latter with
+   all patches put back. */
+static void stepped(uint32_t number, uint32_t before)
+{
+    size_t done = number_at(progress.bytes, 12);
+    bool patches_one = number == 0 && number_at(answer.lent, 12) == 0;
+
+    if (before != 0) {
+        unchanged(&regions), unchanged(&undo), unchanged(&progress);
+        return;
+    }
+    patched(number_at(progress.bytes, 0), number_at(progress.bytes, 4));
+    if (number == 0 && !patches_one)
+        unchanged(&regions);
+    kept(&undo, patches_one ? 4 * done : 0, patches_one ? 4 * done + 4 : 0,
+         "a kept word was changed");
+    kept(&progress, 12, NAZGWERN_STATE_BYTES, "a fill count was changed, or a byte behind");
+    if (number_at(progress.lent, 12) != (patches_one ? done + 1 : number == 0 ? done : 0) ||
+        number_at(progress.lent, 16) != (patches_one ? 0u : number == 0 ? 1u : 2u))
+        fail("patches or a state that no step leaves");
+}
+
+typedef uint32_t step_call(const uint8_t *, size_t, const uint8_t *, size_t, uint8_t *, size_t,
+                           const uint8_t *, size_t, uint8_t *, size_t, uint8_t *, size_t, uint8_t *,
+                           size_t);
+
+static void one_step(step_call *call)
+{
+    struct buffer *const lists[] = {&labels, &entry, &patches, &regions};
+
+    build_lists();
+    some_progress((uint32_t)regions.length, (uint32_t)patches.length, below(100));
+    put_any(&regions, below(60));
+    put_any(&patches, below(60));
+    undo.length = 0;
+    put_any(&undo, once_in(16) ? below(20) : patches.length / 9);
+    some_room(&answer, NAZGWERN_ANSWER_BYTES);
+    if (once_in(5))
+        damage(lists[below(4)]);
+    for (size_t i = 0; i < 4; i++)
+        lend(lists[i]);
+    lend(&undo), lend(&progress), lend(&answer);
+
+    uint32_t number = call(labels.lent, labels.length, entry.lent, entry.length, regions.lent,
+                           regions.length, patches.lent, patches.length, undo.lent, undo.length,
+                           progress.lent, progress.length, answer.lent, answer.length);
+
+    for (size_t i = 0; i < 3; i++)
+        unchanged(lists[i]);
+    if (answered(number, progress.length >= NAZGWERN_STATE_BYTES &&
+                             answer.length >= NAZGWERN_ANSWER_BYTES) &&
+        (number == 0 || (number >= 14 && number <= 16)))
+        stepped(number, number_at(progress.bytes, 16));
+    else
+        unchanged(&regions), unchanged(&undo), unchanged(&progress);
+}
+
+/* Behind the record of that region stand new words, which its length counts, and all behind it has
+   moved up; nothing else in the list's buffer has changed. */
+static void region_grown(uint16_t region)
+{
+    size_t fill = number_at(progress.bytes, 0), words = number_at(progress.lent, 0) - fill, at = 0;
+    const uint8_t *was = regions.bytes, *now = regions.lent;
+
+    for (; region > 0; region--)
+        at += 4 + (number_at(was, at) & 0xffff);
+    size_t body = number_at(was, at) & 0xffff, end = at + 4 + body;
+
+    if (words > NAZGWERN_LINE_DATA || fill + words > regions.length ||
+        (number_at(now, at) & 0xffff) != body + words || memcmp(now, was, at) != 0 ||
+        memcmp(now + at + 2, was + at + 2, end - at - 2) != 0 ||
+        memcmp(now + end + words, was + end, fill - end) != 0 ||
+        memcmp(now + fill + words, was + fill + words, regions.length - fill - words) != 0)
+        fail("a byte of the region list was changed that is no new word");
+    kept(&regions, 0, regions.length, "");
+}
+
+typedef uint32_t append_call(const uint8_t *, size_t, const uint8_t *, size_t, const uint8_t *,
+                             size_t, uint8_t *, size_t, uint8_t *, size_t, uint8_t *, size_t,
+                             uint8_t *, size_t, uint32_t, uint16_t, uint8_t *, size_t);
+
+static void one_appended(append_call *call)
+{
+    struct buffer *const lists[] = {&tokens,  &mnemonic, &descriptors,
+                                    &regions, &pending,  &breakpoints};
+    uint16_t region = once_in(20) ? (uint16_t)(once_in(2) ? 65535 : chance()) : (uint16_t)below(3);
+    uint32_t position = once_in(50) ? (uint32_t)chance() : once_in(10) ? below(4) : 0;
+
+    line_lists();
+    build_lists();
+    pending.length = breakpoints.length = 0;
+    for (size_t i = 0; i < patches.length; i++)
+        put(&pending, patches.bytes[i], 1);
+    for (uint32_t left = below(3); left > 0; left--) {
+        put_head(&breakpoints, 12, 37);
+        put_any(&breakpoints, 12);
+    }
+    some_progress((uint32_t)regions.length, (uint32_t)pending.length, (uint32_t)breakpoints.length);
+    put_room(&regions, once_in(500), NAZGWERN_LINE_DATA);
+    put_room(&pending, once_in(500), NAZGWERN_LINE_PENDING);
+    put_room(&breakpoints, once_in(500), NAZGWERN_LINE_BREAKPOINTS);
+    some_room(&answer, NAZGWERN_ANSWER_BYTES);
+    if (once_in(5))
+        damage(lists[below(6)]);
+    for (size_t i = 0; i < 6; i++)
+        lend(lists[i]);
+    lend(&progress), lend(&answer);
+
+    uint32_t number = call(tokens.lent, tokens.length, mnemonic.lent, mnemonic.length,
+                           descriptors.lent, descriptors.length, regions.lent, regions.length,
+                           pending.lent, pending.length, breakpoints.lent, breakpoints.length,
+                           progress.lent, progress.length, position, region, answer.lent,
+                           answer.length);
+
+    for (size_t i = 0; i < 3; i++)
+        unchanged(lists[i]);
+    if (!answered(number, progress.length >= NAZGWERN_STATE_BYTES &&
+                              answer.length >= NAZGWERN_ANSWER_BYTES) ||
+        number != 0) {
+        for (size_t i = 3; i < 6; i++)
+            unchanged(lists[i]);
+        unchanged(&progress);
+        return;
+    }
+    region_grown(region);
+    grown(&progress, &pending, 1, NAZGWERN_LINE_PENDING);
+    grown(&progress, &breakpoints, 2, NAZGWERN_LINE_BREAKPOINTS);
+    kept(&progress, 0, 12, "the patches or the state were changed, or a byte behind");
+}
+
+static void patch_step(void)
+{
+    one_step(nazgwern_patch_step);
+}
+
+static void patch_step_manual(void)
+{
+    one_step(nazgwern_patch_step_manual);
+}
+
+static void patch_line(void)
+{
+    one_appended(nazgwern_patch_line);
+}
+
+static void patch_manual_line(void)
+{
+    one_appended(nazgwern_patch_manual_line);
+}
+
+static void patch_release_6_line(void)
+{
+    one_appended(nazgwern_patch_release_6_line);
+}
+
 /* ---- the entries, each with how many calls */
 
 static const struct {
@@ -918,6 +1099,11 @@ static const struct {
     {"nazgwern_dry_run", dry_run, 500000},
     {"nazgwern_write_out", write_out, 500000},
     {"nazgwern_lay_out", lay_out, 500000},
+    {"nazgwern_patch_step", patch_step, 500000},
+    {"nazgwern_patch_step_manual", patch_step_manual, 500000},
+    {"nazgwern_patch_line", patch_line, 500000},
+    {"nazgwern_patch_manual_line", patch_manual_line, 500000},
+    {"nazgwern_patch_release_6_line", patch_release_6_line, 500000},
 };
 
 static void report(const struct tally *tally)
@@ -943,6 +1129,7 @@ int main(int count, char **words)
     make(&image, only_read), make(&held, lent);
     make(&defined, only_read), make(&written, lent);
     make(&wall, lent);
+    make(&progress, lent), make(&undo, lent);
     signal(SIGSEGV, touched);
     signal(SIGBUS, touched);
 
