@@ -109,6 +109,7 @@ static struct buffer defined, written;                /* macros, and the tokens 
 
 static struct buffer image, held;                     /* a dry run's regions and registers */
 static struct buffer wall;                            /* a page for the wall */
+static struct buffer uses;                            /* an index of label uses */
 
 static struct buffer progress, undo;                  /* patching: the state record, kept words */
 
@@ -394,8 +395,9 @@ static void put_room(struct buffer *buffer, bool full, uint32_t most)
                          : once_in(8) ? below(most) : most + below(9));
 }
 
-/* Fills the buffers in part, to their limits now and then; their fill counts go into `counts`. */
-static void line_buffers(void)
+/* Fills the buffers in part, to their limits now and then; their fill counts go into `counts`, of
+   which the call needs so many bytes. */
+static void line_buffers(size_t needed)
 {
     bool full = once_in(2000);
     uint32_t fills[3];
@@ -416,7 +418,7 @@ static void line_buffers(void)
     put_room(&pending, full, NAZGWERN_LINE_PENDING);
     put_room(&breakpoints, full, NAZGWERN_LINE_BREAKPOINTS);
 
-    some_room(&counts, NAZGWERN_COUNTS_BYTES);
+    some_room(&counts, needed);
     for (size_t i = 0; i < 3 && 4 * i + 4 <= counts.length; i++) {
         size_t length = counts.length;
         counts.length = 4 * i;
@@ -453,7 +455,7 @@ static void line(line_call *call)
     uint32_t position = once_in(50) ? (uint32_t)chance() : once_in(10) ? below(4) : 0;
 
     line_lists();
-    line_buffers();
+    line_buffers(NAZGWERN_COUNTS_BYTES);
     some_room(&answer, NAZGWERN_ANSWER_BYTES);
     if (once_in(5))
         damage(lists[below(6)]);
@@ -1082,6 +1084,151 @@ static void patch_release_6_line(void)
     one_appended(nazgwern_patch_release_6_line);
 }
 
+/* ---- a line with an index of label uses, and an index made afresh */
+
+/* Labels of the names that lines and pendings have, for all files and of three owners. */
+static void some_labels(void)
+{
+    labels.length = 0;
+    for (uint32_t label = 0; label < 4 * NAMES; label++) {
+        const char *name = names[label % NAMES];
+        bool owned = label >= NAMES;
+
+        for (uint32_t left = once_in(3) ? 1 + once_in(60) : 0; left > 0; left--) {
+            put_head(&labels, (owned ? 8 : 4) + strlen(name), owned ? 41 : 34);
+            put(&labels, chance(), 4);
+            if (owned)
+                put(&labels, label / NAMES, 4);
+            put_text(&labels, name);
+        }
+    }
+}
+
+/* Makes most sources at this place of a list's records those of the owners; a constant has none. */
+static void few_sources(struct buffer *list, size_t length, size_t place, size_t form)
+{
+    for (size_t at = 0; at < length; at += 4 + (number_at(list->bytes, at) & 0xffff))
+        if (form == 0 || list->bytes[at + form] == 1)
+            if (!once_in(4))
+                memcpy(list->bytes + at + place, (uint8_t[]){(uint8_t)(1 + below(3)), 0, 0, 0}, 4);
+}
+
+static uint8_t made[NAZGWERN_MOST_BYTES];
+
+/* The length of the index that the library makes of these pendings, in `made`; 0 where it refuses. */
+static uint32_t made_of(const uint8_t *list, size_t length, uint32_t fill)
+{
+    uint8_t told[NAZGWERN_ANSWER_BYTES];
+
+    return nazgwern_make_index(list, length, fill, labels.bytes, labels.length, made, sizeof made,
+                               told, sizeof told) == 0
+               ? number_at(told, 20)
+               : 0;
+}
+
+/* A refused call has changed no index; an accepted one only what it has filled, and that is the
+   index made afresh. */
+static void indexed(bool accepted, uint32_t fill, const uint8_t *list, size_t length, uint32_t pendings)
+{
+    if (!accepted) {
+        unchanged(&uses);
+        return;
+    }
+    if (fill > uses.length || fill != made_of(list, length, pendings) ||
+        memcmp(uses.lent, made, fill) != 0)
+        fail("an index that is not the pendings'");
+    kept(&uses, 0, fill, "a byte behind the index was changed");
+}
+
+static void do_indexed(void)
+{
+    struct buffer *const lists[] = {&tokens, &mnemonic,    &descriptors, &labels,
+                                    &data,   &pending, &breakpoints, &uses};
+    uint32_t address = once_in(20) ? 0xffffffff - below(64) : 0x00400000;
+    uint16_t region = once_in(20) ? 65535 : (uint16_t)below(16);
+    uint32_t job = once_in(200) ? 3 + below(9) : below(3);
+
+    line_lists();
+    line_buffers(NAZGWERN_INDEXED_COUNTS_BYTES);
+    some_labels();
+    some_room(&answer, NAZGWERN_ANSWER_BYTES);
+    few_sources(&tokens, tokens.length, 4, 0);
+    uses.length = 0;
+    if (counts.length >= NAZGWERN_INDEXED_COUNTS_BYTES) {
+        uint32_t filled = number_at(counts.bytes, 4);
+        if (filled <= pending.length)
+            few_sources(&pending, filled, 28, 19);
+        uses.length = made_of(pending.bytes, pending.length, filled);
+        memcpy(uses.bytes, made, uses.length);
+        for (size_t i = 0; i < 4; i++)
+            counts.bytes[12 + i] = (uint8_t)(uses.length >> 8 * i);
+    }
+    put_room(&uses, false, once_in(2) ? 160 : 20);
+    if (once_in(5))
+        damage(lists[below(8)]);
+    for (size_t i = 0; i < 8; i++)
+        lend(lists[i]);
+    lend(&counts);
+    lend(&answer);
+
+    uint32_t number = nazgwern_do_indexed(
+        tokens.lent, tokens.length, mnemonic.lent, mnemonic.length, descriptors.lent,
+        descriptors.length, data.lent, data.length, pending.lent, pending.length, breakpoints.lent,
+        breakpoints.length, labels.lent, labels.length, uses.lent, uses.length, counts.lent,
+        counts.length, 0, region, address, job, answer.lent, answer.length);
+
+    for (size_t i = 0; i < 4; i++)
+        unchanged(lists[i]);
+    bool enough = counts.length >= NAZGWERN_INDEXED_COUNTS_BYTES &&
+                  answer.length >= NAZGWERN_ANSWER_BYTES && job <= 2;
+    if (!answered(number, enough) || number != 0) {
+        for (size_t i = 4; i < 8; i++)
+            unchanged(lists[i]);
+        unchanged(&counts);
+        return;
+    }
+
+    const uint32_t most[] = {NAZGWERN_LINE_DATA, NAZGWERN_LINE_PENDING, NAZGWERN_LINE_BREAKPOINTS};
+    for (size_t i = 0; i < 3; i++)
+        grown(lists[4 + i], i, most[i]);
+    kept(&counts, 0, NAZGWERN_INDEXED_COUNTS_BYTES, "a byte behind the counts was changed");
+    indexed(true, number_at(counts.lent, 12), pending.lent, pending.length, number_at(counts.lent, 4));
+}
+
+static void make_index(void)
+{
+    patches.length = 0;
+    for (size_t most = once_in(1000) ? NAZGWERN_MOST_BYTES - 200 : below(400); patches.length < most;)
+        put_pending(&patches, (uint16_t)below(16), below(64), chance());
+    few_sources(&patches, patches.length, 28, 19);
+    uint32_t fill = (uint32_t)patches.length;
+    put_any(&patches, below(9));
+    some_labels();
+    uint32_t length = made_of(patches.bytes, patches.length, fill);
+    uses.length = 0;
+    switch (below(4)) {
+    case 0: put_any(&uses, length > 0 ? length - 1 : 0); break;
+    case 1: put_any(&uses, length + below(3)); break;
+    case 2: put_any(&uses, below(fill + 1)); break;
+    case 3: put_any(&uses, fill + below(3)); break;
+    }
+    some_room(&answer, NAZGWERN_ANSWER_BYTES);
+    if (once_in(8))
+        damage((struct buffer *[]){&patches, &labels, &uses}[below(3)]);
+    if (once_in(50))
+        fill = below(fill + 20);
+    lend(&patches), lend(&labels), lend(&uses), lend(&answer);
+
+    uint32_t number = nazgwern_make_index(patches.lent, patches.length, fill, labels.lent,
+                                          labels.length, uses.lent, uses.length, answer.lent,
+                                          answer.length);
+
+    unchanged(&patches);
+    unchanged(&labels);
+    bool accepted = answered(number, answer.length >= NAZGWERN_ANSWER_BYTES) && number == 0;
+    indexed(accepted, accepted ? number_at(answer.lent, 20) : 0, patches.bytes, patches.length, fill);
+}
+
 /* ---- the entries, each with how many calls */
 
 static const struct {
@@ -1104,6 +1251,8 @@ static const struct {
     {"nazgwern_patch_line", patch_line, 500000},
     {"nazgwern_patch_manual_line", patch_manual_line, 500000},
     {"nazgwern_patch_release_6_line", patch_release_6_line, 500000},
+    {"nazgwern_do_indexed", do_indexed, 500000},
+    {"nazgwern_make_index", make_index, 500000},
 };
 
 static void report(const struct tally *tally)
@@ -1128,7 +1277,7 @@ int main(int count, char **words)
     make(&typed, only_read), make(&records, lent);
     make(&image, only_read), make(&held, lent);
     make(&defined, only_read), make(&written, lent);
-    make(&wall, lent);
+    make(&wall, lent), make(&uses, lent);
     make(&progress, lent), make(&undo, lent);
     signal(SIGSEGV, touched);
     signal(SIGBUS, touched);

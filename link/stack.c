@@ -45,9 +45,9 @@ struct list {
 static struct list tokens, mnemonic, descriptors, data, pending, breakpoints;
 static struct list labels, entry, regions, text;
 static struct list macros, written;
-static uint8_t counts[NAZGWERN_COUNTS_BYTES], filled[NAZGWERN_COUNTS_BYTES];
+static uint8_t counts[NAZGWERN_INDEXED_COUNTS_BYTES], filled[NAZGWERN_INDEXED_COUNTS_BYTES];
 static uint8_t answer[NAZGWERN_ANSWER_BYTES];
-static size_t counts_length = sizeof counts, answer_length = sizeof answer;
+static size_t counts_length = NAZGWERN_COUNTS_BYTES, answer_length = sizeof answer;
 static uint16_t region;
 static uint32_t address, number;
 
@@ -60,17 +60,29 @@ static uint32_t allowance;
 static uint8_t wall[NAZGWERN_MOST_PAGE + 1];
 static size_t wall_length;
 
+/* An index of label uses, and what is filled of it before each call. */
+static struct list uses, uses_filled;
+static uint32_t job_number;
+
 /* A text that is too long. */
 static const uint8_t over[NAZGWERN_MOST_BYTES + 1];
 
-/* 80 KiB, painted but for what the call has written. */
-static uint64_t area[10240];
+/* 128 KiB, painted but for what the call has written. Of a call that takes less the lower part is
+   looked at in the report only. */
+static uint64_t area[16384];
+static size_t lowest = 6144;
 static uint8_t *frame;
 static size_t greatest, calls;
 
-/* What a call may take: a list with macros has an index of them, of which one may have seven bytes,
-   and a page has the slots of its words beside an index. */
-enum { MOST = 40 * 1024, MOST_OF_MACROS = 48 * 1024, MOST_OF_PAGE = 56 * 1024 };
+/* What a call may take: a list with macros has an index of them, of which one may have seven bytes; a
+   page has the slots of its words beside an index of its labels; and an index of uses is made in an
+   array where its buffer is shorter than the pendings. */
+enum {
+    MOST = 40 * 1024,
+    MOST_OF_MACROS = 48 * 1024,
+    MOST_OF_PAGE = 56 * 1024,
+    MOST_OF_INDEX = 104 * 1024
+};
 static size_t most = MOST;
 static bool seen[GREATEST_NUMBER + 1], short_seen;
 
@@ -90,6 +102,28 @@ static void do_instruction(void)
         breakpoints.bytes, breakpoints.length, counts, counts_length, 0, region, address,
         answer, answer_length);
 }
+
+static void do_indexed(void)
+{
+    frame = __builtin_frame_address(0);
+    number = nazgwern_do_indexed(
+        tokens.bytes, tokens.length, mnemonic.bytes, mnemonic.length, descriptors.bytes,
+        descriptors.length, data.bytes, data.length, pending.bytes, pending.length,
+        breakpoints.bytes, breakpoints.length, labels.bytes, labels.length, uses.bytes,
+        uses.length, counts, counts_length, 0, region, address, job_number, answer,
+        answer_length);
+}
+
+static void make_index(void)
+{
+    frame = __builtin_frame_address(0);
+    number = nazgwern_make_index(pending.bytes, pending.length, (uint32_t)pending.length,
+                                 labels.bytes, labels.length, uses.bytes, uses.length, answer,
+                                 answer_length);
+}
+
+/* The call that a line is measured by. */
+static void (*line_call)(void) = do_instruction;
 
 static void build(void)
 {
@@ -147,13 +181,14 @@ static void run(void (*call)(void))
 
 static void measure(void (*call)(void))
 {
-    size_t word = 0;
+    size_t word = lowest;
 
     memcpy(counts, filled, sizeof counts);
+    memcpy(uses.bytes, uses_filled.bytes, uses_filled.length);
     run(call);
     while (area[word] == PAINT)
         word++;
-    if (word == 0 || (number > GREATEST_NUMBER && number != NAZGWERN_TOO_SHORT)) {
+    if (word == lowest || (number > GREATEST_NUMBER && number != NAZGWERN_TOO_SHORT)) {
         printf("no room on the painted stack, or no such answer\n");
         exit(1);
     }
@@ -174,6 +209,11 @@ static void measure(void (*call)(void))
 
 static void report(const char *name)
 {
+    for (size_t word = 0; word < lowest; word++)
+        if (area[word] != PAINT) {
+            printf("a call wrote below the painted stack that it was given\n");
+            exit(1);
+        }
     printf("%s: %zu bytes; %zu calls, answers", name, greatest, calls);
     for (int i = 0; i <= GREATEST_NUMBER; i++)
         if (seen[i])
@@ -259,7 +299,7 @@ static void line(const char *operands)
     tokens.length = 0;
     for (; *operands != 0; operands++)
         operand(*operands);
-    measure(do_instruction);
+    measure(line_call);
 }
 
 /* Every line that goes on from these operands, four at most. */
@@ -366,29 +406,29 @@ static void refused_lines(void)
     descriptor(OFFSET, false, "t");
     line("rsb");
     for (int i = 0; i < 5; i++)
-        damaged(lists[i], do_instruction);
+        damaged(lists[i], line_call);
     for (int i = 0; i < 3; i++)
         for (uint8_t less = 0; less < 2; less++) {
             size_t length = buffers[i]->length;
             buffers[i]->length = (size_t)filled[4 * i] - less;
-            measure(do_instruction);
+            measure(line_call);
             buffers[i]->length = length;
         }
     region = 16;
-    measure(do_instruction);
+    measure(line_call);
     region = NAZGWERN_NO_REGION;
-    measure(do_instruction);
+    measure(line_call);
     region = 0;
     address = 0xffffffff;
-    measure(do_instruction);
+    measure(line_call);
     answer_length--;
-    measure(do_instruction);
+    measure(line_call);
     answer_length++;
     counts_length--;
-    measure(do_instruction);
+    measure(line_call);
     counts_length++;
     descriptor(OFFSET, false, "t");
-    measure(do_instruction);
+    measure(line_call);
 }
 
 /* Form 0 is a constant, 1 the label x, and 2 here a name that no label has. */
@@ -700,6 +740,116 @@ static void many_macros(void)
     measure(write_out);
 }
 
+/* What stands in the buffers now is what each further line comes after. */
+static void keep_filled(void)
+{
+    memcpy(filled, counts, sizeof filled);
+    uses_filled.length = filled[12] + 256u * filled[13];
+    memcpy(uses_filled.bytes, uses.bytes, uses_filled.length);
+}
+
+/* Lines by labels of which as many are there as fit. */
+static void long_indexed_lines(void)
+{
+    struct list kept = pending;
+
+    pending.length = filled[4];
+    make_index();
+    filled[12] = answer[20], filled[13] = answer[21];
+    memcpy(counts, filled, sizeof counts);
+    keep_filled();
+    pending.length = kept.length;
+    named("t");
+    line("rsb");
+    named("la");
+    line("rs");
+}
+
+/* Lines with an index in each job, from empty lists on: refusals of the labels and of the index too,
+   and a job that there is not. */
+static void indexed_lines(void)
+{
+    line_call = do_indexed;
+    counts_length = NAZGWERN_INDEXED_COUNTS_BYTES;
+    for (job_number = 0; job_number < 3; job_number++) {
+        descriptors.length = labels.length = uses_filled.length = 0;
+        data.length = pending.length = breakpoints.length = uses.length = 1024;
+        memset(filled, 0, sizeof filled);
+        address = NEAR;
+        named("t");
+        descriptor(OFFSET, false, "t");
+        label(NEAR, "x");
+        line("rsb");
+        keep_filled();
+        all_lines();
+        long_lines();
+        refused_lines();
+
+        descriptors.length = 0;
+        descriptor(OFFSET, false, "t");
+        address = NEAR;
+        line("rsb");
+        damaged(&labels, do_indexed);
+        for (size_t less = 0; less < 2; less++) {
+            uses.length = uses_filled.length - less;
+            measure(do_indexed);
+        }
+        uses.length = 1024;
+        uses_filled.bytes[4] ^= 1;
+        measure(do_indexed);
+        uses_filled.bytes[4] ^= 1;
+        label(NEAR, "x");
+        measure(do_indexed);
+        fill(&labels, 8, add_label);
+        long_indexed_lines();
+        fill_long(&labels, 8, add_label);
+        long_indexed_lines();
+        fill_owners();
+        long_indexed_lines();
+    }
+    measure(do_indexed);
+    line_call = do_instruction;
+    counts_length = NAZGWERN_COUNTS_BYTES;
+}
+
+/* Indexes of the most pendings by the most labels, in as much room as the pendings take, in just
+   enough, in one byte less and in none; refusals 1 and 2, and an answer that is too short. */
+static void all_indexes(void)
+{
+    uses_filled.length = 0;
+    for (int form = 0; form < 3; form++)
+        for (int labelled = 0; labelled < 4; labelled++) {
+            labels.length = 0;
+            switch (labelled) {
+            case 1: fill(&labels, 8, add_label); break;
+            case 2: fill_long(&labels, 8, add_label); break;
+            case 3: fill_owners(); break;
+            }
+            pending.length = 0;
+            while (pending.length + (form == 0 ? 36 : 37) <= sizeof pending.bytes)
+                patch(0, 0, 0, form, NEAR);
+            uses.length = pending.length;
+            measure(make_index);
+            uses.length = answer[20] + 256u * answer[21];
+            measure(make_index);
+            if (uses.length > 0) {
+                uses.length--;
+                measure(make_index);
+                uses.length = 0;
+                measure(make_index);
+            }
+        }
+    damaged(&pending, make_index);
+    damaged(&labels, make_index);
+    answer_length--;
+    measure(make_index);
+    answer_length++;
+    labels.length = 0;
+    label(NEAR, "x");
+    label(NEAR, "x");
+    measure(make_index);
+}
+
 /* Macros A to J, of which each calls the one above it, the first with so many parameters; then a call
    of each, with no argument and with eight, and as much room as each token needs. */
 static void all_macros(void)
@@ -767,6 +917,14 @@ int main(void)
     most = MOST_OF_PAGE;
     all_pages();
     report("nazgwern_lay_out");
+
+    indexed_lines();
+    report("nazgwern_do_indexed");
+
+    lowest = 1;
+    most = MOST_OF_INDEX;
+    all_indexes();
+    report("nazgwern_make_index");
 
     return 0;
 }
