@@ -1190,7 +1190,7 @@ static void do_indexed(void)
 
     const uint32_t most[] = {NAZGWERN_LINE_DATA, NAZGWERN_LINE_PENDING, NAZGWERN_LINE_BREAKPOINTS};
     for (size_t i = 0; i < 3; i++)
-        grown(lists[4 + i], i, most[i]);
+        grown(&counts, lists[4 + i], i, most[i]);
     kept(&counts, 0, NAZGWERN_INDEXED_COUNTS_BYTES, "a byte behind the counts was changed");
     indexed(true, number_at(counts.lent, 12), pending.lent, pending.length, number_at(counts.lent, 4));
 }
