@@ -3,10 +3,10 @@ use Prim.Native.Nat.{ℕ, _+_, _-_, min, _≤_, _<_}
 use native.Mathlib.Omega.{arith}
 use mathlib.Core.Bool.{Bool, true, false}
 use mathlib.Core.List.{List, [], _++_, append-nil}
-use mathlib.Core.Path.{_≡_, refl, sym, ap, ap₂, subst, _∙_}
-use lib.ListN.{length, take, drop, length-drop, length-append, length-take, take-append-drop}
+use mathlib.Core.Path.{_≡_, refl, sym, ap, ap₂, _∙_}
+use lib.ListN.{length, take, drop, length-drop, length-append, take-append-drop}
 use lib.Seq.{take-all, length-take-le}
-use lib.Dec.{leb, eqb}
+use lib.Dec.{leb}
 use borrow.Author.Tests.{leb-true, leb-false}
 use Rattle.jobs.specs.declared.Job.{Job}
 use Rattle.record.specs.Bytes.{part}
@@ -29,7 +29,7 @@ use Rattle.patching_outcome.specs.declared.PatchCounts.{PatchCounts}
 use Rattle.patching_outcome.specs.Patching.{Patching, patchingOf}
 use Rattle.patching_outcome.specs.Grown.{inserted, grown}
 use Rattle.patching_outcome.specs.Line.{mostWords, emitCall, newWords, lined, linedBy}
-use Rattle.emit_in_list.specs.InList.{dataIn, EmittedIn}
+use Rattle.emit_in_list.specs.InList.{dataIn}
 use Rattle.emit_in_list.specs.CallLaws.{Told, told-done, told-refused, Appends, appends, words-are}
 use Rattle.emit_in_list.specs.EmittedLaws.{call-adds, data-long}
 use Rattle.patching_line.specs.Contract.{givenOf, LinesTo}

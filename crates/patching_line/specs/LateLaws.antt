@@ -3,13 +3,11 @@ use Prim.Native.Nat.{ℕ, _-_, _≤_, _<_}
 use native.Mathlib.Omega.{arith}
 use mathlib.Core.Bool.{Bool, true, false, _&&_, _||_, not}
 use mathlib.Core.List.{List, []}
-use mathlib.Core.Path.{_≡_, refl, sym, ap, ap₂, _∙_}
-use lib.ListN.{length, getD, take}
+use mathlib.Core.Path.{_≡_, sym, ap, _∙_}
+use lib.ListN.{getD}
 use lib.Seq.{getD-take}
 use lib.Dec.{ltb, eqb}
 use borrow.Author.Tests.{lt-ltb, le-ltb, eq-eqb, ne-eqb}
-use Rattle.record.specs.Records.{places}
-use Rattle.record.specs.declared.Layout.the-variants.{Good}
 use Rattle.refusal.specs.declared.Refusal.{Refusal}
 use Rattle.refusal.specs.declared.Refusal.the-variants.{LateLine}
 use Rattle.refusal.specs.declared.Numbered.{Numbered}
