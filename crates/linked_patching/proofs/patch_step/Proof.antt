@@ -1,6 +1,5 @@
 -- `patch_step` meets its contract: short buffers are tested first; else the record is written as the step leaves it, and the answer as its words.
 -- Assumes nothing.
-use native.Mathlib.Omega.{arith}
 use mathlib.Core.Path.{ap, ap₂}
 use mathlib.Core.Bool.{Bool, _&&_}
 use lib.ListN.{length}
