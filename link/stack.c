@@ -19,7 +19,7 @@
 #define PAINT UINT64_C(0xa5a5a5a5a5a5a5a5)
 
 enum { ENCODINGS = 21, PSEUDOS = 29, OFFSET = 13 };
-enum { NEAR = 0x00400000, FAR = 0x10500000, GREATEST_NUMBER = 28, LEVELS = 10 };
+enum { NEAR = 0x00400000, FAR = 0x10500000, GREATEST_NUMBER = 29, LEVELS = 10 };
 
 static const char *const pseudos[PSEUDOS + 1] = {
     "nop", "abs", "blt", "bgt", "ble", "bge", "bltu", "bgtu", "bleu", "bgeu", "sge", "sgt", "sle",
@@ -160,6 +160,61 @@ static void lay_out(void)
                               wall_length, answer, answer_length);
 }
 
+/* The entries of patching, the same way, and what they are lent besides. The state record's fill
+   counts are the lengths of the lists, or behind the first line of a job what it has left. */
+static uint32_t (*step)(const uint8_t *, size_t, const uint8_t *, size_t, uint8_t *, size_t,
+                        const uint8_t *, size_t, uint8_t *, size_t, uint8_t *, size_t, uint8_t *,
+                        size_t);
+static uint32_t (*append)(const uint8_t *, size_t, const uint8_t *, size_t, const uint8_t *, size_t,
+                          uint8_t *, size_t, uint8_t *, size_t, uint8_t *, size_t, uint8_t *,
+                          size_t, uint32_t, uint16_t, uint8_t *, size_t);
+enum { MOST_KEPT = 7280, GROWS = 64 };
+static uint8_t kept[MOST_KEPT], progress[NAZGWERN_STATE_BYTES], list_at_start[GROWS];
+static size_t kept_length = MOST_KEPT, progress_length = sizeof progress, list_length;
+static uint32_t done, state;
+
+static void put_number(size_t place, uint32_t value)
+{
+    for (size_t i = 0; i < 4; i++)
+        progress[4 * place + i] = (uint8_t)(value >> 8 * i);
+}
+
+static void patch_step(void)
+{
+    frame = __builtin_frame_address(0);
+    number = step(labels.bytes, labels.length, entry.bytes, entry.length, regions.bytes,
+                  regions.length, pending.bytes, pending.length, kept, kept_length, progress,
+                  progress_length, answer, answer_length);
+}
+
+static void patch_line(void)
+{
+    frame = __builtin_frame_address(0);
+    number = append(tokens.bytes, tokens.length, mnemonic.bytes, mnemonic.length,
+                    descriptors.bytes, descriptors.length, regions.bytes, regions.length,
+                    pending.bytes, pending.length, breakpoints.bytes, breakpoints.length, progress,
+                    progress_length, 0, region, answer, answer_length);
+}
+
+/* What makes the call of a line, and that of a build. */
+static void (*line_call)(void) = do_instruction, (*build_call)(void) = build;
+
+/* The state record and the region list as they are before each call. */
+static void restore(void)
+{
+    bool line = line_call == patch_line;
+
+    for (size_t i = 0; i < sizeof filled; i++)
+        progress[i] = filled[i];
+    if (line)
+        memcpy(regions.bytes, list_at_start, sizeof list_at_start);
+    put_number(0, (uint32_t)(line ? list_length : regions.length));
+    if (!line)
+        put_number(1, (uint32_t)pending.length);
+    put_number(3, done);
+    put_number(4, state);
+}
+
 static void paint(size_t from)
 {
     for (size_t i = from; i < sizeof area / sizeof *area; i++)
@@ -185,6 +240,8 @@ static void measure(void (*call)(void))
 
     memcpy(counts, filled, sizeof counts);
     memcpy(uses.bytes, uses_filled.bytes, uses_filled.length);
+    if (call == patch_step || call == patch_line)
+        restore();
     run(call);
     while (area[word] == PAINT)
         word++;
@@ -472,7 +529,7 @@ static void one_build(int kind, int form, uint32_t offset, uint32_t to, int entr
         entry_reference(entry_form, to);
     patch(1, 0, kind, form, to);
     patch(0, offset, kind, form, to);
-    measure(build);
+    measure(build_call);
 }
 
 static void all_builds(void)
@@ -518,7 +575,7 @@ static void long_builds(void)
             pending.length = 0;
             while (pending.length + (form == 0 ? 36 : 37) <= sizeof pending.bytes)
                 patch(0, 0, kind, form, NEAR);
-            measure(build);
+            measure(build_call);
         }
 }
 
@@ -536,22 +593,22 @@ static void all_long_builds(void)
     label(NEAR, "y");
     while (labels.length + 9 <= sizeof labels.bytes)
         label(NEAR, "x");
-    measure(build);
+    measure(build_call);
 }
 
 /* Refusals 1 and 2, and an answer that is too short. */
 static void refused_builds(void)
 {
     one_build(0, 1, 0, NEAR, 1);
-    damaged(&labels, build);
-    damaged(&entry, build);
-    damaged(&regions, build);
-    damaged(&pending, build);
+    damaged(&labels, build_call);
+    damaged(&entry, build_call);
+    damaged(&regions, build_call);
+    damaged(&pending, build_call);
     answer_length--;
-    measure(build);
+    measure(build_call);
     answer_length++;
     label(NEAR, "x");
-    measure(build);
+    measure(build_call);
 }
 
 /* Every text that goes on from this one by up to so many pieces, with a blank before each. */
@@ -850,6 +907,79 @@ static void all_indexes(void)
     measure(make_index);
 }
 
+/* Lines of a job while patching runs, for the second of three regions, with the most descriptors, and
+   late ones; what each sort of line takes is measured above. */
+static void appended_lines(const char *name)
+{
+    regions.length = 0;
+    for (int i = 0; i < 3; i++) {
+        put_head(&regions, 4 + 4, 35);
+        put(&regions, NEAR, 4);
+        put(&regions, 0, 4);
+    }
+    list_length = regions.length;
+    memcpy(list_at_start, regions.bytes, sizeof list_at_start);
+    regions.length = 1024;
+    tokens.length = mnemonic.length = descriptors.length = 0;
+    pending.length = breakpoints.length = 1024;
+    memset(filled, 0, sizeof filled);
+    line_call = patch_line;
+    region = 1;
+    done = state = 0;
+
+    named("t");
+    descriptor(OFFSET, false, "t");
+    line("rsb");
+    for (size_t i = 4; i < sizeof filled; i++)
+        filled[i] = progress[i];
+    long_lines();
+    descriptors.length = 0;
+    descriptor(OFFSET, false, "t");
+    named("t");
+    state = 1; /* after the end */
+    line("rsb");
+    state = 0;
+    done = 1; /* below the patched region */
+    region = 0;
+    line("rsb");
+    region = 3;
+    line("rsb");
+    region = NAZGWERN_NO_REGION;
+    line("rsb");
+    done = 2;
+    line("rsb");
+    done = 0;
+    progress_length--;
+    line("rsb");
+    progress_length++;
+    region = 0;
+    line_call = do_instruction;
+    report(name);
+}
+
+/* Steps on the lists of the builds, with no, one and two patches done, in each state. */
+static void all_steps(const char *name)
+{
+    regions.length = 0;
+    build_call = patch_step;
+    for (done = 0; done < 3; done++)
+        for (state = 0; state < 3; state++) {
+            regions.length = 0;
+            all_builds();
+            all_long_builds();
+            refused_builds();
+        }
+    done = state = 0;
+    kept_length = 0;
+    one_build(0, 1, 0, NEAR, 1);
+    kept_length = MOST_KEPT;
+    progress_length--;
+    measure(build_call);
+    progress_length++;
+    build_call = build;
+    report(name);
+}
+
 /* Macros A to J, of which each calls the one above it, the first with so many parameters; then a call
    of each, with no argument and with eight, and as much room as each token needs. */
 static void all_macros(void)
@@ -903,6 +1033,15 @@ int main(void)
 
     emit = nazgwern_do_release_6_instruction;
     job("nazgwern_do_release_6_instruction", NULL);
+
+    append = nazgwern_patch_line, step = nazgwern_patch_step;
+    appended_lines("nazgwern_patch_line");
+    all_steps("nazgwern_patch_step");
+    append = nazgwern_patch_manual_line, step = nazgwern_patch_step_manual;
+    appended_lines("nazgwern_patch_manual_line");
+    all_steps("nazgwern_patch_step_manual");
+    append = nazgwern_patch_release_6_line;
+    appended_lines("nazgwern_patch_release_6_line");
 
     all_texts();
     report("nazgwern_read_text");
