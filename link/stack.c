@@ -122,9 +122,6 @@ static void make_index(void)
                                  answer_length);
 }
 
-/* The call that a line is measured by. */
-static void (*line_call)(void) = do_instruction;
-
 static void build(void)
 {
     frame = __builtin_frame_address(0);
