@@ -115,17 +115,22 @@
    the call's name, and for 26 that of the token without room.
    docs/REFUSALS.md says what to do about each.
 
-   STACK. Measured, not proved, on x86-64 with gcc as the caller's compiler: link/stack ran over a
-   million calls of nazgwern_do_instruction, of which none took more than 24,088 bytes of stack, 777
-   of nazgwern_build, of which none took more than 37,760, as many by the manual and lines for
-   Release 6, of which none took more than these, 20,506 of nazgwern_read_text, of which none took
-   more than 904, 1,338 of nazgwern_dry_run, of which none took more than 680, 4,626 of
-   nazgwern_write_out, of which none took more than 44,744, and 1,608 of nazgwern_lay_out, of which
-   none took more than 51,808; arguments and return address counted. A build's stack is mostly the
-   index of its labels, 29,124 bytes, a line's that of its descriptors, 20,164, and that of a list
-   with macros the macros' index, 37,448; a page has beside the labels' index, 14,562, as many as
-   32,768 bytes for the labels of a region's words. The code may also use the 128 bytes below its
-   stack pointer, as the x86-64 convention allows. */
+   STACK. Measured, not proved, on x86-64 with gcc as the caller's compiler, arguments and return
+   address counted: link/stack found for no call more bytes than these.
+
+     22,872  nazgwern_do_instruction, and by the manual and for Release 6
+     37,648  nazgwern_build, and by the manual
+     37,664  nazgwern_patch_step, and by the manual
+     30,168  nazgwern_patch_line, and by the manual and for Release 6
+     55,272  nazgwern_do_indexed
+     99,248  nazgwern_make_index
+     44,744  nazgwern_write_out
+     52,160  nazgwern_lay_out
+        904  nazgwern_read_text
+        680  nazgwern_dry_run
+
+   Of nazgwern_find_label and nazgwern_count_forms it was not measured. The code may also use the 128
+   bytes below its stack pointer, as the x86-64 convention allows. */
 #ifndef NAZGWERN_H
 #define NAZGWERN_H
 
