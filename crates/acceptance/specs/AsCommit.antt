@@ -49,6 +49,34 @@ use Rattle.record.specs.Records.{places, placesFrom, placesF}
 use Rattle.operands.specs.Operands.{getRegister, getConstant, getInteger, signed}
 use Rattle.cursor.specs.Cursors.{passed, peek, step, nextAdjacent, peekAdjacent}
 use Rattle.pseudo_names.specs.PseudoNames.{pseudoIn}
+use Rattle.emit_outcome.specs.Dispatch.{tableLine}
+use Rattle.emit_outcome.specs.Checks.{layoutStop}
+use Rattle.emit_outcome.specs.Room.{edgeStop}
+use Rattle.emit_bytes.specs.Appended.{wordBytes, pendingsBytes}
+use Rattle.breakpoints.specs.BreakpointBytes.{pcsBytes}
+use Rattle.record.specs.Stores.{append}
+use Rattle.emit_dispatch.specs.Lines.{encodingLine}
+use Rattle.emit_pairs.specs.Pairs.{loadPairs, labelPairs, isImmediate, immediatePairs}
+use Rattle.breakpoints.specs.Breakpoints.{breakpointOk, filledLayout, pendingBufferLayout, breakpointBufferLayout, dataBufferLayout}
+use Rattle.descriptors.specs.Descriptors.{fieldsOk, descriptorOk, descriptorLayout}
+use Rattle.descriptors.specs.Mnemonics.{mnemonicOk, oneMnemonic, mnemonicLayout}
+use Rattle.assembler_util.specs.LabelOperands.{symbolLabel, toLabel, getLabel, braced, afterLabel, getOffsetOrLabel}
+use Rattle.operands.specs.Operands.{getFPRegister, getCc, getValue}
+use Rattle.pending.specs.Pendings.{pendingOk, kindFrom, pendingLayout}
+use Rattle.address_label.specs.AddressLabels.{addressLabelOk}
+use Rattle.lexer.specs.Tokens.{payloadOk, tokenOk, tokenLayout}
+use Rattle.loading.specs.Load.{isSmall, formOf, loadWords}
+use Rattle.names.specs.Names.{firstLater}
+use Rattle.refusal.specs.Verdicts.{firstStop}
+use Rattle.record.specs.Records.{firstBad, firstBadOf, withinLimit}
+use Rattle.example_lists.specs.Lists.{asBytes, pcsFrom, «abs»}
+use Rattle.build_outcome.specs.Build.{buildVerdict, layoutVerdicts, writePatches, orderFrom, keep}
+use Rattle.patch.specs.Patches.{writePending, pendingVerdict, reachVerdict, jumpInRange, fieldValue, fieldWidth, destination}
+use Rattle.address_label.specs.Entries.{entryLayout, entryOk}
+use Rattle.regions.specs.Regions.{regionLayout, regionRecords, regionOk}
+use Rattle.labels.specs.Labels.{resolve, labelLayout, labelOk}
+use Rattle.field.specs.Field.{setField}
+use mathlib.Core.List.{[]}
 use Rattle.acceptance.specs.SameOutcome.{SameEncoded, SameRead, meaning-same, line-by, build-same}
 use Rattle.acceptance.specs.Unlisted.{Unlisted, UnlistedRead, IsRefused, UnlistedMeaning, UnlistedCall, UnlistedBuild}
 
@@ -200,3 +228,11 @@ sll31 = line «sll» (descriptor 1 0 5 «sll») (register 8 ++ comma ++ register
 pub met-line : emitOutcome Manual sll31 ≡ emitOutcome Commit sll31
 unfolding meaning mnemonicName firstWhere all sameBytes places placesFrom placesF tokens payloadOf readOperands readOperand getRegister getConstant getInteger signed passed peek step nextAdjacent peekAdjacent pseudoIn
 met-line = line-as-commit sll31 (omega arith)
+
+-- and a refused abs: abs $t0 lacks its source
+abbrev absAlone : Call
+absAlone = line «abs» [] (register 8)
+
+pub met-abs : emitOutcome Manual absAlone ≡ emitOutcome Commit absAlone
+unfolding emitOutcome lineOutcome tableLine listStop layoutStop roomStop edgeStop meaning wordBytes pendingsBytes pcsBytes append pseudoIn pseudoLine encodingLine loadPairs labelPairs isImmediate immediatePairs breakpointOk filledLayout pendingBufferLayout breakpointBufferLayout dataBufferLayout fieldsOk descriptorOk descriptorLayout mnemonicOk oneMnemonic mnemonicLayout mnemonicName readOperand readOperands symbolLabel toLabel getLabel braced afterLabel getOffsetOrLabel getRegister getFPRegister getCc signed getInteger getConstant getValue passed peek step nextAdjacent peekAdjacent pendingOk addressLabelOk payloadOf payloadOk tokenOk tokenLayout tokens isSmall formOf loadWords firstWhere firstLater firstStop placesF placesFrom places firstBad firstBadOf withinLimit all sameBytes asBytes pcsFrom buildOutcome buildVerdict layoutVerdicts writePatches writePending pendingVerdict reachVerdict orderFrom keep inRange jumpInRange branchInRange fieldValue fieldWidth destination kindFrom pendingLayout entryLayout entryOk regionLayout regionRecords regionOk resolve labelLayout labelOk setField
+met-abs = line-as-commit absAlone (λ q. tt)

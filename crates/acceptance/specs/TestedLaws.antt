@@ -24,6 +24,25 @@ use Rattle.emit_dispatch.specs.Wants.{encodingWants}
 use Rattle.emit_dispatch.specs.Lines.{withinOr, rangeThen, encodingRange}
 use Rattle.emit_outcome.specs.Call.{Call}
 use Rattle.emit_outcome.specs.Emit.{startOf, refuse, emitOutcome}
+use Rattle.emit_outcome.specs.Checks.{listStop, layoutStop}
+use Rattle.emit_outcome.specs.Dispatch.{meaning}
+use Rattle.descriptors.specs.Mnemonics.{mnemonicName, mnemonicOk, oneMnemonic, mnemonicLayout}
+use Rattle.descriptors.specs.Descriptors.{fieldsOk, descriptorOk, descriptorLayout}
+use Rattle.breakpoints.specs.Breakpoints.{breakpointOk, filledLayout, pendingBufferLayout, breakpointBufferLayout, dataBufferLayout}
+use Rattle.pending.specs.Pendings.{pendingOk}
+use Rattle.lexer.specs.Tokens.{payloadOk, tokenOk, tokenLayout, payloadOf}
+use Rattle.names.specs.Names.{firstWhere, firstLater}
+use Rattle.record.specs.Records.{firstBad, firstBadOf, withinLimit, places, placesFrom, placesF}
+use Rattle.record.specs.Bytes.{all, sameBytes}
+use Rattle.pseudo_names.specs.PseudoNames.{pseudoIn}
+use Rattle.operand_list.specs.OperandLists.{readOperand}
+use Rattle.operands.specs.Operands.{getRegister, getFPRegister, getCc}
+use Rattle.cursor.specs.Cursors.{passed, peek, step}
+use native.Mathlib.Omega.{arith}
+use mathlib.Core.List.{_++_}
+use Rattle.registers.specs.declared.RegisterSlot.the-variants.{Temporary0, Temporary1}
+use Rattle.registers.specs.declared.FPRegisterSlot.the-variants.{F2, F4}
+use Rattle.example_lists.specs.Lists.{register, fpRegister, integer, comma, «sll», cvtSW, descriptor, floatDescriptor, line}
 use Rattle.acceptance.specs.Changed.{TableCall}
 use Rattle.acceptance.specs.AsManual.{outside-line}
 use Rattle.acceptance.specs.Tested.{shiftAmount, conditionCode, shiftOr, codeOr}
@@ -88,3 +107,19 @@ module _ (c : Call) (p : ℕ) (t : TableCall c p) where
         let next = encodingRange Commit e op x in
         outside-line Manual c p t x read ConditionCode
         (range-as-commit e op x ∙ ap (λ (o : Option ℕ). shiftOr o (codeOr (conditionCode e x) next)) n ∙ ap (λ (o : Option ℕ). codeOr o next) a ∙ over-code code next h)
+
+-- ---- such lines: sll $t0,$t1,32 (Func 0), and a line under FPCond with code 8 (Cop1 50)
+
+abbrev sll32 : Call
+sll32 = line «sll» (descriptor 1 0 5 «sll») (register 8 ++ comma ++ register 9 ++ comma ++ integer 32)
+
+pub met-shift : emitOutcome Manual sll32 ≡ refuse (sll32 .numbers .counts) (sll32 .lent) 5 (ShiftOutOfRange (mnemonicLocation (sll32 .mnemonic)))
+unfolding listStop layoutStop meaning mnemonicName mnemonicOk oneMnemonic mnemonicLayout fieldsOk descriptorOk descriptorLayout breakpointOk filledLayout pendingBufferLayout breakpointBufferLayout dataBufferLayout pendingOk payloadOk tokenOk tokenLayout firstWhere firstLater firstBad firstBadOf withinLimit all sameBytes places placesFrom placesF payloadOf tokens pseudoIn readOperands readOperand getRegister passed peek step
+met-shift = shift-line sll32 0 (record { lists-pass = refl; found = refl }) (Temporary0, Temporary1, 32) refl 32 refl (omega arith)
+
+abbrev cond8 : Call
+cond8 = line cvtSW (floatDescriptor 4 50 18 0 0 cvtSW) (integer 8 ++ comma ++ fpRegister 2 ++ comma ++ fpRegister 4)
+
+pub met-code : emitOutcome Manual cond8 ≡ refuse (cond8 .numbers .counts) (cond8 .lent) 5 (CodeOutOfRange (mnemonicLocation (cond8 .mnemonic)))
+unfolding listStop layoutStop meaning mnemonicName mnemonicOk oneMnemonic mnemonicLayout fieldsOk descriptorOk descriptorLayout breakpointOk filledLayout pendingBufferLayout breakpointBufferLayout dataBufferLayout pendingOk payloadOk tokenOk tokenLayout firstWhere firstLater firstBad firstBadOf withinLimit all sameBytes places placesFrom placesF payloadOf tokens pseudoIn readOperands readOperand getRegister passed peek step getFPRegister getCc
+met-code = code-line cond8 0 (record { lists-pass = refl; found = refl }) (8, F2, F4) refl 8 refl refl (omega arith)
