@@ -3,8 +3,6 @@ use Rattle.std.specs.Prelude.{ℕ, ◌%◌, ◌≡◌, refl, Bool, true, false, 
 use Rattle.std.proofs.Common.{sym, ap, ap₂, ◌∙◌, eqb-true}
 use Rattle.instructions.specs.declared.Opcode.{Opcode}
 use Rattle.instructions.specs.declared.Opcode.TheVariants.{Op, Func, Special, Algebra, Cop1, Cop1I}
-use Rattle.instructions.specs.declared.Size.{Size}
-use Rattle.instructions.specs.declared.Size.TheVariants.{Single, Double, Word}
 use Rattle.instructions.specs.declared.Alternative.{Alternative}
 use Rattle.instructions.specs.declared.Alternative.TheVariants.{Nothing, Some}
 use Rattle.instructions.specs.declared.Encoding.{Encoding}
@@ -32,8 +30,7 @@ use Rattle.emit_pairs.specs.declared.Range.{Range}
 use Rattle.emit_pairs.specs.declared.Range.TheVariants.{Within, Outside}
 use Rattle.emit_pairs.specs.Pairs.{is_immediate, immediate_range}
 use Rattle.emit_dispatch.specs.Wants.{encoding_wants}
-use Rattle.emit_dispatch.specs.Lines.{within_or, range_then, encoding_range, encoding_pairs, encoding_form, range_answer, line_by, encoding_line}
-use Rattle.emit_dispatch.specs.declared.LineAnswer.TheVariants.{OutOfRange}
+use Rattle.emit_dispatch.specs.Lines.{within_or, range_then, encoding_range, encoding_pairs, encoding_form, line_by, encoding_line}
 use Rattle.emit_outcome.specs.Call.{Call}
 use Rattle.emit_outcome.specs.Checks.{layout_stop, list_stop}
 use Rattle.emit_outcome.specs.Dispatch.{meaning, table_line}

@@ -16,12 +16,11 @@ use Rattle.lexer.specs.declared.Token.{Token}
 use Rattle.operand_list.specs.OperandLists.{read_operands}
 use Rattle.emit_dispatch.specs.declared.LineAnswer.TheVariants.{Made}
 use Rattle.emit_outcome.specs.declared.EmitAnswer.TheVariants.{Done, Refused as LineRefused}
-use Rattle.emit_outcome.specs.Call.{Call, EmitOutcome}
+use Rattle.emit_outcome.specs.Call.{Call}
 use Rattle.emit_outcome.specs.Checks.{list_stop}
 use Rattle.emit_outcome.specs.Emit.{refuse, list_outcome, emit_outcome}
 use Rattle.emit_outcome.proofs.Refused.{refused_stays}
-use Rattle.build_outcome.specs.Build.{build_verdict, BuildOutcome, outcome_by, build_outcome}
-use Rattle.build_outcome.specs.declared.Built.{Built}
+use Rattle.build_outcome.specs.Build.{build_verdict, build_outcome}
 use Rattle.build_outcome.specs.declared.Built.TheVariants.{Refused as BuildRefused}
 use Rattle.finished_words.specs.Listed.{Bytes}
 use Rattle.finished_words.proofs.Finished.{Finished, finished}

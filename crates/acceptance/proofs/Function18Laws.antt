@@ -1,6 +1,6 @@
 -- Every word of opcode 0 and function 18 in an accepted line of a Release 6 job is one of those listed in Function18.antt: by the format of each word.
 -- Assumes nothing.
-use Rattle.std.specs.Prelude.{ℕ, ◌+◌, ◌%◌, ◌≡◌, refl, Bool, true, false, ◌||◌, ◌⊎◌, eqb}
+use Rattle.std.specs.Prelude.{ℕ, ◌%◌, ◌≡◌, refl, Bool, true, false, ◌||◌, ◌⊎◌, eqb}
 use Rattle.std.proofs.Common.{arith, sym, ap, ◌∙◌, inl, inr}
 use mathlib.Core.List.Memᴰ
 use mathlib.Core.List.{List, [], ◌∷◌, ◌++◌, Memᴰ}

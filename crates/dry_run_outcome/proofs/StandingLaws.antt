@@ -1,16 +1,15 @@
 -- Words that stand in an image one after the other, and a dry run through them. Assumes nothing.
-use Rattle.std.specs.Prelude.{ℕ, zero, suc, ◌+◌, ◌*◌, ◌%◌, ◌^◌, ◌<◌, ◌≤◌, ◌≡◌, refl, List, [], ◌∷◌, ◌++◌, length}
+use Rattle.std.specs.Prelude.{ℕ, suc, ◌+◌, ◌*◌, ◌%◌, ◌^◌, ◌<◌, ◌≡◌, refl, List, [], ◌∷◌, ◌++◌, length}
 use Rattle.std.proofs.Common.{suc-add, zero-add, arith, sym, ap, ◌∙◌}
 use Rattle.loading.specs.Run.{Registers, Outcome, ran, failed, step as load_step, run as load_run}
 use Rattle.reading.specs.Reading.{Image}
 use Rattle.machine.specs.Instructions.{opcode, rs}
 use Rattle.machine.specs.Effects.{next_pc}
-use Rattle.machine.specs.Step.{Step, goes, stops, at, step_word}
+use Rattle.machine.specs.Step.{goes, stops, at, step_word}
 use Rattle.machine.proofs.LoadingAgrees.{agrees}
 use Rattle.machine.specs.declared.Machine.{Machine}
 use Rattle.machine.specs.declared.Reason.{Reason}
 use Rattle.dry_run_outcome.specs.declared.Fetched.TheVariants.{Word}
-use Rattle.dry_run_outcome.specs.declared.Ran.{Ran}
 use Rattle.dry_run_outcome.specs.Fetch.{fetch}
 use Rattle.dry_run_outcome.specs.Run.{step, ended, later, run}
 use Rattle.dry_run_outcome.proofs.RunLaws.{later_later, later_none, run_goes, run_stops}

@@ -40,7 +40,7 @@ use Rattle.formats.proofs.Formats.{Format}
 use Rattle.formats.specs.LineLoads.{LoadedConstant, into_at, value_loads, maybe_loads, immediate_loads, label_loads, offset_loads, encoding_loads, pseudo_loads}
 use Rattle.formats.specs.Operations.{Operation, encoded, pseudo, wants_of, line_of}
 use Rattle.loaded_lines.proofs.Loaded.{LoadedFirst, read_loads}
-use Rattle.loaded_lines.proofs.Forms.{form_from, FormFirst, Formed}
+use Rattle.loaded_lines.proofs.Forms.{form_from, Formed}
 
 -- ---- by operand
 

@@ -2,10 +2,8 @@
 -- reports none loads none (document 02, P2). Assumes nothing.
 use Rattle.std.specs.Prelude.{ℕ, ◌≡◌}
 use Rattle.std.proofs.Common.{sym, ap, ◌∙◌}
-use Rattle.std.proofs.Math.Option.{Option}
 use Rattle.jobs.specs.declared.Job.{Job}
 use Rattle.loading.specs.declared.LoadForm.{LoadForm}
-use Rattle.formats.specs.LineLoads.{LoadedConstant}
 use Rattle.formats.specs.Operations.{loads_of}
 use Rattle.lexer.specs.Tokens.{tokens}
 use Rattle.emit_outcome.specs.declared.EmitAnswer.TheVariants.{Done}

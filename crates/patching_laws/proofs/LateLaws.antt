@@ -9,7 +9,6 @@ use Rattle.jobs.specs.declared.Job.{Job}
 use Rattle.record.specs.declared.Location.{Location}
 use Rattle.refusal.specs.Verdicts.{and_then, layout_verdict, name_verdict}
 use Rattle.refusal.proofs.VerdictsLaws.{both_pass}
-use Rattle.refusal.specs.declared.Refusal.{Refusal}
 use Rattle.refusal.specs.declared.Refusal.TheVariants.{MissingRegion, OverwriteEdge, LateLine}
 use Rattle.refusal.specs.declared.Verdict.{Verdict}
 use Rattle.refusal.specs.declared.Verdict.TheVariants.{Pass, Stop}

@@ -1,6 +1,6 @@
 -- Patches of pendings that read as before, in regions that stand as before: growing and writing them, growing and putting them back, may
 -- change places, and what passed 14 to 16 passes still; and the kept words put back undo the writes (document 02, P12). Assumes nothing.
-use Rattle.std.specs.Prelude.{ℕ, ◌+◌, ◌-◌, ◌*◌, ◌^◌, ◌%◌, ◌≤◌, ◌≡◌, refl, length, drop}
+use Rattle.std.specs.Prelude.{ℕ, ◌+◌, ◌*◌, ◌^◌, ◌%◌, ◌≤◌, ◌≡◌, refl, length, drop}
 use Rattle.std.proofs.Common.{arith, inl, inr, sym, subst, ◌∙◌, length-take, le-leb}
 use mathlib.Core.List.{List, [], ◌∷◌, Memᴰ}
 use Rattle.std.proofs.Math.Path.{ap, ap₂}

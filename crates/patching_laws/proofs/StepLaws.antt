@@ -1,5 +1,5 @@
 -- A step keeps what holds, and answers by it: one more, the end, or a build's refusal (document 02, P12). Assumes nothing.
-use Rattle.std.specs.Prelude.{ℕ, zero, suc, ◌+◌, ◌-◌, ◌*◌, ◌≤◌, ◌<◌, ◌⊎◌, Bool, true, false, ◌≡◌, refl, length, get_or, take, drop, ltb, eqb}
+use Rattle.std.specs.Prelude.{ℕ, zero, suc, ◌+◌, ◌*◌, ◌≤◌, ◌<◌, Bool, true, false, ◌≡◌, refl, length, get_or, take, drop, ltb, eqb}
 use Rattle.std.proofs.Common.{add-one, arith, ⊎_elim, sym, ap₂, subst, ◌∙◌, length-take, length-drop, length-take-le, take-suc, ltb-true, ltb-false, eq-eqb, ne_eqb}
 use mathlib.Core.List.Memᴰ
 use mathlib.Core.List.{List, [], ◌∷◌, ◌++◌, Memᴰ}

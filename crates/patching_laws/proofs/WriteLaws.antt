@@ -1,6 +1,6 @@
 -- Patches of regions up to the one that grows: written and then grown is grown and then written; put back and then grown is grown and then
 -- put back; and what passed its checks passes them still (document 02, P12). Assumes nothing.
-use Rattle.std.specs.Prelude.{ℕ, ◌+◌, ◌-◌, ◌≤◌, ◌<◌, List, ◌⊎◌, ◌≡◌, take}
+use Rattle.std.specs.Prelude.{ℕ, ◌+◌, ◌≤◌, ◌<◌, List, ◌⊎◌, ◌≡◌, take}
 use Rattle.std.proofs.Common.{arith, inl, inr, sym, ◌∙◌, length-take-le, get_or-take}
 use Rattle.std.proofs.Math.Path.{ap}
 use Rattle.std.proofs.Math.ListN.{length}

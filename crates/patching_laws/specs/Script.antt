@@ -1,5 +1,5 @@
 -- A script: steps and lines one after the other, "each call to get what the last left" (document 02, P12). Assumes nothing.
-use Rattle.std.specs.Prelude.{ℕ, Bool, true, false}
+use Rattle.std.specs.Prelude.{ℕ}
 use mathlib.Core.List.{List, [], ◌∷◌, ◌++◌}
 use Rattle.jobs.specs.declared.Job.{Job}
 use Rattle.labels.specs.Labels.{Table}

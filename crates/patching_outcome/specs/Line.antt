@@ -25,8 +25,6 @@ use Rattle.emit_outcome.specs.Call.{Call, EmitOutcome, call_of, lent_of}
 use Rattle.emit_outcome.specs.Emit.{emit_outcome}
 use Rattle.emit_outcome.specs.declared.EmitAnswer.{EmitAnswer}
 use Rattle.emit_outcome.specs.declared.EmitAnswer.TheVariants.{Done, Refused}
-use Rattle.emit_outcome.specs.declared.FillCounts.{FillCounts}
-use Rattle.patching_outcome.specs.declared.PatchCounts.{PatchCounts}
 use Rattle.patching_outcome.specs.Patching.{Patching, regions_of, pendings_of, order_of, pendings_layout}
 use Rattle.patching_outcome.specs.Grown.{grown}
 

@@ -1,6 +1,6 @@
 -- The absolute value by a shift, an exclusive or and a difference. Assumes nothing.
-use Rattle.std.specs.Prelude.{ℕ, suc, ◌+◌, ◌-◌, ◌*◌, ◌/◌, ◌%◌, ◌^◌, ◌<◌, ◌≤◌, ◌≡◌, refl, Bool, true, false, ltb, nat_abs}
-use Rattle.std.proofs.Common.{arith, ap, ap₂, ◌∙◌, ltb-true, ltb-false}
+use Rattle.std.specs.Prelude.{ℕ, suc, ◌+◌, ◌-◌, ◌*◌, ◌%◌, ◌^◌, ◌<◌, ◌≤◌, ◌≡◌, refl, Bool, true, false, ltb, nat_abs}
+use Rattle.std.proofs.Common.{arith, ap, ◌∙◌, ltb-true, ltb-false}
 use Rattle.std.specs.Int.Bits.{bit_and, bit_xor, xor_zero_r, xor_add_and}
 use Rattle.std.proofs.lemmas.Nat.{and_mask}
 use Rattle.std.specs.Int.Signed.{shr_z}

@@ -26,7 +26,7 @@ use Rattle.pseudo_meaning.specs.Lines.{LineInBuild, line_pc}
 use Rattle.pseudo_meaning.specs.Meaning.{held_by, AbsMeans}
 use Rattle.pseudo_meaning.proofs.ExitLaws.{patched}
 use Rattle.pseudo_meaning.proofs.StartLaws.{given, given_length, given_reads}
-use Rattle.pseudo_meaning.proofs.PlainLineLaws.{PlainLine, plain_line, leaves, some_words}
+use Rattle.pseudo_meaning.proofs.PlainLineLaws.{plain_line, leaves, some_words}
 
 manual_format : (job : Job) (rt : ℕ) → by_manual job ≡ true → abs_format job rt ≡ register 0 0 rt 1 31 3
 manual_format Commit rt e = let z : ◌≡◌ {A = ℕ} 0 1 = cc in absurd (omega arith)

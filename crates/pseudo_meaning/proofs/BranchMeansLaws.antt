@@ -23,7 +23,7 @@ use Rattle.pseudo_meaning.specs.Premises.{Placed, Ready}
 use Rattle.pseudo_meaning.specs.Meaning.{held_by, value_of, Branches, line_run, BranchMeans}
 use Rattle.pseudo_meaning.proofs.ExitLaws.{patched, exit_standing}
 use Rattle.pseudo_meaning.proofs.StartLaws.{given, given_length, given_reads, value_same, first_kept, line_runs}
-use Rattle.pseudo_meaning.proofs.BranchLineLaws.{BranchLine, branch_line_is, branch_format, branch_pc, near, in_32, exit_words}
+use Rattle.pseudo_meaning.proofs.BranchLineLaws.{branch_line_is, branch_pc, near, in_32, exit_words}
 
 opcode_lt : (result : Bool) → ◌<◌ (elim result [ true ↦ 5 | false ↦ 4 ]) 64
 opcode_lt true = omega arith

@@ -1,5 +1,5 @@
 -- A comparison by one less-than, turned over or not. Assumes nothing.
-use Rattle.std.specs.Prelude.{ℕ, ◌<◌, ◌^◌, ◌≡◌, refl, Bool, true, false, not, cond, leb, ltb, eqb, ℤ, pos, negsuc}
+use Rattle.std.specs.Prelude.{ℕ, ◌≡◌, refl, Bool, true, false, not, leb, ltb, eqb, ℤ, pos, negsuc}
 use Rattle.std.proofs.Common.{sym, ltb-true, ltb-false, le-leb}
 use Rattle.std.specs.Int.Bits.{bit_xor}
 use Rattle.std.specs.Int.Signed.{lt_z, le_z}

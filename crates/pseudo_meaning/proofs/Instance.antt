@@ -1,6 +1,6 @@
 -- The premises of P11 can be met: a branch, a set with a literal, and abs, each emitted, built and run, and what the theorems say there.
 -- Assumes nothing.
-use Rattle.std.specs.Prelude.{ℕ, ◌≡◌, refl, true, false}
+use Rattle.std.specs.Prelude.{ℕ, refl, true, false}
 use Rattle.std.proofs.Common.{arith, subst}
 use Rattle.registers.specs.declared.RegisterSlot.TheVariants.{Temporary2}
 use Rattle.address_label.specs.declared.AddressLabel.TheVariants.{Constant}

@@ -1,8 +1,7 @@
 -- What computes on three lines alone: they are accepted, built, and stand where they should. Assumes nothing.
-use Rattle.std.specs.Prelude.{ℕ, ◌+◌, ◌*◌, ◌%◌, ◌<◌, true, false, ◌≡◌, refl, ltb, length}
+use Rattle.std.specs.Prelude.{ℕ, ◌+◌, ◌*◌, ◌%◌, true, false, ◌≡◌, refl, ltb, length}
 use Rattle.std.proofs.Common.{arith, sym, subst}
 use mathlib.Core.List.{List, [], ◌∷◌, ◌++◌, map, Memᴰ}
-use Rattle.jobs.specs.declared.Job.{Job}
 use Rattle.jobs.specs.declared.Job.TheVariants.{Commit, Manual}
 use Rattle.registers.specs.declared.RegisterSlot.TheVariants.{Temporary0, Temporary1, Temporary2}
 use Rattle.refusal.specs.declared.Verdict.TheVariants.{Pass}
@@ -20,7 +19,7 @@ use Rattle.emit_outcome.specs.declared.EmitAnswer.TheVariants.{Done}
 use Rattle.emit_outcome.specs.declared.Meaning.TheVariants.{Builtin}
 use Rattle.loading.specs.declared.LoadForm.{LoadForm}
 use Rattle.loading.specs.declared.LoadForm.TheVariants.{Nothing, Ori}
-use Rattle.field.specs.Field.{get_field, set_field}
+use Rattle.field.specs.Field.{set_field}
 use Rattle.record.specs.Bytes.{all, same_bytes}
 use Rattle.record.specs.Records.{places_f, places_from, places, first_bad, first_bad_of, within_limit}
 use Rattle.record.specs.Stores.{append}

@@ -1,6 +1,6 @@
 -- A dry run through the words of a line, wherever they stand: a comparison with its branch, a set, and abs. Assumes nothing.
-use Rattle.std.specs.Prelude.{ℕ, zero, suc, ◌+◌, ◌-◌, ◌*◌, ◌/◌, ◌%◌, ◌^◌, ◌<◌, ◌≤◌, ◌≡◌, refl, Bool, not, cond, List, [], ◌∷◌, ◌++◌, eqb, nat_abs}
-use Rattle.std.proofs.Common.{zero-add, arith, sym, ◌∙◌, subst, length-append}
+use Rattle.std.specs.Prelude.{ℕ, ◌+◌, ◌-◌, ◌^◌, ◌<◌, ◌≡◌, refl, Bool, not, cond, List, [], ◌∷◌, ◌++◌, eqb, nat_abs}
+use Rattle.std.proofs.Common.{zero-add, arith, sym, ◌∙◌}
 use Rattle.std.proofs.Math.Path.{ap, ap₂}
 use Rattle.std.proofs.Math.Bool.{true, false}
 use Rattle.std.specs.Int.Bits.{bit_xor}
@@ -16,24 +16,21 @@ use Rattle.loading.specs.Run.{Registers, read_register, write_register}
 use Rattle.loading.proofs.Loading.{read_chosen, read_other, length_write, loading_runs}
 use Rattle.reading.specs.Reading.{Image}
 use Rattle.machine.specs.Numbers.{wrap32, signed, bit}
-use Rattle.machine.specs.Instructions.{rs, rt}
 use Rattle.machine.specs.Effects.{next_pc, branch_target, branch_if}
-use Rattle.machine.specs.Step.{Step, goes, at, apply, step_word}
+use Rattle.machine.specs.Step.{goes, at, apply, step_word}
 use Rattle.machine.specs.declared.Machine.{Machine}
 use Rattle.machine.specs.declared.Reason.TheVariants.{Allowance}
-use Rattle.dry_run_outcome.specs.Fetch.{fetch}
-use Rattle.dry_run_outcome.specs.declared.Ran.{Ran}
-use Rattle.dry_run_outcome.specs.Run.{ended, later, run, ran_for}
+use Rattle.dry_run_outcome.specs.Run.{later, run, ran_for}
 use Rattle.dry_run_outcome.proofs.RunLaws.{later_none}
-use Rattle.formats.proofs.Formats.{Reads, RegisterFormat, ImmediateFormat, register, immediate}
+use Rattle.formats.proofs.Formats.{Reads, register, immediate}
 use Rattle.formats.proofs.EncodingFormats.{value_in}
 use Rattle.formats.specs.LineLoads.{value_loads, loading_words}
-use Rattle.formats.proofs.PseudoFormats.{less_than, compared}
+use Rattle.formats.proofs.PseudoFormats.{compared}
 use Rattle.pseudo_meaning.specs.Comparisons.{compares}
 use Rattle.pseudo_meaning.proofs.ComparisonsLaws.{less, or_not, compares_by, bit_set, bit_clear_lem, bit_turned}
 use Rattle.machine.proofs.WordStepsLaws.{setting, held, slt_step, subu_step, xor_step, sra_step, xori_step, beq_step, bne_step}
 use Rattle.pseudo_meaning.proofs.AbsLaws.{spread, abs_value}
-use Rattle.dry_run_outcome.proofs.StandingLaws.{Standing, none, next, pc_behind, standing_left, standing_right, word_goes, loads_run, LuisPlain}
+use Rattle.dry_run_outcome.proofs.StandingLaws.{Standing, none, next, pc_behind, standing_left, word_goes, loads_run, LuisPlain}
 
 -- ---- one word
 

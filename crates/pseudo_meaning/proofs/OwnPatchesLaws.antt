@@ -1,8 +1,7 @@
 -- What the pairs of a line come to: its words, its patches, and the pending record of its branch. Assumes nothing.
-use Rattle.std.specs.Prelude.{ℕ, suc, ◌+◌, ◌*◌, ◌^◌, ◌<◌, ◌≡◌, refl, Bool, true, false, List, [], ◌∷◌, ◌++◌, map, length}
+use Rattle.std.specs.Prelude.{ℕ, suc, ◌+◌, ◌≡◌, refl, Bool, true, false, List, [], ◌∷◌, ◌++◌, map, length}
 use Rattle.std.proofs.Common.{add-zero, zero-add, arith, sym, ap, ◌∙◌, append_assoc}
 use Rattle.jobs.specs.declared.Job.{Job}
-use Rattle.record.specs.Bytes.{part}
 use Rattle.address_label.specs.declared.AddressLabel.{AddressLabel}
 use Rattle.address_label.specs.LabelBytes.{name_bytes}
 use Rattle.pseudo_names.specs.declared.Pseudo.{Pseudo}
@@ -23,7 +22,7 @@ use Rattle.emit_dispatch.specs.Wants.{pseudo_wants}
 use Rattle.emit_dispatch.specs.Lines.{line_by, pseudo_pairs, pseudo_form, pseudo_line}
 use Rattle.emit_outcome.specs.Call.{Call}
 use Rattle.emit_outcome.specs.Emit.{start_of}
-use Rattle.formats.proofs.Formats.{Format, Has, InFormats, no_words, first}
+use Rattle.formats.proofs.Formats.{Format, InFormats, no_words, first}
 use Rattle.formats.specs.LineLoads.{value_loads, loading_words}
 use Rattle.routine.specs.PatchValues.{Patch, target_of, patch_at, origin_at, patch_to, patches_from}
 use Rattle.routine.specs.CallValues.{meaning_pairs, call_pairs}

@@ -1,5 +1,5 @@
 -- Where the words and the patches of a routine's line stand in what the routine leaves. Assumes nothing.
-use Rattle.std.specs.Prelude.{ℕ, ◌+◌, ◌*◌, ◌<◌, ◌≤◌, ◌≡◌, refl, Bool, cond, ◌⊎◌, length, take, drop}
+use Rattle.std.specs.Prelude.{ℕ, ◌+◌, ◌*◌, ◌<◌, ◌≤◌, ◌≡◌, refl, Bool, cond, ◌⊎◌, length, drop}
 use Rattle.std.proofs.Common.{arith, sym, ◌∙◌, subst, inl, inr, length-take, length-append, take_all, eq-eqb}
 use Rattle.std.proofs.Math.Path.{ap}
 use mathlib.Core.List.Memᴰ

@@ -23,7 +23,7 @@ use Rattle.pseudo_meaning.specs.Meaning.{held_by, value_of, SetMeans}
 use Rattle.pseudo_meaning.proofs.OwnPatchesLaws.{set_patches}
 use Rattle.pseudo_meaning.proofs.ExitLaws.{patched}
 use Rattle.pseudo_meaning.proofs.StartLaws.{given, given_length, given_reads, value_same, first_kept}
-use Rattle.pseudo_meaning.proofs.PlainLineLaws.{PlainLine, plain_line, leaves, some_words}
+use Rattle.pseudo_meaning.proofs.PlainLineLaws.{plain_line, leaves, some_words}
 
 module _ (image : Image) (pc : ℕ) (hp : pc < 2 ^ 32) (g : Registers) (hg : length g ≡ 32) (v : InstructionValue) (greater : Bool) (d a : ℕ) (hd : d < 32) (nd : d ≡ 0 → ⊥) (k : FirstKept a v) where
   set_rest : (result : Bool) {rest : List ℕ} → InFormats rest (compared greater false d a (value_in v) ∷ turned_formats result d) → Standing image pc (loading_words (value_loads v) ++ rest)

@@ -4,7 +4,7 @@ use Rattle.std.proofs.Common.{add-zero, arith, ap, ◌∙◌, length-append}
 use Rattle.registers.specs.Numbers.{register_number}
 use Rattle.registers.specs.declared.RegisterSlot.{RegisterSlot}
 use Rattle.pseudo_names.specs.declared.Pseudo.{Pseudo}
-use Rattle.pseudo_names.specs.declared.Pseudo.TheVariants.{BranchCustom, SetCustom, Seq, Sne}
+use Rattle.pseudo_names.specs.declared.Pseudo.TheVariants.{SetCustom, Seq, Sne}
 use Rattle.operand.specs.declared.InstructionValue.{InstructionValue}
 use Rattle.operand_list.specs.OperandLists.{AskedAll}
 use Rattle.emit_dispatch.specs.Wants.{pseudo_wants}
@@ -39,8 +39,8 @@ use Rattle.pseudo_meaning.specs.Stops.{StopsAfter, load_steps, BranchStops, SetS
 use Rattle.pseudo_meaning.proofs.OwnPatchesLaws.{set_patches, equal_patches, turned_equal_patches}
 use Rattle.pseudo_meaning.proofs.ExitLaws.{patched, exit_standing}
 use Rattle.pseudo_meaning.proofs.StartLaws.{given, given_length, line_runs}
-use Rattle.pseudo_meaning.proofs.PlainLineLaws.{PlainLine, plain_line, some_words}
-use Rattle.pseudo_meaning.proofs.BranchLineLaws.{BranchLine, branch_line_is, word_kept}
+use Rattle.pseudo_meaning.proofs.PlainLineLaws.{plain_line, some_words}
+use Rattle.pseudo_meaning.proofs.BranchLineLaws.{branch_line_is, word_kept}
 
 compare_stops : (greater : Bool) (w d a b : ℕ) (m : Machine) → Reads w (compared greater true d a b) → step_word w m ≡ stops Word
 compare_stops true w d a b m r = no_sltu w m r.opcode_is r.function_is

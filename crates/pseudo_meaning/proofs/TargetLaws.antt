@@ -1,5 +1,5 @@
 -- A finished branch goes to its destination. Assumes nothing.
-use Rattle.std.specs.Prelude.{ℕ, ◌+◌, ◌*◌, ◌/◌, ◌%◌, ◌^◌, ◌<◌, ◌≤◌, ◌≡◌}
+use Rattle.std.specs.Prelude.{ℕ, ◌+◌, ◌/◌, ◌%◌, ◌^◌, ◌<◌, ◌≤◌, ◌≡◌}
 use Rattle.std.proofs.Common.{arith, ap, ◌∙◌}
 use Rattle.word.specs.Layout.{immediate_layout}
 use Rattle.word.proofs.LayoutLaws.{get_opcode, get_rs, get_rt, get_immediate}

@@ -1,6 +1,6 @@
 -- The words of a whole line, those that load its literal and its own, run from their pc. Assumes nothing.
-use Rattle.std.specs.Prelude.{ℕ, suc, ◌+◌, ◌*◌, ◌%◌, ◌^◌, ◌<◌, ◌≤◌, ◌≡◌, refl, Bool, true, false, cond, List, [], ◌∷◌, ◌++◌, length}
-use Rattle.std.proofs.Common.{arith, sym, ap, ap₂, ◌∙◌, subst, length-append}
+use Rattle.std.specs.Prelude.{ℕ, ◌+◌, ◌*◌, ◌%◌, ◌^◌, ◌<◌, ◌≡◌, Bool, true, false, cond, List, [], ◌∷◌, ◌++◌, length}
+use Rattle.std.proofs.Common.{arith, ap, ap₂, ◌∙◌}
 use Rattle.operand.specs.declared.InstructionValue.{InstructionValue}
 use Rattle.loading.specs.Run.{Registers, read_register, write_register}
 use Rattle.loading.proofs.Loading.{read_chosen, read_other, length_write}
@@ -8,14 +8,12 @@ use Rattle.reading.specs.Reading.{Image}
 use Rattle.machine.specs.Numbers.{bit}
 use Rattle.machine.specs.Effects.{next_pc, branch_target}
 use Rattle.machine.specs.Step.{at}
-use Rattle.machine.specs.declared.Machine.{Machine}
 use Rattle.machine.specs.declared.Reason.TheVariants.{Allowance}
-use Rattle.dry_run_outcome.specs.declared.Ran.{Ran}
 use Rattle.dry_run_outcome.specs.Run.{later, run, ran_for}
-use Rattle.formats.proofs.Formats.{Has, Reads, InFormats, no_words, first, immediate}
+use Rattle.formats.proofs.Formats.{Reads, immediate}
 use Rattle.formats.proofs.EncodingFormats.{value_in}
 use Rattle.formats.specs.LineLoads.{value_loads, loading_words}
-use Rattle.formats.proofs.PseudoFormats.{compared, turned_formats}
+use Rattle.formats.proofs.PseudoFormats.{compared}
 use Rattle.pseudo_meaning.specs.Comparisons.{compares}
 use Rattle.pseudo_meaning.proofs.ComparisonsLaws.{less}
 use Rattle.dry_run_outcome.proofs.StandingLaws.{Standing, pc_behind, behind_is, standing_right}

@@ -1,9 +1,9 @@
 -- Words read where their bytes stand. Assumes nothing.
-use Rattle.std.specs.Prelude.{ℕ, zero, suc, ◌+◌, ◌*◌, ◌^◌, ◌<◌, ◌≤◌, ◌≡◌, refl, List, [], ◌∷◌, ◌++◌, length, get_or}
+use Rattle.std.specs.Prelude.{ℕ, zero, suc, ◌+◌, ◌*◌, ◌^◌, ◌<◌, ◌≡◌, List, [], ◌∷◌, length, get_or}
 use Rattle.std.proofs.Common.{arith, sym, ap, ◌∙◌}
 use Rattle.record.specs.Bytes.{le32, part}
 use Rattle.record.specs.Stores.{le32_bytes}
-use Rattle.record.proofs.BehindLaws.{le32_before, le32_behind, digits32}
+use Rattle.record.proofs.BehindLaws.{le32_behind, digits32}
 use Rattle.emit_pairs.specs.declared.InstructionPair.{InstructionPair}
 use Rattle.emit_bytes.specs.Appended.{word_bytes}
 use Rattle.formats.specs.Operations.{words_of}

@@ -1,5 +1,5 @@
 -- A line alone in region 0 at 0x00400000, emitted and built without labels. Assumes nothing.
-use Rattle.std.specs.Prelude.{ℕ, ◌+◌, List, [], ◌∷◌, ◌++◌, take, replicate, length}
+use Rattle.std.specs.Prelude.{ℕ, List, [], ◌∷◌, ◌++◌, take, replicate}
 use Rattle.jobs.specs.declared.Job.{Job}
 use Rattle.record.specs.Stores.{le32_bytes, record_bytes}
 use Rattle.labels.specs.Labels.{table_of}

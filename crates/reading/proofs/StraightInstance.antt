@@ -1,5 +1,5 @@
 -- Without owners the premises are met by a pair whose names have two sources, and it reads back. Assumes nothing.
-use Rattle.std.specs.Prelude.{ℕ, ◌+◌, ◌%◌, ◌≤◌, List, [], ◌∷◌, ◌⊎◌, ◌≡◌, refl}
+use Rattle.std.specs.Prelude.{ℕ, ◌+◌, ◌%◌, ◌≤◌, [], ◌∷◌, ◌⊎◌, ◌≡◌, refl}
 use Rattle.std.proofs.Common.{arith, ⊎_elim, inl, inr, sym, subst, ◌∙◌}
 use mathlib.Core.List.Memᴰ
 use Rattle.jobs.specs.declared.Job.{Job}

@@ -1,5 +1,5 @@
 -- What the operand readers give of tokens that fit: each label fits a pending record. Assumes nothing.
-use Rattle.std.specs.Prelude.{ℕ, ◌+◌, ◌^◌, ◌<◌, List, Bool, length, get_or, ltb}
+use Rattle.std.specs.Prelude.{ℕ, ◌^◌, ◌<◌, List, Bool, length, get_or, ltb}
 use Rattle.std.proofs.Common.{arith}
 use Rattle.std.proofs.Math.Bool.{true, false}
 use Rattle.record.specs.Stores.{LocationFits}

@@ -7,7 +7,7 @@ use Rattle.record.specs.Bytes.{same_bytes}
 use Rattle.record.specs.Records.{next, whole, places_from, places}
 use Rattle.record.proofs.RecordsLaws.{places_all, places_step, places_end, places_cons}
 use Rattle.macros.specs.Macros.{Macro, macros_of}
-use Rattle.written_out.specs.Written.{macro, called}
+use Rattle.written_out.specs.Written.{called}
 use Rattle.written_out.specs.Above.{macro_at, above_from, above, Found, missing, found}
 
 module _ (s : List ℕ) where

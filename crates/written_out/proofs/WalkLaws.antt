@@ -1,5 +1,5 @@
 -- Writing out token by token is writing out line by line. Assumes nothing.
-use Rattle.std.specs.Prelude.{ℕ, suc, ◌+◌, Bool, ◌&&◌, ◌≡◌, drop, eqb}
+use Rattle.std.specs.Prelude.{ℕ, suc, Bool, ◌&&◌, ◌≡◌, drop, eqb}
 use mathlib.Core.List.{List, [], ◌∷◌, ◌++◌, map, append_assoc}
 use Rattle.std.proofs.Math.Bool.{true, false}
 use Rattle.std.proofs.lemmas.Bool.{false≢true}

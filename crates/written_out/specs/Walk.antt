@@ -1,5 +1,5 @@
 -- Writing out token by token: what the next token is met with, and that it is the same as line by line. Assumes nothing.
-use Rattle.std.specs.Prelude.{ℕ, ◌+◌, ◌||◌}
+use Rattle.std.specs.Prelude.{ℕ, ◌||◌}
 use mathlib.Core.List.{List, [], ◌∷◌, ◌++◌}
 use Rattle.std.proofs.Math.Bool.{true, false}
 use Rattle.record.specs.Bytes.{location_at}
