@@ -1,4 +1,4 @@
-// The library to link: a build and a line in each sort of job, the counts of a range, a text's tokens, a dry run, a list with its macros written out, a page, a line with an index, an index made afresh, patching by steps and a lookup of a label by the C calling convention, where a slice goes as a pointer and a length.
+// The linked calls: a build and a line in each sort of job, the counts of a range, a text's tokens, a dry run, a list with its macros written out, a page, a line with an index, an index made afresh, patching by steps and a lookup of a label, each with its answer as bytes. nazgwern_c exports them to C.
 #![tactic(auto)]
 
 ghost use Rattle.std.specs.Prelude.{◌≡◌};
@@ -19,8 +19,7 @@ use emit_outcome::LinePlace;
 use jobs::Job;
 
 // Patches the regions in place or refuses: linked_build says how.
-#[unsafe(no_mangle)]
-pub extern "C" fn nazgwern_build(
+pub fn nazgwern_build(
     labels: &[u8],
     entry: &[u8],
     regions: &mut [u8],
@@ -34,8 +33,7 @@ pub extern "C" fn nazgwern_build(
 }
 
 // The same by the manual.
-#[unsafe(no_mangle)]
-pub extern "C" fn nazgwern_build_manual(
+pub fn nazgwern_build_manual(
     labels: &[u8],
     entry: &[u8],
     regions: &mut [u8],
@@ -49,8 +47,7 @@ pub extern "C" fn nazgwern_build_manual(
 }
 
 // Emits a line into the buffers or refuses it: linked_line says how.
-#[unsafe(no_mangle)]
-pub extern "C" fn nazgwern_do_instruction(
+pub fn nazgwern_do_instruction(
     tokens: &[u8],
     mnemonic: &[u8],
     descriptors: &[u8],
@@ -93,8 +90,7 @@ pub extern "C" fn nazgwern_do_instruction(
 }
 
 // The same in a job by the manual.
-#[unsafe(no_mangle)]
-pub extern "C" fn nazgwern_do_manual_instruction(
+pub fn nazgwern_do_manual_instruction(
     tokens: &[u8],
     mnemonic: &[u8],
     descriptors: &[u8],
@@ -137,8 +133,7 @@ pub extern "C" fn nazgwern_do_manual_instruction(
 }
 
 // The same in a job for a Release 6 board.
-#[unsafe(no_mangle)]
-pub extern "C" fn nazgwern_do_release_6_instruction(
+pub fn nazgwern_do_release_6_instruction(
     tokens: &[u8],
     mnemonic: &[u8],
     descriptors: &[u8],
@@ -181,13 +176,7 @@ pub extern "C" fn nazgwern_do_release_6_instruction(
 }
 
 // Counts the constants of a range by their forms or refuses: linked_count says how.
-#[unsafe(no_mangle)]
-pub extern "C" fn nazgwern_count_forms(
-    start: u32,
-    end: u32,
-    counts: &mut [u8],
-    answer: &mut [u8],
-) -> u32
+pub fn nazgwern_count_forms(start: u32, end: u32, counts: &mut [u8], answer: &mut [u8]) -> u32
     ensures { linked_count start end counts.old answer.old
         ≡ (record { result = result; counts = counts.new; answer = answer.new }) }
 {
@@ -195,13 +184,7 @@ pub extern "C" fn nazgwern_count_forms(
 }
 
 // Reads a text into token records or refuses: linked_text says how.
-#[unsafe(no_mangle)]
-pub extern "C" fn nazgwern_read_text(
-    text: &[u8],
-    source: u32,
-    tokens: &mut [u8],
-    answer: &mut [u8],
-) -> u32
+pub fn nazgwern_read_text(text: &[u8], source: u32, tokens: &mut [u8], answer: &mut [u8]) -> u32
     ensures { linked_text text.now source tokens.old answer.old
         ≡ (record { result = result; tokens = tokens.new; answer = answer.new }) }
 {
@@ -209,8 +192,7 @@ pub extern "C" fn nazgwern_read_text(
 }
 
 // Runs a region list dry or refuses: linked_dry_run says how.
-#[unsafe(no_mangle)]
-pub extern "C" fn nazgwern_dry_run(
+pub fn nazgwern_dry_run(
     regions: &[u8],
     registers: &mut [u8],
     pc: u32,
@@ -224,13 +206,7 @@ pub extern "C" fn nazgwern_dry_run(
 }
 
 // Writes a token list's macros out or refuses: linked_macros says how.
-#[unsafe(no_mangle)]
-pub extern "C" fn nazgwern_write_out(
-    tokens: &[u8],
-    macros: &[u8],
-    out: &mut [u8],
-    answer: &mut [u8],
-) -> u32
+pub fn nazgwern_write_out(tokens: &[u8], macros: &[u8], out: &mut [u8], answer: &mut [u8]) -> u32
     ensures { linked_macros tokens.now macros.now out.old answer.old
         ≡ (record { result = result; out = out.new; answer = answer.new }) }
 {
@@ -238,13 +214,7 @@ pub extern "C" fn nazgwern_write_out(
 }
 
 // Lays a region list out with its labels or refuses: linked_page says how.
-#[unsafe(no_mangle)]
-pub extern "C" fn nazgwern_lay_out(
-    labels: &[u8],
-    regions: &[u8],
-    page: &mut [u8],
-    answer: &mut [u8],
-) -> u32
+pub fn nazgwern_lay_out(labels: &[u8], regions: &[u8], page: &mut [u8], answer: &mut [u8]) -> u32
     ensures { linked_page labels.now regions.now page.old answer.old
         ≡ (record { result = result; page = page.new; answer = answer.new }) }
 {
@@ -252,8 +222,7 @@ pub extern "C" fn nazgwern_lay_out(
 }
 
 // Patches one pending, ends or refuses: linked_patching says how.
-#[unsafe(no_mangle)]
-pub extern "C" fn nazgwern_patch_step(
+pub fn nazgwern_patch_step(
     labels: &[u8],
     entry: &[u8],
     regions: &mut [u8],
@@ -279,8 +248,7 @@ pub extern "C" fn nazgwern_patch_step(
 }
 
 // The same by the manual.
-#[unsafe(no_mangle)]
-pub extern "C" fn nazgwern_patch_step_manual(
+pub fn nazgwern_patch_step_manual(
     labels: &[u8],
     entry: &[u8],
     regions: &mut [u8],
@@ -306,8 +274,7 @@ pub extern "C" fn nazgwern_patch_step_manual(
 }
 
 // Appends a line while patching runs or refuses it: linked_patching says how.
-#[unsafe(no_mangle)]
-pub extern "C" fn nazgwern_patch_line(
+pub fn nazgwern_patch_line(
     tokens: &[u8],
     mnemonic: &[u8],
     descriptors: &[u8],
@@ -346,8 +313,7 @@ pub extern "C" fn nazgwern_patch_line(
 }
 
 // The same in a job by the manual.
-#[unsafe(no_mangle)]
-pub extern "C" fn nazgwern_patch_manual_line(
+pub fn nazgwern_patch_manual_line(
     tokens: &[u8],
     mnemonic: &[u8],
     descriptors: &[u8],
@@ -386,8 +352,7 @@ pub extern "C" fn nazgwern_patch_manual_line(
 }
 
 // The same in a job for a Release 6 board.
-#[unsafe(no_mangle)]
-pub extern "C" fn nazgwern_patch_release_6_line(
+pub fn nazgwern_patch_release_6_line(
     tokens: &[u8],
     mnemonic: &[u8],
     descriptors: &[u8],
@@ -426,21 +391,14 @@ pub extern "C" fn nazgwern_patch_release_6_line(
 }
 
 // Looks a label up or refuses: linked_label says how.
-#[unsafe(no_mangle)]
-pub extern "C" fn nazgwern_find_label(
-    labels: &[u8],
-    name: &[u8],
-    source: u32,
-    answer: &mut [u8],
-) -> u32
+pub fn nazgwern_find_label(labels: &[u8], name: &[u8], source: u32, answer: &mut [u8]) -> u32
     ensures { linked_find labels.now name.now source answer.old ≡ (record { result = result; answer = answer.new }) }
 {
     linked_label::find_label(labels, name, source, answer)
 }
 
 // Emits a line in the job of a number and updates the index of label uses, or refuses: linked_index says how.
-#[unsafe(no_mangle)]
-pub extern "C" fn nazgwern_do_indexed(
+pub fn nazgwern_do_indexed(
     tokens: &[u8],
     mnemonic: &[u8],
     descriptors: &[u8],
@@ -489,8 +447,7 @@ pub extern "C" fn nazgwern_do_indexed(
 }
 
 // Makes an index of label uses afresh or refuses: linked_index says how.
-#[unsafe(no_mangle)]
-pub extern "C" fn nazgwern_make_index(
+pub fn nazgwern_make_index(
     pending: &[u8],
     fill: u32,
     labels: &[u8],

@@ -1,0 +1,468 @@
+// The library to link, libnazgwern.a: the calls of nazgwern by the C calling convention, where a slice goes as a pointer and a length. Each export
+// calls the function of its name there and promises the same.
+#![tactic(auto)]
+
+ghost use Rattle.std.specs.Prelude.{◌≡◌};
+ghost use Rattle.emit_outcome.specs.Call.{lent_of};
+ghost use Rattle.linked_build.specs.LinkedBuild.{linked_build_by, linked_build};
+ghost use Rattle.linked_line.specs.LinkedLine.{linked_line_by, linked_line};
+ghost use Rattle.linked_count.specs.LinkedCount.{linked_count};
+ghost use Rattle.linked_text.specs.LinkedText.{linked_text};
+ghost use Rattle.linked_dry_run.specs.LinkedDryRun.{linked_dry_run};
+ghost use Rattle.linked_macros.specs.LinkedMacros.{linked_macros};
+ghost use Rattle.linked_page.specs.LinkedPage.{linked_page};
+ghost use Rattle.linked_index.specs.LinkedIndex.{linked_indexed, linked_make};
+ghost use Rattle.linked_label.specs.LinkedLabel.{linked_find};
+ghost use Rattle.linked_patching.specs.LinkedPatching.{linked_step, linked_patch_line};
+ghost use Rattle.patching_line.specs.Contract.{given_of};
+
+use jobs::Job;
+
+// Patches the regions in place or refuses: linked_build says how.
+#[unsafe(no_mangle)]
+pub extern "C" fn nazgwern_build(
+    labels: &[u8],
+    entry: &[u8],
+    regions: &mut [u8],
+    pending: &[u8],
+    answer: &mut [u8],
+) -> u32
+    ensures { linked_build labels.now entry.now regions.old pending.now answer.old
+        ≡ (record { result = result; regions = regions.new; answer = answer.new }) }
+{
+    nazgwern::nazgwern_build(labels, entry, regions, pending, answer)
+}
+
+// The same by the manual.
+#[unsafe(no_mangle)]
+pub extern "C" fn nazgwern_build_manual(
+    labels: &[u8],
+    entry: &[u8],
+    regions: &mut [u8],
+    pending: &[u8],
+    answer: &mut [u8],
+) -> u32
+    ensures { linked_build_by Job.Manual labels.now entry.now regions.old pending.now answer.old
+        ≡ (record { result = result; regions = regions.new; answer = answer.new }) }
+{
+    nazgwern::nazgwern_build_manual(labels, entry, regions, pending, answer)
+}
+
+// Emits a line into the buffers or refuses it: linked_line says how.
+#[unsafe(no_mangle)]
+pub extern "C" fn nazgwern_do_instruction(
+    tokens: &[u8],
+    mnemonic: &[u8],
+    descriptors: &[u8],
+    data: &mut [u8],
+    pending: &mut [u8],
+    breakpoints: &mut [u8],
+    counts: &mut [u8],
+    position: u32,
+    region: u16,
+    address: u32,
+    answer: &mut [u8],
+) -> u32
+    ensures { linked_line tokens.now mnemonic.now descriptors.now
+        (lent_of «data».old pending.old breakpoints.old) counts.old
+        (record { position = position; region = region; address = address }) answer.old
+        ≡ (record {
+          result = result;
+          lent = lent_of «data».new pending.new breakpoints.new;
+          counts = counts.new;
+          answer = answer.new;
+        }) }
+{
+    nazgwern::nazgwern_do_instruction(
+        tokens,
+        mnemonic,
+        descriptors,
+        data,
+        pending,
+        breakpoints,
+        counts,
+        position,
+        region,
+        address,
+        answer,
+    )
+}
+
+// The same in a job by the manual.
+#[unsafe(no_mangle)]
+pub extern "C" fn nazgwern_do_manual_instruction(
+    tokens: &[u8],
+    mnemonic: &[u8],
+    descriptors: &[u8],
+    data: &mut [u8],
+    pending: &mut [u8],
+    breakpoints: &mut [u8],
+    counts: &mut [u8],
+    position: u32,
+    region: u16,
+    address: u32,
+    answer: &mut [u8],
+) -> u32
+    ensures { linked_line_by Job.Manual tokens.now mnemonic.now descriptors.now
+        (lent_of «data».old pending.old breakpoints.old) counts.old
+        (record { position = position; region = region; address = address }) answer.old
+        ≡ (record {
+          result = result;
+          lent = lent_of «data».new pending.new breakpoints.new;
+          counts = counts.new;
+          answer = answer.new;
+        }) }
+{
+    nazgwern::nazgwern_do_manual_instruction(
+        tokens,
+        mnemonic,
+        descriptors,
+        data,
+        pending,
+        breakpoints,
+        counts,
+        position,
+        region,
+        address,
+        answer,
+    )
+}
+
+// The same in a job for a Release 6 board.
+#[unsafe(no_mangle)]
+pub extern "C" fn nazgwern_do_release_6_instruction(
+    tokens: &[u8],
+    mnemonic: &[u8],
+    descriptors: &[u8],
+    data: &mut [u8],
+    pending: &mut [u8],
+    breakpoints: &mut [u8],
+    counts: &mut [u8],
+    position: u32,
+    region: u16,
+    address: u32,
+    answer: &mut [u8],
+) -> u32
+    ensures { linked_line_by Job.Release6 tokens.now mnemonic.now descriptors.now
+        (lent_of «data».old pending.old breakpoints.old) counts.old
+        (record { position = position; region = region; address = address }) answer.old
+        ≡ (record {
+          result = result;
+          lent = lent_of «data».new pending.new breakpoints.new;
+          counts = counts.new;
+          answer = answer.new;
+        }) }
+{
+    nazgwern::nazgwern_do_release_6_instruction(
+        tokens,
+        mnemonic,
+        descriptors,
+        data,
+        pending,
+        breakpoints,
+        counts,
+        position,
+        region,
+        address,
+        answer,
+    )
+}
+
+// Counts the constants of a range by their forms or refuses: linked_count says how.
+#[unsafe(no_mangle)]
+pub extern "C" fn nazgwern_count_forms(
+    start: u32,
+    end: u32,
+    counts: &mut [u8],
+    answer: &mut [u8],
+) -> u32
+    ensures { linked_count start end counts.old answer.old
+        ≡ (record { result = result; counts = counts.new; answer = answer.new }) }
+{
+    nazgwern::nazgwern_count_forms(start, end, counts, answer)
+}
+
+// Reads a text into token records or refuses: linked_text says how.
+#[unsafe(no_mangle)]
+pub extern "C" fn nazgwern_read_text(
+    text: &[u8],
+    source: u32,
+    tokens: &mut [u8],
+    answer: &mut [u8],
+) -> u32
+    ensures { linked_text text.now source tokens.old answer.old
+        ≡ (record { result = result; tokens = tokens.new; answer = answer.new }) }
+{
+    nazgwern::nazgwern_read_text(text, source, tokens, answer)
+}
+
+// Runs a region list dry or refuses: linked_dry_run says how.
+#[unsafe(no_mangle)]
+pub extern "C" fn nazgwern_dry_run(
+    regions: &[u8],
+    registers: &mut [u8],
+    pc: u32,
+    allowance: u32,
+    answer: &mut [u8],
+) -> u32
+    ensures { linked_dry_run regions.now registers.old pc allowance answer.old
+        ≡ (record { result = result; registers = registers.new; answer = answer.new }) }
+{
+    nazgwern::nazgwern_dry_run(regions, registers, pc, allowance, answer)
+}
+
+// Writes a token list's macros out or refuses: linked_macros says how.
+#[unsafe(no_mangle)]
+pub extern "C" fn nazgwern_write_out(
+    tokens: &[u8],
+    macros: &[u8],
+    out: &mut [u8],
+    answer: &mut [u8],
+) -> u32
+    ensures { linked_macros tokens.now macros.now out.old answer.old
+        ≡ (record { result = result; out = out.new; answer = answer.new }) }
+{
+    nazgwern::nazgwern_write_out(tokens, macros, out, answer)
+}
+
+// Lays a region list out with its labels or refuses: linked_page says how.
+#[unsafe(no_mangle)]
+pub extern "C" fn nazgwern_lay_out(
+    labels: &[u8],
+    regions: &[u8],
+    page: &mut [u8],
+    answer: &mut [u8],
+) -> u32
+    ensures { linked_page labels.now regions.now page.old answer.old
+        ≡ (record { result = result; page = page.new; answer = answer.new }) }
+{
+    nazgwern::nazgwern_lay_out(labels, regions, page, answer)
+}
+
+// Patches one pending, ends or refuses: linked_patching says how.
+#[unsafe(no_mangle)]
+pub extern "C" fn nazgwern_patch_step(
+    labels: &[u8],
+    entry: &[u8],
+    regions: &mut [u8],
+    pending: &[u8],
+    kept: &mut [u8],
+    state: &mut [u8],
+    answer: &mut [u8],
+) -> u32
+    ensures { linked_step Job.Commit labels.now entry.now regions.old pending.now kept.old
+        state.old answer.old
+        ≡ (record { result = result; regions = regions.new; kept = kept.new; state = state.new; answer = answer.new }) }
+{
+    nazgwern::nazgwern_patch_step(labels, entry, regions, pending, kept, state, answer)
+}
+
+// The same by the manual.
+#[unsafe(no_mangle)]
+pub extern "C" fn nazgwern_patch_step_manual(
+    labels: &[u8],
+    entry: &[u8],
+    regions: &mut [u8],
+    pending: &[u8],
+    kept: &mut [u8],
+    state: &mut [u8],
+    answer: &mut [u8],
+) -> u32
+    ensures { linked_step Job.Manual labels.now entry.now regions.old pending.now kept.old
+        state.old answer.old
+        ≡ (record { result = result; regions = regions.new; kept = kept.new; state = state.new; answer = answer.new }) }
+{
+    nazgwern::nazgwern_patch_step_manual(labels, entry, regions, pending, kept, state, answer)
+}
+
+// Appends a line while patching runs or refuses it: linked_patching says how.
+#[unsafe(no_mangle)]
+pub extern "C" fn nazgwern_patch_line(
+    tokens: &[u8],
+    mnemonic: &[u8],
+    descriptors: &[u8],
+    regions: &mut [u8],
+    pending: &mut [u8],
+    breakpoints: &mut [u8],
+    state: &mut [u8],
+    position: u32,
+    region: u16,
+    answer: &mut [u8],
+) -> u32
+    ensures { linked_patch_line Job.Commit (given_of tokens.now mnemonic.now descriptors.now position region)
+        regions.old pending.old breakpoints.old state.old answer.old
+        ≡ (record {
+          result = result;
+          regions = regions.new;
+          pending = pending.new;
+          breakpoints = breakpoints.new;
+          state = state.new;
+          answer = answer.new;
+        }) }
+{
+    nazgwern::nazgwern_patch_line(
+        tokens,
+        mnemonic,
+        descriptors,
+        regions,
+        pending,
+        breakpoints,
+        state,
+        position,
+        region,
+        answer,
+    )
+}
+
+// The same in a job by the manual.
+#[unsafe(no_mangle)]
+pub extern "C" fn nazgwern_patch_manual_line(
+    tokens: &[u8],
+    mnemonic: &[u8],
+    descriptors: &[u8],
+    regions: &mut [u8],
+    pending: &mut [u8],
+    breakpoints: &mut [u8],
+    state: &mut [u8],
+    position: u32,
+    region: u16,
+    answer: &mut [u8],
+) -> u32
+    ensures { linked_patch_line Job.Manual (given_of tokens.now mnemonic.now descriptors.now position region)
+        regions.old pending.old breakpoints.old state.old answer.old
+        ≡ (record {
+          result = result;
+          regions = regions.new;
+          pending = pending.new;
+          breakpoints = breakpoints.new;
+          state = state.new;
+          answer = answer.new;
+        }) }
+{
+    nazgwern::nazgwern_patch_manual_line(
+        tokens,
+        mnemonic,
+        descriptors,
+        regions,
+        pending,
+        breakpoints,
+        state,
+        position,
+        region,
+        answer,
+    )
+}
+
+// The same in a job for a Release 6 board.
+#[unsafe(no_mangle)]
+pub extern "C" fn nazgwern_patch_release_6_line(
+    tokens: &[u8],
+    mnemonic: &[u8],
+    descriptors: &[u8],
+    regions: &mut [u8],
+    pending: &mut [u8],
+    breakpoints: &mut [u8],
+    state: &mut [u8],
+    position: u32,
+    region: u16,
+    answer: &mut [u8],
+) -> u32
+    ensures { linked_patch_line Job.Release6 (given_of tokens.now mnemonic.now descriptors.now position region)
+        regions.old pending.old breakpoints.old state.old answer.old
+        ≡ (record {
+          result = result;
+          regions = regions.new;
+          pending = pending.new;
+          breakpoints = breakpoints.new;
+          state = state.new;
+          answer = answer.new;
+        }) }
+{
+    nazgwern::nazgwern_patch_release_6_line(
+        tokens,
+        mnemonic,
+        descriptors,
+        regions,
+        pending,
+        breakpoints,
+        state,
+        position,
+        region,
+        answer,
+    )
+}
+
+// Looks a label up or refuses: linked_label says how.
+#[unsafe(no_mangle)]
+pub extern "C" fn nazgwern_find_label(
+    labels: &[u8],
+    name: &[u8],
+    source: u32,
+    answer: &mut [u8],
+) -> u32
+    ensures { linked_find labels.now name.now source answer.old ≡ (record { result = result; answer = answer.new }) }
+{
+    nazgwern::nazgwern_find_label(labels, name, source, answer)
+}
+
+// Emits a line in the job of a number and updates the index of label uses, or refuses: linked_index says how.
+#[unsafe(no_mangle)]
+pub extern "C" fn nazgwern_do_indexed(
+    tokens: &[u8],
+    mnemonic: &[u8],
+    descriptors: &[u8],
+    data: &mut [u8],
+    pending: &mut [u8],
+    breakpoints: &mut [u8],
+    labels: &[u8],
+    index: &mut [u8],
+    counts: &mut [u8],
+    position: u32,
+    region: u16,
+    address: u32,
+    job: u32,
+    answer: &mut [u8],
+) -> u32
+    ensures { linked_indexed tokens.now mnemonic.now descriptors.now
+        (lent_of «data».old pending.old breakpoints.old) labels.now index.old counts.old
+        (record { position = position; region = region; address = address }) job answer.old
+        ≡ (record {
+          result = result;
+          lent = lent_of «data».new pending.new breakpoints.new;
+          index = index.new;
+          counts = counts.new;
+          answer = answer.new;
+        }) }
+{
+    nazgwern::nazgwern_do_indexed(
+        tokens,
+        mnemonic,
+        descriptors,
+        data,
+        pending,
+        breakpoints,
+        labels,
+        index,
+        counts,
+        position,
+        region,
+        address,
+        job,
+        answer,
+    )
+}
+
+// Makes an index of label uses afresh or refuses: linked_index says how.
+#[unsafe(no_mangle)]
+pub extern "C" fn nazgwern_make_index(
+    pending: &[u8],
+    fill: u32,
+    labels: &[u8],
+    index: &mut [u8],
+    answer: &mut [u8],
+) -> u32
+    ensures { linked_make pending.now fill labels.now index.old answer.old
+        ≡ (record { result = result; index = index.new; answer = answer.new }) }
+{
+    nazgwern::nazgwern_make_index(pending, fill, labels, index, answer)
+}
