@@ -9,9 +9,6 @@ ghost use Rattle.input.specs.Input.{list_of};
 ghost use Rattle.text.specs.Text.{Put};
 ghost use Rattle.replay_text.specs.Replay.{built_met, build_met, emitted_met, line_met, call_met, counted, tally_of, tally_text, replay_text};
 
-use emit_outcome::LinePlace;
-use jobs::Job;
-
 // Room for the list of calls.
 pub const MOST: usize = 0x40_0000;
 
@@ -43,8 +40,7 @@ fn is_built(call: &[u8], regions: &mut [u8]) -> bool
     ensures { result ≡ built_met call.now regions.old }
 {
     let mut answer = [0u8; 24];
-    linked_build::build(
-        Job::Commit,
+    nazgwern::nazgwern_build(
         input::list_of(call, 0),
         input::list_of(call, 1),
         &mut *regions,
@@ -74,14 +70,8 @@ fn is_emitted(
         (lent_of «data».old pending.old breakpoints.old) counts.old }
 {
     let mut answer = [0u8; 24];
-    let numbers = input::list_of(call, 7);
-    let place = LinePlace {
-        position: input::word_or_zero(numbers, 0),
-        region: input::half_or_zero(numbers, 4),
-        address: input::word_or_zero(numbers, 6),
-    };
-    linked_line::do_instruction(
-        Job::Commit,
+    let place = input::list_of(call, 7);
+    nazgwern::nazgwern_do_instruction(
         input::list_of(call, 0),
         input::list_of(call, 1),
         input::list_of(call, 2),
@@ -89,7 +79,9 @@ fn is_emitted(
         &mut *pending,
         &mut *breakpoints,
         &mut *counts,
-        place,
+        input::word_or_zero(place, 0),
+        input::half_or_zero(place, 4),
+        input::word_or_zero(place, 6),
         &mut answer,
     );
     let is_answer_met = both(is_list(call, 8, &answer), is_list(call, 9, &*counts));
