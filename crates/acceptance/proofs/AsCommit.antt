@@ -1,5 +1,5 @@
 -- A job by the manual whose line or build has none of the listed points does what the commit does. Assumes nothing.
-use Rattle.std.specs.Prelude.{ℕ, ◌+◌, ◌/◌, ◌≤◌, ◌≡◌, refl, ◌⊎◌, true, false, List, ◌++◌, []}
+use Rattle.std.specs.Prelude.{ℕ, ◌+◌, ◌/◌, ◌≤◌, ◌≡◌, refl, ◌⊎◌, true, false, List, ◌++◌, [], Err, Ok}
 use Rattle.std.proofs.Common.{arith, sym, ap, subst, ◌∙◌, inl, inr, ⊎_elim, le-leb}
 use Rattle.instructions.specs.declared.Opcode.{Opcode}
 use Rattle.instructions.specs.declared.Size.TheVariants.{Single, Double, Word}
@@ -9,9 +9,6 @@ use Rattle.jobs.specs.declared.Job.{Job}
 use Rattle.jobs.specs.declared.Job.TheVariants.{Commit, Manual}
 use Rattle.pseudo_names.specs.declared.Pseudo.{Pseudo}
 use Rattle.pseudo_names.specs.declared.Pseudo.TheVariants.{Nop, Abs, BranchCustom, SetCustom, Beqz, Bnez, Seq, Sne, Neg, Negu, Not, Li, La, Move, B, Subi, Subiu}
-use Rattle.refusal.specs.declared.Verdict.{Verdict}
-use Rattle.refusal.specs.declared.Verdict.TheVariants.{Pass, Stop}
-use Rattle.emit_pairs.specs.declared.Range.TheVariants.{Within}
 use Rattle.labels.specs.Labels.{Table as LabelTable, table_of}
 use Rattle.lexer.specs.Tokens.{tokens, payload_of}
 use Rattle.operand.specs.Answers.{Answer, Got, Missed}
@@ -62,7 +59,7 @@ use Rattle.address_label.specs.AddressLabels.{address_label_ok}
 use Rattle.lexer.specs.Tokens.{payload_ok, token_ok, token_layout}
 use Rattle.loading.specs.Load.{is_small, form_of, load_words}
 use Rattle.names.specs.Names.{first_later}
-use Rattle.refusal.specs.Verdicts.{first_stop}
+use Rattle.refusal.specs.Verdicts.{first_stop, Verdict}
 use Rattle.record.specs.Records.{first_bad, first_bad_of, within_limit}
 use Rattle.example_lists.specs.Lists.{as_bytes, pcs_from, «abs»}
 use Rattle.build_outcome.specs.Build.{build_verdict, layout_verdicts, write_patches, order_from, keep}
@@ -142,20 +139,20 @@ abs_same c h = go (read_operands (pseudo_wants Abs) (tokens c.token_list) (start
     i = (read_operands (pseudo_wants Abs) (tokens c.token_list) (start_of c)).index
 
     made : Job → Answer (AskedAll (pseudo_wants Abs)) → Line
-    made job a = line_by a i (λ x. Within) (pseudo_pairs job Abs) (pseudo_form Abs)
+    made job a = line_by a i (λ x. (Ok tt)) (pseudo_pairs job Abs) (pseudo_form Abs)
 
     stopped : (x : AskedAll (pseudo_wants Abs)) (v : Verdict) → IsRefused (accept_or c.token_list (mnemonic_location c.mnemonic) c.numbers c.lent (made Commit (Got x)) v).answer
         → accept_or c.token_list (mnemonic_location c.mnemonic) c.numbers c.lent (made Manual (Got x)) v
         ≡ accept_or c.token_list (mnemonic_location c.mnemonic) c.numbers c.lent (made Commit (Got x)) v
-    stopped x Pass h = absurd h
-    stopped x (Stop r) h = refl
+    stopped x (Ok tt) h = absurd h
+    stopped x (Err r) h = refl
 
     go : (a : Answer (AskedAll (pseudo_wants Abs))) → IsRefused (call_line c (made Commit a)).answer → call_line c (made Manual a) ≡ call_line c (made Commit a)
     go (Got x) h = stopped x (room_stop c.token_list (mnemonic_location c.mnemonic) c.numbers c.lent (pseudo_pairs Commit Abs x)) h
     go (Missed m) h = refl
 
 -- what the commit answers where the lists have no fault
-commit_line : (c : Call) → list_stop c.token_list c.mnemonic c.descriptors c.lent c.numbers.place.region c.numbers.counts ≡ Pass
+commit_line : (c : Call) → list_stop c.token_list c.mnemonic c.descriptors c.lent c.numbers.place.region c.numbers.counts ≡ Ok tt
     → emit_outcome Commit c ≡ meaning_outcome Commit c (meaning c.descriptors (mnemonic_name c.mnemonic))
 unfolding emit_outcome
 commit_line c e = ap (list_outcome Commit c) e

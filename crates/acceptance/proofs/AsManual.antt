@@ -1,10 +1,8 @@
 -- A line for a Release 6 board is the manual's but for the two listed points, and its build is the manual one. Assumes nothing.
-use Rattle.std.specs.Prelude.{ℕ, ◌%◌, ◌≡◌, refl, Bool, true, false, List, leb, eqb}
+use Rattle.std.specs.Prelude.{ℕ, ◌%◌, ◌≡◌, refl, Bool, true, false, List, leb, eqb, Err, None, Ok, Option, Result, Some}
 use Rattle.std.proofs.Common.{sym, ap, ap₂, ◌∙◌, eqb-true}
 use Rattle.instructions.specs.declared.Opcode.{Opcode}
 use Rattle.instructions.specs.declared.Opcode.TheVariants.{Op, Func, Special, Algebra, Cop1, Cop1I}
-use Rattle.instructions.specs.declared.Alternative.{Alternative}
-use Rattle.instructions.specs.declared.Alternative.TheVariants.{Nothing, Some}
 use Rattle.instructions.specs.declared.Encoding.{Encoding}
 use Rattle.instructions.specs.declared.Encoding.TheVariants.{Register, RegisterShift, Source, Destination, Inputs, Sham, SpecialBranch, Immediate, LoadImmediate, Jump, Branch, BranchZero, Parameterless, Offset, FPOffset, FP3Register, FP2Register, FPMove, FPCond, FPCrossMove, FPBranch}
 use Rattle.jobs.specs.declared.Job.{Job}
@@ -26,8 +24,6 @@ use Rattle.build_outcome.specs.Build.{build_outcome}
 use Rattle.emit_pairs.specs.declared.Fault.{Fault}
 use Rattle.emit_pairs.specs.declared.Fault.TheVariants.{Immediate as ImmediateFault, ShiftAmount, ConditionCode, Dropped}
 use Rattle.emit_pairs.specs.declared.InstructionPair.{InstructionPair}
-use Rattle.emit_pairs.specs.declared.Range.{Range}
-use Rattle.emit_pairs.specs.declared.Range.TheVariants.{Within, Outside}
 use Rattle.emit_pairs.specs.Pairs.{is_immediate, immediate_range}
 use Rattle.emit_dispatch.specs.Wants.{encoding_wants}
 use Rattle.emit_dispatch.specs.Lines.{within_or, range_then, encoding_range, encoding_pairs, encoding_form, line_by, encoding_line}
@@ -53,26 +49,26 @@ use Rattle.acceptance.specs.Changed.{is_listed27, dropped_or, UnchangedRead, Unc
 
 -- ---- what a Release 6 job takes: 19 and 20 as in a manual job, then 27, then 9
 
-abbrev dropping : Bool → Range
-dropping d = elim d [ true ↦ Outside Dropped | false ↦ Within ]
+abbrev dropping : Bool → Result (Unit {0}) Fault
+dropping d = elim d [ true ↦ Err Dropped | false ↦ Ok tt ]
 
 -- a test of 19 or 20 goes first
-first_then : (fault : Fault) → ((d : Bool) → dropped_or d (Outside fault) ≡ Outside fault) → (b d : Bool)
-    → range_then (within_or fault b) (dropping d) ≡ dropped_or d (range_then (within_or fault b) Within)
+first_then : (fault : Fault) → ((d : Bool) → dropped_or d (Err fault) ≡ Err fault) → (b d : Bool)
+    → range_then (within_or fault b) (dropping d) ≡ dropped_or d (range_then (within_or fault b) (Ok tt))
 first_then fault stays true d = refl
 first_then fault stays false d = sym (stays d)
 
-shift_then : (b d : Bool) → range_then (within_or ShiftAmount b) (dropping d) ≡ dropped_or d (range_then (within_or ShiftAmount b) Within)
+shift_then : (b d : Bool) → range_then (within_or ShiftAmount b) (dropping d) ≡ dropped_or d (range_then (within_or ShiftAmount b) (Ok tt))
 shift_then = first_then ShiftAmount (λ d. refl)
 
-code_then : (b d : Bool) → range_then (within_or ConditionCode b) (dropping d) ≡ dropped_or d (range_then (within_or ConditionCode b) Within)
+code_then : (b d : Bool) → range_then (within_or ConditionCode b) (dropping d) ≡ dropped_or d (range_then (within_or ConditionCode b) (Ok tt))
 code_then = first_then ConditionCode (λ d. refl)
 
 -- 9 goes last
-then_immediate : (alt : Alternative) (c : ℕ) (d : Bool) → range_then (dropping d) (immediate_range alt c) ≡ dropped_or d (immediate_range alt c)
+then_immediate : (alt : Option Opcode) (c : ℕ) (d : Bool) → range_then (dropping d) (immediate_range alt c) ≡ dropped_or d (immediate_range alt c)
 then_immediate (Some alt) c true = refl
 then_immediate (Some alt) c false = refl
-then_immediate Nothing c d = go (is_immediate c) d
+then_immediate None c d = go (is_immediate c) d
   where
     go : (b d : Bool) → range_then (dropping d) (within_or ImmediateFault b) ≡ dropped_or d (within_or ImmediateFault b)
     go true true = refl
@@ -134,12 +130,12 @@ pairs_as_manual (FPBranch flag) op x h = refl
 
 -- ---- a line with neither point: its whole outcome, answer, position, counts and every lent byte
 
-kept_stays : (r : Range) → dropped_or false r ≡ r
-kept_stays Within = refl
-kept_stays (Outside ImmediateFault) = refl
-kept_stays (Outside ShiftAmount) = refl
-kept_stays (Outside ConditionCode) = refl
-kept_stays (Outside Dropped) = refl
+kept_stays : (r : Result (Unit {0}) Fault) → dropped_or false r ≡ r
+kept_stays (Ok tt) = refl
+kept_stays (Err ImmediateFault) = refl
+kept_stays (Err ShiftAmount) = refl
+kept_stays (Err ConditionCode) = refl
+kept_stays (Err Dropped) = refl
 
 read_same : (e : Encoding) (op : Opcode) (a : Answer (AskedAll (encoding_wants e))) → UnchangedRead e op a → SameRead Release6 Manual e op a
 read_same e op (Got x) h =
@@ -168,7 +164,7 @@ table_outcome job c p h = ap (list_outcome job c) h.lists_pass ∙ ap (meaning_o
 pub outside_line : (job : Job) (c : Call) (p : ℕ) → TableCall c p
     → let i = instruction_at c.descriptors p in
     let read = read_operands (encoding_wants i.encoding) (tokens c.token_list) (start_of c) in
-    (x : AskedAll (encoding_wants i.encoding)) → read.answer ≡ Got x → (fault : Fault) → encoding_range job i.encoding i.opcode x ≡ Outside fault
+    (x : AskedAll (encoding_wants i.encoding)) → read.answer ≡ Got x → (fault : Fault) → encoding_range job i.encoding i.opcode x ≡ Err fault
     → emit_outcome job c ≡ refuse c.numbers.counts c.lent read.index (fault_refusal (mnemonic_location c.mnemonic) fault)
 unfolding line_outcome encoding_line
 outside_line job c p h x r fault o = table_outcome job c p h ∙ rw (r, o)
@@ -191,7 +187,7 @@ jr_same op ts i h = go (read_operands (encoding_wants Source) ts i).answer
         → line_by a (read_operands (encoding_wants Source) ts i).index (encoding_range Release6 Source op) (encoding_pairs Release6 Source op) (encoding_form Source)
         ≡ line_by a (read_operands (encoding_wants Source) ts i).index (encoding_range Manual Source (Func 9)) (encoding_pairs Manual Source (Func 9)) (encoding_form Source)
     go (Got x) =
-        ap₂ (λ (r : Range) (ps : List InstructionPair). line_by (Got x) (read_operands (encoding_wants Source) ts i).index (λ y. r) (λ y. ps) (encoding_form Source))
+        ap₂ (λ (r : Result (Unit {0}) Fault) (ps : List InstructionPair). line_by (Got x) (read_operands (encoding_wants Source) ts i).index (λ y. r) (λ y. ps) (encoding_form Source))
         (ap dropping (eight_kept op h)) (ap (λ (o : Opcode). encoding_pairs Manual Source o x) (source_by op h))
     go (Missed m) = refl
 
@@ -208,7 +204,7 @@ pub dropped_line : (c : Call) (p : ℕ) → TableCall c p
     → let i = instruction_at c.descriptors p in
     let read = read_operands (encoding_wants i.encoding) (tokens c.token_list) (start_of c) in
     (x : AskedAll (encoding_wants i.encoding)) → read.answer ≡ Got x
-    → dropped_or (is_listed27 i.encoding i.opcode x) (encoding_range Manual i.encoding i.opcode x) ≡ Outside Dropped
+    → dropped_or (is_listed27 i.encoding i.opcode x) (encoding_range Manual i.encoding i.opcode x) ≡ Err Dropped
     → emit_outcome Release6 c ≡ refuse c.numbers.counts c.lent read.index (DroppedInstruction (mnemonic_location c.mnemonic))
 dropped_line c p h x r d =
     let i = instruction_at c.descriptors p in

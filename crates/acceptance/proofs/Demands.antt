@@ -1,14 +1,11 @@
 -- The tender's three demands, and the third of what emit calls leave, as statements about the definitions of an emit call (`emit_outcome`) and of a build (`build_outcome`), which the
 -- entries' contracts equate with what they do (`EmittedIs`, `BuildIs`). Assumes nothing.
-use Rattle.std.specs.Prelude.{ℕ, ◌<◌, ◌≡◌, List, length}
+use Rattle.std.specs.Prelude.{ℕ, ◌<◌, ◌≡◌, List, length, Err, Ok, Some}
 use Rattle.std.proofs.Common.{ap}
-use Rattle.std.proofs.Math.Option.{some}
 use Rattle.jobs.specs.declared.Job.{Job}
 use Rattle.names.specs.Owners.{WithoutOwners}
 use Rattle.labels.specs.Labels.{Table, table_of}
 use Rattle.refusal.specs.declared.Refusal.{Refusal}
-use Rattle.refusal.specs.declared.Verdict.{Verdict}
-use Rattle.refusal.specs.declared.Verdict.TheVariants.{Pass, Stop}
 use Rattle.loading.specs.declared.LoadForm.{LoadForm}
 use Rattle.loading.specs.Run.{Registers}
 use Rattle.loading.proofs.Loading.{Loads, loads}
@@ -21,7 +18,6 @@ use Rattle.emit_outcome.specs.Checks.{list_stop}
 use Rattle.emit_outcome.specs.Emit.{refuse, list_outcome, emit_outcome}
 use Rattle.emit_outcome.proofs.Refused.{refused_stays}
 use Rattle.build_outcome.specs.Build.{build_verdict, build_outcome}
-use Rattle.build_outcome.specs.declared.Built.TheVariants.{Refused as BuildRefused}
 use Rattle.finished_words.specs.Listed.{Bytes}
 use Rattle.finished_words.proofs.Finished.{Finished, finished}
 use Rattle.reading.specs.Reading.{image_of, readings, destinations}
@@ -37,6 +33,7 @@ use Rattle.loaded_lines.proofs.LinesLoad.{constant_appended}
 use Rattle.routine.specs.Run.{Buffers, RoutineLine, AllAccepted, Each, OfBytes, AllEmpty}
 use Rattle.routine_reading.proofs.RoutineReads.{RoutineReads, routine_reads}
 use Rattle.acceptance.proofs.Marked.{MarkedTable, marked}
+use Rattle.refusal.specs.Verdicts.{Verdict}
 
 -- refusals 1 and 2 of an emit call
 abbrev lists_of : Call → Verdict
@@ -44,10 +41,10 @@ lists_of c = list_stop c.token_list c.mnemonic c.descriptors c.lent c.numbers.pl
 
 -- 1. "If a record list is damaged, cut short or senseless, each public entry returns the numbered refusal of document 01 and changes no lent byte."
 pub record Demand1 : Type 0 where
-  pub line_lists : (job : Job) (c : Call) (r : Refusal) → lists_of c ≡ Stop r → emit_outcome job c ≡ refuse c.numbers.counts c.lent c.numbers.place.position r
+  pub line_lists : (job : Job) (c : Call) (r : Refusal) → lists_of c ≡ Err r → emit_outcome job c ≡ refuse c.numbers.counts c.lent c.numbers.place.position r
   pub line_refused : (job : Job) (c : Call) (r : Refusal) (p : ℕ) → (emit_outcome job c).answer ≡ LineRefused r p → emit_outcome job c ≡ refuse c.numbers.counts c.lent p r
-  pub build_refused : (job : Job) (labels : Table) (entry regions pending : List ℕ) (r : Refusal) → build_verdict job labels entry regions pending ≡ Stop r
-      → build_outcome job labels entry regions pending ≡ record { answer = BuildRefused r; regions = regions }
+  pub build_refused : (job : Job) (labels : Table) (entry regions pending : List ℕ) (r : Refusal) → build_verdict job labels entry regions pending ≡ Err r
+      → build_outcome job labels entry regions pending ≡ record { answer = Err r; regions = regions }
 
 -- 2. "refusal, position, words, pending patches, breakpoints, image and entry equal the Rust's, shown by differential runs and proved against the
 -- MIPS32 field layouts": what is proved of it.
@@ -55,7 +52,7 @@ pub record Demand2 : Type 1 where
   pub table : MarkedTable
   pub words : (job : Job) (o : Operation) (ts : List Token) (i : ℕ) → (line_of job o ts i).answer ≡ Made
       → LineWords job o (read_operands (wants_of o) ts i).answer (words_of (line_of job o ts i).pairs)
-  pub patched : (job : Job) (labels : Table) (entry regions pending : List ℕ) → build_verdict job labels entry regions pending ≡ Pass
+  pub patched : (job : Job) (labels : Table) (entry regions pending : List ℕ) → build_verdict job labels entry regions pending ≡ Ok tt
       → Finished labels regions pending (build_outcome job labels entry regions pending).regions
 
 -- 3. "document 01's MIPS32 reading of each patch in the finished words, by its kind, equals its destination, and two label tables that differ in a
@@ -72,7 +69,7 @@ pub record Demand3 : Type 0 where
   pub straight_back : (job : Job) (labels entry regions pending : List ℕ) → WithoutOwners labels → StraightPremises job (table_of labels) entry regions pending
       → readings (image_of (build_outcome job (table_of labels) entry regions pending).regions) pending ≡ destinations (table_of labels) pending
   pub constants : (c t : ℕ) (g : Registers) → t < 32 → length g ≡ 32 → Loads c t g
-  pub lines : (job : Job) (c : Call) (position : ℕ) (loaded : LoadForm) → (emit_outcome job c).answer ≡ Done position loaded → (l : LoadedConstant) → call_loads c ≡ some l → ConstantAppended job c l
+  pub lines : (job : Job) (c : Call) (position : ℕ) (loaded : LoadForm) → (emit_outcome job c).answer ≡ Done position loaded → (l : LoadedConstant) → call_loads c ≡ Some l → ConstantAppended job c l
 
 -- 3 again, of what emit calls leave: lines accepted one after the other on empty buffers, of any jobs, in any regions in any order. The premises on
 -- patches hold of themselves, and what is still asked a loft sees in its text and in its regions' addresses.

@@ -1,17 +1,14 @@
 -- Every word of opcode 0 and function 18 in an accepted line of a Release 6 job is one of those listed in Function18.antt: by the format of each word.
 -- Assumes nothing.
-use Rattle.std.specs.Prelude.{ℕ, ◌%◌, ◌≡◌, refl, Bool, true, false, ◌||◌, ◌⊎◌, eqb}
+use Rattle.std.specs.Prelude.{ℕ, ◌%◌, ◌≡◌, refl, Bool, true, false, ◌||◌, ◌⊎◌, eqb, Err, None, Ok, Result, Some, Option}
 use Rattle.std.proofs.Common.{arith, sym, ap, ◌∙◌, inl, inr}
 use mathlib.Core.List.Memᴰ
 use mathlib.Core.List.{List, [], ◌∷◌, ◌++◌, Memᴰ}
-use Rattle.std.proofs.Math.Option.{Option, none, some}
 use Rattle.std.proofs.lemmas.Bool.{eqb-false}
 use Rattle.field.specs.Field.{get_field}
 use Rattle.registers.specs.Numbers.{register_number as number, fp_register_number as fp_number}
 use Rattle.instructions.specs.declared.Opcode.{Opcode}
 use Rattle.instructions.specs.declared.Opcode.TheVariants.{Op, Func, Special, Algebra, Cop1, Cop1I}
-use Rattle.instructions.specs.declared.Alternative.{Alternative}
-use Rattle.instructions.specs.declared.Alternative.TheVariants.{Nothing, Some}
 use Rattle.instructions.specs.declared.Encoding.{Encoding}
 use Rattle.instructions.specs.declared.Encoding.TheVariants.{Register, RegisterShift, Source, Destination, Inputs, Sham, SpecialBranch, Immediate, LoadImmediate, Jump, Branch, BranchZero, Parameterless, Offset, FPOffset, FP3Register, FP2Register, FPMove, FPCond, FPCrossMove, FPBranch}
 use Rattle.jobs.specs.declared.Job.TheVariants.{Manual, Release6}
@@ -30,8 +27,6 @@ use Rattle.operand.specs.Answers.{Got}
 use Rattle.operand_list.specs.OperandLists.{AskedAll, read_operands}
 use Rattle.operands.specs.Operands.{with_sign}
 use Rattle.emit_pairs.specs.declared.Fault.TheVariants.{Immediate as ImmediateFault, ShiftAmount, ConditionCode, Dropped}
-use Rattle.emit_pairs.specs.declared.Range.{Range}
-use Rattle.emit_pairs.specs.declared.Range.TheVariants.{Within, Outside}
 use Rattle.emit_pairs.specs.Pairs.{is_immediate}
 use Rattle.emit_dispatch.specs.declared.LineAnswer.TheVariants.{Made}
 use Rattle.emit_dispatch.specs.Wants.{encoding_wants, pseudo_wants}
@@ -47,6 +42,7 @@ use Rattle.formats.proofs.EveryWord.{every_word}
 use Rattle.acceptance.specs.Function18.{IsMflo, Lands, ImmediateHolds, OffsetHolds, EncodingHolds, Holds, HeldBy}
 use Rattle.acceptance.specs.Changed.{third_given, is_listed27, dropped_or}
 use Rattle.acceptance.proofs.AsManual.{range_as_manual}
+use Rattle.emit_pairs.specs.declared.Fault.{Fault}
 
 -- ---- opcode and function of a format
 
@@ -141,11 +137,11 @@ source_kept op k = go (is_function 8 op)
 
 module _ (op : Opcode) (k : is_function 18 op ≡ false) where
   inputs_each : (a b : ℕ) (v : Option InstructionValue) → is_given v ≡ false → Each ⊥ (inputs_formats op a b v)
-  inputs_each a b none h = (no_18 op k, tt)
-  inputs_each a b (some v) h = let z : ◌≡◌ {A = ℕ} 0 1 = cc in absurd (omega arith)
+  inputs_each a b None h = (no_18 op k, tt)
+  inputs_each a b (Some v) h = let z : ◌≡◌ {A = ℕ} 0 1 = cc in absurd (omega arith)
 
-  immediate_each : (alt : Alternative) (rt rs c : ℕ) → Each (ImmediateHolds op alt c) (immediate_formats op alt rt rs c)
-  immediate_each Nothing rt rs c = (λ o f. (o, omega (arith, f)), tt)
+  immediate_each : (alt : Option Opcode) (rt rs c : ℕ) → Each (ImmediateHolds op alt c) (immediate_formats op alt rt rs c)
+  immediate_each None rt rs c = (λ o f. (o, omega (arith, f)), tt)
   immediate_each (Some alt) rt rs c = go (is_immediate c)
     where
       go : (b : Bool) → Each (elim b [ true ↦ Lands op c | false ↦ is_function 18 alt ≡ true ]) (elim b [ true ↦ in_immediate op rs rt (c % 65536) ∷ [] | false ↦ in_register alt rs $at rt 0 ∷ [] ])
@@ -255,19 +251,19 @@ load_each S c t = go (is_small c) (eqb (upper_half c) 0) (eqb (lower_half c) 0)
     go false false false = (λ o f. absurd (omega (arith, o)), (λ o f. absurd (omega (arith, o)), tt))
 
 loading_each : (S : Type 0) (l : Option LoadedConstant) → Each S (loading_formats l)
-loading_each S none = tt
-loading_each S (some l) = load_each S l.constant (number l.register)
+loading_each S None = tt
+loading_each S (Some l) = load_each S l.constant (number l.register)
 
 -- ---- the line
 
 -- a line that was made is not dropped
-kept_listed : (listed : Bool) (r : Range) → dropped_or listed r ≡ Within → listed ≡ false
+kept_listed : (listed : Bool) (r : Result (Unit {0}) Fault) → dropped_or listed r ≡ Ok tt → listed ≡ false
 kept_listed false r e = refl
-kept_listed true Within e = cc
-kept_listed true (Outside ImmediateFault) e = cc
-kept_listed true (Outside ShiftAmount) e = cc
-kept_listed true (Outside ConditionCode) e = cc
-kept_listed true (Outside Dropped) e = cc
+kept_listed true (Ok tt) e = cc
+kept_listed true (Err ImmediateFault) e = cc
+kept_listed true (Err ShiftAmount) e = cc
+kept_listed true (Err ConditionCode) e = cc
+kept_listed true (Err Dropped) e = cc
 
 made_kept : (e : Encoding) (op : Opcode) (ts : List Token) (i : ℕ) (x : AskedAll (encoding_wants e)) → (read_operands (encoding_wants e) ts i).answer ≡ Got x
     → (encoding_line Release6 e op ts i).answer ≡ Made → is_listed27 e op x ≡ false

@@ -1,7 +1,7 @@
 -- Document 01's table 'Marked for proof', every row with its whole outcome, as one statement about the definitions of an emit call and of a
 -- build.
 -- Assumes nothing.
-use Rattle.std.specs.Prelude.{◌≡◌, refl, ℕ, ℤ, pos, List, [], ◌∷◌, ◌++◌}
+use Rattle.std.specs.Prelude.{◌≡◌, refl, ℕ, ℤ, pos, List, [], ◌∷◌, ◌++◌, Ok}
 use Rattle.jobs.specs.declared.Job.{Job}
 use Rattle.jobs.specs.declared.Job.TheVariants.{Commit, Manual, Release6}
 use Rattle.field.specs.Field.{set_field}
@@ -21,7 +21,6 @@ use Rattle.pending.specs.Pendings.{pending_ok, pending_layout, kind_from}
 use Rattle.patch.specs.Patches.{destination, field_width, field_value, branch_in_range, jump_in_range, in_range, reach_verdict, pending_verdict, write_pending}
 use Rattle.build_outcome.specs.Build.{keep, order_from, layout_verdicts, build_verdict, write_patches, BuildOutcome, build_outcome}
 use Rattle.build_outcome.specs.Returned.{returned as build_returned}
-use Rattle.build_outcome.specs.declared.Built.TheVariants.{Entry}
 use Rattle.cursor.specs.Cursors.{passed, peek, step, next_adjacent, peek_adjacent}
 use Rattle.operands.specs.Operands.{get_register, get_fp_register, get_cc, signed, get_integer, get_constant, get_value}
 use Rattle.assembler_util.specs.LabelOperands.{symbol_label, to_label, get_label, braced, after_label, get_offset_or_label}
@@ -67,7 +66,7 @@ pub record BuildRefuses (job : Job) (regions pending : List ℕ) (number : ℕ) 
 
 -- an accepted build without an entry record
 abbrev pub builds : (regions : List ℕ) → BuildOutcome
-builds regions = record { answer = Entry 0x00400000; regions = regions }
+builds regions = record { answer = Ok 0x00400000; regions = regions }
 
 -- ---- the table
 

@@ -1,5 +1,5 @@
 -- Two sorts of job that make the same of a line, or of each branch of a build, have the same outcome. Assumes nothing.
-use Rattle.std.specs.Prelude.{ℕ, ◌+◌, ◌≡◌, leb}
+use Rattle.std.specs.Prelude.{ℕ, ◌+◌, ◌≡◌, leb, Err, None, Ok, Option, Some}
 use Rattle.std.proofs.Math.Path.{refl, ap, ap₂}
 use Rattle.std.proofs.Math.Bool.{true, false}
 use mathlib.Core.List.{List, [], ◌∷◌, Memᴰ}
@@ -10,13 +10,9 @@ use Rattle.jobs.specs.Jobs.{abs_first_word}
 use Rattle.registers.specs.Numbers.{register_number}
 use Rattle.pseudo_names.specs.declared.Pseudo.{Pseudo}
 use Rattle.pseudo_names.specs.declared.Pseudo.TheVariants.{Nop, Abs, BranchCustom, SetCustom, Beqz, Bnez, Seq, Sne, Neg, Negu, Not, Li, La, Move, B, Subi, Subiu}
-use Rattle.refusal.specs.Verdicts.{and_then, first_stop}
+use Rattle.refusal.specs.Verdicts.{and_then, first_stop, Verdict}
 use Rattle.refusal.specs.declared.Refusal.TheVariants.{PatchPastEnd}
-use Rattle.refusal.specs.declared.Verdict.{Verdict}
-use Rattle.refusal.specs.declared.Verdict.TheVariants.{Pass, Stop}
 use Rattle.labels.specs.Labels.{Table as LabelTable}
-use Rattle.labels.specs.declared.Address.{Address}
-use Rattle.labels.specs.declared.Address.TheVariants.{Known, Unknown}
 use Rattle.lexer.specs.declared.Token.{Token}
 use Rattle.lexer.specs.Tokens.{tokens}
 use Rattle.operand.specs.Answers.{Answer, Got, Missed}
@@ -30,7 +26,6 @@ use Rattle.patch.specs.Patches.{pc_of, region_for, destination, in_range, reach_
 use Rattle.finished_words.specs.Listed.{In}
 use Rattle.build_outcome.specs.Build.{patch_order, patch_verdict, build_verdict, build_outcome}
 use Rattle.build_outcome.proofs.BuildLaws.{ordered_in}
-use Rattle.emit_pairs.specs.declared.Range.TheVariants.{Within}
 use Rattle.emit_dispatch.specs.Wants.{encoding_wants, pseudo_wants}
 use Rattle.emit_dispatch.specs.Lines.{encoding_range, encoding_pairs, encoding_form, pseudo_pairs, pseudo_form, line_by, encoding_line, pseudo_line}
 use Rattle.emit_outcome.specs.Call.{Call}
@@ -86,8 +81,8 @@ module _ (j k : Job) where
   builtin_same p ts i h = go (read_operands (pseudo_wants p) ts i).answer
     where
       go : (a : Answer (AskedAll (pseudo_wants p)))
-          → line_by a (read_operands (pseudo_wants p) ts i).index (λ x. Within) (pseudo_pairs j p) (pseudo_form p)
-          ≡ line_by a (read_operands (pseudo_wants p) ts i).index (λ x. Within) (pseudo_pairs k p) (pseudo_form p)
+          → line_by a (read_operands (pseudo_wants p) ts i).index (λ x. (Ok tt)) (pseudo_pairs j p) (pseudo_form p)
+          ≡ line_by a (read_operands (pseudo_wants p) ts i).index (λ x. (Ok tt)) (pseudo_pairs k p) (pseudo_form p)
       go (Got x) = rw (h x)
       go (Missed m) = refl
 
@@ -108,7 +103,7 @@ module _ (j k : Job) where
 
   -- where the lists have no fault the line decides
   pub line_by_lem : (c : Call)
-      → (list_stop c.token_list c.mnemonic c.descriptors c.lent c.numbers.place.region c.numbers.counts ≡ Pass
+      → (list_stop c.token_list c.mnemonic c.descriptors c.lent c.numbers.place.region c.numbers.counts ≡ Ok tt
       → meaning_outcome j c (meaning c.descriptors (mnemonic_name c.mnemonic)) ≡ meaning_outcome k c (meaning c.descriptors (mnemonic_name c.mnemonic)))
       → emit_outcome j c ≡ emit_outcome k c
   unfolding emit_outcome
@@ -116,8 +111,8 @@ module _ (j k : Job) where
     where
       go : (v : Verdict) → list_stop c.token_list c.mnemonic c.descriptors c.lent c.numbers.place.region c.numbers.counts ≡ v
           → list_outcome j c v ≡ list_outcome k c v
-      go (Stop r) e = refl
-      go Pass e = h e
+      go (Err r) e = refl
+      go (Ok tt) e = h e
 
   -- the whole outcome of a line: answer, position, counts and every lent byte
   pub line_same : (c : Call) → SameMeaning c (meaning c.descriptors (mnemonic_name c.mnemonic)) → emit_outcome j c ≡ emit_outcome k c
@@ -126,7 +121,7 @@ module _ (j k : Job) where
   -- ---- builds
 
   abbrev pub SamePatches : (labels : LabelTable) (regions pending : List ℕ) → Type 0
-  SamePatches labels regions pending = (p dest : ℕ) → In pending p → destination labels pending (pending_at pending p).label ≡ Known dest
+  SamePatches labels regions pending = (p dest : ℕ) → In pending p → destination labels pending (pending_at pending p).label ≡ Some dest
       → let pc = pc_of (region_for regions (pending_at pending p)) (pending_at pending p) in
       in_range j (pending_at pending p).kind pc dest ≡ in_range k (pending_at pending p).kind pc dest
 
@@ -134,7 +129,7 @@ module _ (j k : Job) where
     patch_same : (p : ℕ) → In pending p → patch_verdict j labels regions pending p ≡ patch_verdict k labels regions pending p
     unfolding pending_verdict reach_verdict
     patch_same p m =
-        ap (λ (v : Verdict). elim (leb (q.offset + 4) g.size) [ true ↦ v | false ↦ Stop (PatchPastEnd q.location) ])
+        ap (λ (v : Verdict). elim (leb (q.offset + 4) g.size) [ true ↦ v | false ↦ Err (PatchPastEnd q.location) ])
         (reach (destination labels pending q.label) refl)
       where
         q : Pending
@@ -143,9 +138,9 @@ module _ (j k : Job) where
         g : Region
         g = region_for regions q
 
-        reach : (a : Address) → destination labels pending q.label ≡ a → reach_verdict j q (pc_of g q) a ≡ reach_verdict k q (pc_of g q) a
-        reach (Known dest) e = rw (same p dest m e, reach_verdict)
-        reach Unknown e = refl
+        reach : (a : Option ℕ) → destination labels pending q.label ≡ a → reach_verdict j q (pc_of g q) a ≡ reach_verdict k q (pc_of g q) a
+        reach (Some dest) e = rw (same p dest m e, reach_verdict)
+        reach None e = refl
 
     patches_same : (ps : List ℕ) → ((p : ℕ) → Memᴰ p ps → In pending p)
         → first_stop (patch_verdict j labels regions pending) ps ≡ first_stop (patch_verdict k labels regions pending) ps

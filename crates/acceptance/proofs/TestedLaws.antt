@@ -1,8 +1,7 @@
 -- 19 and 20 in a job by the manual: a line has them exactly by its shift amount and its condition code; else the commit's range stays.
 -- Assumes nothing.
-use Rattle.std.specs.Prelude.{ℕ, ◌<◌, ◌≡◌, refl, Bool, true, false, leb, ◌++◌}
+use Rattle.std.specs.Prelude.{ℕ, ◌<◌, ◌≡◌, refl, Bool, true, false, leb, ◌++◌, Err, Ok, Result, Option, None, Some}
 use Rattle.std.proofs.Common.{ap, ◌∙◌, arith}
-use Rattle.std.proofs.Math.Option.{Option, none, some}
 use Rattle.std.proofs.lemmas.Bool.{lt-leb}
 use Rattle.instructions.specs.declared.Opcode.{Opcode}
 use Rattle.instructions.specs.declared.Encoding.{Encoding}
@@ -16,8 +15,6 @@ use Rattle.descriptors.specs.Descriptors.{instruction_at}
 use Rattle.descriptors.specs.Mnemonics.{mnemonic_location}
 use Rattle.emit_pairs.specs.declared.Fault.{Fault}
 use Rattle.emit_pairs.specs.declared.Fault.TheVariants.{ShiftAmount, ConditionCode}
-use Rattle.emit_pairs.specs.declared.Range.{Range}
-use Rattle.emit_pairs.specs.declared.Range.TheVariants.{Within, Outside}
 use Rattle.emit_dispatch.specs.Wants.{encoding_wants}
 use Rattle.emit_dispatch.specs.Lines.{within_or, range_then, encoding_range}
 use Rattle.emit_outcome.specs.Call.{Call}
@@ -44,7 +41,7 @@ use Rattle.acceptance.proofs.AsManual.{outside_line}
 use Rattle.acceptance.specs.Tested.{shift_amount, condition_code, shift_or, code_or}
 
 -- a number outside decides, whichever it is
-tested : (fault : Fault) (b : Bool) → range_then (within_or fault b) Within ≡ (elim b [ true ↦ Within | false ↦ Outside fault ])
+tested : (fault : Fault) (b : Bool) → range_then (within_or fault b) (Ok tt) ≡ (elim b [ true ↦ Ok tt | false ↦ Err fault ])
 tested fault true = refl
 tested fault false = refl
 
@@ -72,11 +69,11 @@ range_as_commit (FPCond fmt) op x = tested ConditionCode (leb x.0 7)
 range_as_commit (FPCrossMove flag) op x = refl
 range_as_commit (FPBranch flag) op x = tested ConditionCode (leb x.0 7)
 
-over_shift : (amount : ℕ) (next : Range) → 31 < amount → shift_or (some amount) next ≡ Outside ShiftAmount
-over_shift amount next h = ap (λ (b : Bool). elim b [ true ↦ next | false ↦ Outside ShiftAmount ]) (lt-leb amount 31 h)
+over_shift : (amount : ℕ) (next : Result (Unit {0}) Fault) → 31 < amount → shift_or (Some amount) next ≡ Err ShiftAmount
+over_shift amount next h = ap (λ (b : Bool). elim b [ true ↦ next | false ↦ Err ShiftAmount ]) (lt-leb amount 31 h)
 
-over_code : (code : ℕ) (next : Range) → 7 < code → code_or (some code) next ≡ Outside ConditionCode
-over_code code next h = ap (λ (b : Bool). elim b [ true ↦ next | false ↦ Outside ConditionCode ]) (lt-leb code 7 h)
+over_code : (code : ℕ) (next : Result (Unit {0}) Fault) → 7 < code → code_or (Some code) next ≡ Err ConditionCode
+over_code code next h = ap (λ (b : Bool). elim b [ true ↦ next | false ↦ Err ConditionCode ]) (lt-leb code 7 h)
 
 -- ---- the line's whole outcome
 
@@ -91,13 +88,13 @@ module _ (c : Call) (p : ℕ) (t : TableCall c p) where
   position = (read_operands (encoding_wants e) (tokens c.token_list) (start_of c)).index
 
   module _ (x : AskedAll (encoding_wants e)) (read : (read_operands (encoding_wants e) (tokens c.token_list) (start_of c)).answer ≡ Got x) where
-    pub shift_line : (amount : ℕ) → shift_amount e x ≡ some amount → 31 < amount
+    pub shift_line : (amount : ℕ) → shift_amount e x ≡ Some amount → 31 < amount
         → emit_outcome Manual c ≡ refuse c.numbers.counts c.lent position (ShiftOutOfRange (mnemonic_location c.mnemonic))
     shift_line amount a h =
         let next = code_or (condition_code e x) (encoding_range Commit e op x) in
         outside_line Manual c p t x read ShiftAmount (range_as_commit e op x ∙ ap (λ (o : Option ℕ). shift_or o next) a ∙ over_shift amount next h)
 
-    pub code_line : (code : ℕ) → shift_amount e x ≡ none → condition_code e x ≡ some code → 7 < code
+    pub code_line : (code : ℕ) → shift_amount e x ≡ None → condition_code e x ≡ Some code → 7 < code
         → emit_outcome Manual c ≡ refuse c.numbers.counts c.lent position (CodeOutOfRange (mnemonic_location c.mnemonic))
     code_line code n a h =
         let next = encoding_range Commit e op x in

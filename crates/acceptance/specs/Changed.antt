@@ -1,19 +1,16 @@
 -- Where a line for a Release 6 board has one of the points that document 02 lists, P9: "A Release 6 job changes function 8 under the Source
 -- encoding to 9, and otherwise follows P5. New numbers: 27, an Inputs line with a third operand or a Func 18 line". Assumes nothing.
-use Rattle.std.specs.Prelude.{ℕ, ◌≡◌, Bool, true, false, ◌||◌}
+use Rattle.std.specs.Prelude.{ℕ, ◌≡◌, Bool, true, false, ◌||◌, Err, Ok, Result}
 use Rattle.instructions.specs.declared.Opcode.{Opcode}
 use Rattle.instructions.specs.declared.Encoding.{Encoding}
 use Rattle.instructions.specs.declared.Encoding.TheVariants.{Register, RegisterShift, Source, Destination, Inputs, Sham, SpecialBranch, Immediate, LoadImmediate, Jump, Branch, BranchZero, Parameterless, Offset, FPOffset, FP3Register, FP2Register, FPMove, FPCond, FPCrossMove, FPBranch}
 use Rattle.jobs.specs.Jobs.{is_function}
-use Rattle.refusal.specs.declared.Verdict.TheVariants.{Pass}
 use Rattle.lexer.specs.Tokens.{tokens}
 use Rattle.operand.specs.Answers.{Answer, Got, Missed}
 use Rattle.operand_list.specs.OperandLists.{AskedAll, read_operands}
 use Rattle.descriptors.specs.Descriptors.{instruction_at}
 use Rattle.descriptors.specs.Mnemonics.{mnemonic_name}
 use Rattle.emit_pairs.specs.declared.Fault.TheVariants.{Immediate as ImmediateFault, ShiftAmount, ConditionCode, Dropped}
-use Rattle.emit_pairs.specs.declared.Range.{Range}
-use Rattle.emit_pairs.specs.declared.Range.TheVariants.{Within, Outside}
 use Rattle.emit_dispatch.specs.Wants.{encoding_wants}
 use Rattle.emit_dispatch.specs.Lines.{is_given}
 use Rattle.emit_outcome.specs.Call.{Call}
@@ -22,6 +19,7 @@ use Rattle.emit_outcome.specs.Dispatch.{meaning}
 use Rattle.emit_outcome.specs.Emit.{start_of}
 use Rattle.emit_outcome.specs.declared.Meaning.{Meaning}
 use Rattle.emit_outcome.specs.declared.Meaning.TheVariants.{Table, Builtin, Neither}
+use Rattle.emit_pairs.specs.declared.Fault.{Fault}
 
 -- ---- 27: "an Inputs line with a third operand or a Func 18 line"
 
@@ -52,12 +50,12 @@ abbrev pub is_listed27 : (e : Encoding) → Opcode → AskedAll (encoding_wants 
 is_listed27 e op x = third_given e x || is_function 18 op
 
 -- "tested straight after 20", and so before 9: what becomes of a manual job's range
-abbrev pub dropped_or : (dropped : Bool) → Range → Range
-dropped_or dropped Within = elim dropped [ true ↦ Outside Dropped | false ↦ Within ]
-dropped_or dropped (Outside ShiftAmount) = Outside ShiftAmount
-dropped_or dropped (Outside ConditionCode) = Outside ConditionCode
-dropped_or dropped (Outside Dropped) = Outside Dropped
-dropped_or dropped (Outside ImmediateFault) = elim dropped [ true ↦ Outside Dropped | false ↦ Outside ImmediateFault ]
+abbrev pub dropped_or : (dropped : Bool) → Result (Unit {0}) Fault → Result (Unit {0}) Fault
+dropped_or dropped (Ok tt) = elim dropped [ true ↦ Err Dropped | false ↦ Ok tt ]
+dropped_or dropped (Err ShiftAmount) = Err ShiftAmount
+dropped_or dropped (Err ConditionCode) = Err ConditionCode
+dropped_or dropped (Err Dropped) = Err Dropped
+dropped_or dropped (Err ImmediateFault) = elim dropped [ true ↦ Err Dropped | false ↦ Err ImmediateFault ]
 
 -- ---- a line with neither point: no 27, and no "function 8 under the Source encoding"
 
@@ -82,5 +80,5 @@ UnchangedCall c = UnchangedMeaning c (meaning c.descriptors (mnemonic_name c.mne
 -- ---- a line of the table, its descriptor at p, in a call whose lists have no fault
 
 pub record TableCall (c : Call) (p : ℕ) : Type 0 where
-  pub lists_pass : list_stop c.token_list c.mnemonic c.descriptors c.lent c.numbers.place.region c.numbers.counts ≡ Pass
+  pub lists_pass : list_stop c.token_list c.mnemonic c.descriptors c.lent c.numbers.place.region c.numbers.counts ≡ Ok tt
   pub found : meaning c.descriptors (mnemonic_name c.mnemonic) ≡ Table p

@@ -1,10 +1,8 @@
 -- Words of opcode 0 and function 18, mflo's, in the lines of a Release 6 job: where they still are. "It also dropped mflo" (document 02, P9).
 -- Assumes nothing.
-use Rattle.std.specs.Prelude.{ℕ, ◌%◌, ◌≡◌, true, false}
+use Rattle.std.specs.Prelude.{ℕ, ◌%◌, ◌≡◌, true, false, None, Option, Some}
 use Rattle.field.specs.Field.{get_field}
 use Rattle.instructions.specs.declared.Opcode.{Opcode}
-use Rattle.instructions.specs.declared.Alternative.{Alternative}
-use Rattle.instructions.specs.declared.Alternative.TheVariants.{Nothing, Some}
 use Rattle.instructions.specs.declared.Encoding.{Encoding}
 use Rattle.instructions.specs.declared.Encoding.TheVariants.{Register, RegisterShift, Source, Destination, Inputs, Sham, SpecialBranch, Immediate, LoadImmediate, Jump, Branch, BranchZero, Parameterless, Offset, FPOffset, FP3Register, FP2Register, FPMove, FPCond, FPCrossMove, FPBranch}
 use Rattle.jobs.specs.Jobs.{is_function}
@@ -27,8 +25,8 @@ abbrev pub Lands : Opcode → ℕ → Type 0
 Lands op c = ((base_fields op).opcode ≡ 0) × (c % 64 ≡ 18)
 
 -- the constant in range, or the alternative of one that is not
-abbrev pub ImmediateHolds : Opcode → Alternative → ℕ → Type 0
-ImmediateHolds op Nothing c = Lands op c
+abbrev pub ImmediateHolds : Opcode → Option Opcode → ℕ → Type 0
+ImmediateHolds op None c = Lands op c
 ImmediateHolds op (Some alt) c = elim (is_immediate c) [ true ↦ Lands op c | false ↦ is_function 18 alt ≡ true ]
 
 -- an offset in range before a brace

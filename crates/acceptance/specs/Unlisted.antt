@@ -1,13 +1,12 @@
 -- Where a job by the manual has none of the points that document 02 lists, P5: "equality is with the Rust except for what is listed here".
 -- Assumes nothing.
-use Rattle.std.specs.Prelude.{ℕ, ◌+◌, ◌/◌, ◌≤◌, ◌≡◌, List}
+use Rattle.std.specs.Prelude.{ℕ, ◌+◌, ◌/◌, ◌≤◌, ◌≡◌, List, Some}
 use Rattle.instructions.specs.declared.Size.{Size}
 use Rattle.instructions.specs.declared.Size.TheVariants.{Word}
 use Rattle.instructions.specs.declared.Encoding.{Encoding}
 use Rattle.instructions.specs.declared.Encoding.TheVariants.{Register, RegisterShift, Source, Destination, Inputs, Sham, SpecialBranch, Immediate, LoadImmediate, Jump, Branch, BranchZero, Parameterless, Offset, FPOffset, FP3Register, FP2Register, FPMove, FPCond, FPCrossMove, FPBranch}
 use Rattle.jobs.specs.declared.Job.TheVariants.{Commit}
 use Rattle.pseudo_names.specs.declared.Pseudo.TheVariants.{Abs}
-use Rattle.labels.specs.declared.Address.TheVariants.{Known}
 use Rattle.lexer.specs.Tokens.{tokens}
 use Rattle.operand.specs.Answers.{Answer, Got, Missed}
 use Rattle.operand_list.specs.OperandLists.{AskedAll, read_operands}
@@ -78,6 +77,6 @@ UnlistedCall c = UnlistedMeaning c (meaning c.descriptors (mnemonic_name c.mnemo
 -- ---- of a build: "a branch distance outside -32,768 to 32,767"
 
 abbrev pub UnlistedBuild : (labels : LabelTable) (regions pending : List ℕ) → Type 0
-UnlistedBuild labels regions pending = (p dest : ℕ) → In pending p → (pending_at pending p).kind ≡ BranchKind → destination labels pending (pending_at pending p).label ≡ Known dest
+UnlistedBuild labels regions pending = (p dest : ℕ) → In pending p → (pending_at pending p).kind ≡ BranchKind → destination labels pending (pending_at pending p).label ≡ Some dest
     → let pc = pc_of (region_for regions (pending_at pending p)) (pending_at pending p) in
     (after pc / 4 ≤ dest / 4 + 32768) × (dest / 4 ≤ after pc / 4 + 32767)

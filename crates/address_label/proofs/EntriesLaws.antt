@@ -1,13 +1,11 @@
 -- What an entry's test says, in facts, and what a list of entries that keeps its layout holds. Assumes nothing.
-use Rattle.std.specs.Prelude.{ℕ, ◌+◌, ◌≤◌, ◌<◌, List, true, ◌&&◌, ◌≡◌, length, leb, eqb}
+use Rattle.std.specs.Prelude.{ℕ, ◌+◌, ◌≤◌, ◌<◌, List, true, ◌&&◌, ◌≡◌, length, leb, eqb, None, Some}
 use Rattle.std.proofs.Math.Bool.{and-eq-true_iff}
 use Rattle.std.proofs.Common.{ap, ◌∙◌, leb-true}
 use Rattle.record.specs.Records.{body_len, kind_at, next, whole, places, places_from, first_bad, first_bad_of, limit}
 use Rattle.record.proofs.RecordsLaws.{whole_is, places_all, places_step, places_end, of_good, limit_kept, limit_passed, limit_good}
-use Rattle.record.specs.declared.Layout.TheVariants.{Good, Bad}
 use Rattle.address_label.specs.AddressLabels.{address_label_ok, address_label_at}
 use Rattle.address_label.specs.Entries.{entry_ok, entry_layout, entry_of}
-use Rattle.address_label.specs.declared.Entry.TheVariants.{Default, Stated}
 
 pub record EntryIs (s : List ℕ) (at : ℕ) : Type 0 where
   pub whole_at : whole s at ≡ true
@@ -31,19 +29,19 @@ pub entry_kept : (s : List ℕ) → length s ≤ limit → entry_layout s ≡ fi
 unfolding entry_layout
 entry_kept s h = limit_kept s (first_bad_of 1 (entry_ok s) (places s)) h ∙ ap (first_bad_of 1 (entry_ok s)) (places_all s)
 
-pub entry_passed : (s : List ℕ) → limit < length s → entry_layout s ≡ Bad limit
+pub entry_passed : (s : List ℕ) → limit < length s → entry_layout s ≡ Some limit
 unfolding entry_layout
 entry_passed s h = limit_passed s (first_bad_of 1 (entry_ok s) (places s)) h
 
-pub entry_good : (s : List ℕ) → entry_layout s ≡ Good → (length s ≤ limit) × (first_bad (entry_ok s) (places s) ≡ Good) × (length (places s) ≤ 1)
+pub entry_good : (s : List ℕ) → entry_layout s ≡ None → (length s ≤ limit) × (first_bad (entry_ok s) (places s) ≡ None) × (length (places s) ≤ 1)
 unfolding entry_layout
 entry_good s g =
     let l = limit_good s (first_bad_of 1 (entry_ok s) (places s)) g in
     let o = of_good 1 (entry_ok s) (places s) l.1 in
     (l.0, o.0, o.1)
 
-pub entry_none : (s : List ℕ) → length s ≤ 0 → entry_of s (places s) ≡ Default
+pub entry_none : (s : List ℕ) → length s ≤ 0 → entry_of s (places s) ≡ None
 entry_none s h = ap (entry_of s) (places_all s ∙ places_end s 0 h)
 
-pub entry_stated : (s : List ℕ) → 0 < length s → whole s 0 ≡ true → entry_of s (places s) ≡ Stated (address_label_at s 4 (next s 0))
+pub entry_stated : (s : List ℕ) → 0 < length s → whole s 0 ≡ true → entry_of s (places s) ≡ Some (address_label_at s 4 (next s 0))
 entry_stated s h w = ap (entry_of s) (places_all s ∙ places_step s 0 h w)

@@ -8,7 +8,7 @@ ghost use Rattle.address_label.specs.AddressLabels.{address_label_ok, address_la
 ghost use Rattle.address_label.specs.LabelBytes.{name_bytes, label_bytes};
 ghost use Rattle.address_label.specs.Entries.{entry_ok, entry_layout, entry_of};
 
-use record::{Layout, Location};
+use record::Location;
 
 // The record kind.
 const ENTRY: usize = 38;
@@ -26,13 +26,6 @@ pub struct NamedLabel {
 pub enum AddressLabel {
     Constant(u64),
     Label(NamedLabel),
-}
-
-// The entry record, or that there is none.
-#[derive(Clone, Copy)]
-pub enum Entry {
-    Default,
-    Stated(AddressLabel),
 }
 
 // Whether the bytes from `at` on, up to the record's end, are a constant or a name.
@@ -96,33 +89,33 @@ fn entry_ok(entry: &[u8], at: usize) -> bool
 }
 
 // The place of the first record that breaks the layout, or the limit.
-pub fn first_bad_entry(entry: &[u8]) -> Layout
+pub fn first_bad_entry(entry: &[u8]) -> Option<usize>
     ensures { result ≡ entry_layout entry.now }
 {
     if entry.len() > record::LIMIT {
-        return Layout::Bad(record::LIMIT);
+        return Some(record::LIMIT);
     }
     if entry.len() == 0 {
-        return Layout::Good;
+        return None;
     }
     if !entry_ok(entry, 0) {
-        return Layout::Bad(0);
+        return Some(0);
     }
     let end = record::next(entry, 0);
     if end < entry.len() {
-        return Layout::Bad(end);
+        return Some(end);
     }
-    Layout::Good
+    None
 }
 
-pub fn read_entry(entry: &[u8]) -> Entry
-    requires { entry_layout entry.now ≡ Layout.Good }
+pub fn read_entry(entry: &[u8]) -> Option<AddressLabel>
+    requires { entry_layout entry.now ≡ None }
     ensures { result ≡ entry_of entry.now (places entry.now) }
 {
     if entry.len() == 0 {
-        return Entry::Default;
+        return None;
     }
-    Entry::Stated(address_label_at(entry, 4, record::next(entry, 0)))
+    Some(address_label_at(entry, 4, record::next(entry, 0)))
 }
 
 // A label's name, a part of the list it was read from; a constant has none. A part that would run past the list ends with it.

@@ -1,16 +1,13 @@
 -- Laws of the label readers: what each reads, by what it meets. Assumes nothing.
-use Rattle.std.specs.Prelude.{ℕ, true, false, List, ◌≡◌}
+use Rattle.std.specs.Prelude.{ℕ, true, false, List, ◌≡◌, Option, Some}
 use Rattle.std.proofs.Math.Path.{ap}
 use Rattle.std.proofs.Common.{◌∙◌, eq-eqb, ne_eqb}
 use Rattle.record.specs.declared.Location.{Location}
 use Rattle.registers.specs.declared.RegisterSlot.{RegisterSlot}
-use Rattle.lexer.specs.declared.MaybeInteger.{MaybeInteger}
 use Rattle.lexer.specs.declared.Text.{Text}
 use Rattle.lexer.specs.declared.Token.{Token}
 use Rattle.lexer.specs.Tokens.{strip}
 use Rattle.address_label.specs.declared.AddressLabel.{AddressLabel}
-use Rattle.cursor.specs.declared.Seen.{Seen}
-use Rattle.cursor.specs.declared.Seen.TheVariants.{Met}
 use Rattle.cursor.specs.Cursors.{At, step, next_adjacent, peek_adjacent}
 use Rattle.operand.specs.declared.Miss.TheVariants.{ExpectedRightBrace}
 use Rattle.operands.specs.Operands.{get_register, get_integer, get_constant}
@@ -19,7 +16,7 @@ use Rattle.operand.specs.Answers.{Answer, Got, Missed, here}
 use Rattle.assembler_util.specs.LabelOperands.{is_met, named, plus_constant, plus_seen, symbol_label, label_met, to_label, label_seen, get_label, closed_seen, braced_by, braced, or_zero, unbraced, brace_seen, after_label, get_offset_or_label}
 
 -- the right brace
-module _ (label : AddressLabel) (r : RegisterSlot) {seen : Seen} {t : Token} (met : seen ≡ Met t) where
+module _ (label : AddressLabel) (r : RegisterSlot) {seen : (Option Token)} {t : Token} (met : seen ≡ Some t) where
   pub closed_brace : strip t.kind ≡ 15 → closed_seen label r seen ≡ Got (Offset label r)
   closed_brace k = rw met (simp (eq-eqb (strip t.kind) 15 k, closed_seen))
 
@@ -29,13 +26,13 @@ module _ (label : AddressLabel) (r : RegisterSlot) {seen : Seen} {t : Token} (me
 module _ (ts : List Token) (i : ℕ) where
   -- ---- by what is read first
 
-  pub label_is : {seen : Seen} {j : ℕ} → next_adjacent ts i ≡ here seen j → get_label ts i ≡ label_seen ts j seen
+  pub label_is : {seen : (Option Token)} {j : ℕ} → next_adjacent ts i ≡ here seen j → get_label ts i ≡ label_seen ts j seen
   unfolding get_label
-  label_is e = ap (λ (x : At Seen). label_seen ts x.index x.answer) e
+  label_is e = ap (λ (x : At (Option Token)). label_seen ts x.index x.answer) e
 
-  pub first_is : (t : Token) {number : MaybeInteger} {j : ℕ} → get_integer t ts i ≡ here number j → to_label t ts i ≡ label_met t ts j number
+  pub first_is : (t : Token) {number : (Option ℕ)} {j : ℕ} → get_integer t ts i ≡ here number j → to_label t ts i ≡ label_met t ts j number
   unfolding to_label
-  first_is t e = ap (λ (x : At MaybeInteger). label_met t ts x.index x.answer) e
+  first_is t e = ap (λ (x : At (Option ℕ)). label_met t ts x.index x.answer) e
 
   pub braced_is : (label : AddressLabel) {register : Answer RegisterSlot} {j : ℕ} → get_register ts i ≡ here register j → braced label ts i ≡ braced_by label ts j register
   unfolding braced
@@ -47,7 +44,7 @@ module _ (ts : List Token) (i : ℕ) where
 
   -- ---- by the next token that is not passed over
 
-  module _ {seen : Seen} {j : ℕ} (e : peek_adjacent ts i ≡ here seen j) where
+  module _ {seen : (Option Token)} {j : ℕ} (e : peek_adjacent ts i ≡ here seen j) where
     symbol_is : (x : Text) (l : Location) → symbol_label x l ts i ≡ plus_seen x l ts i (here seen j)
     unfolding symbol_label
     symbol_is x l = ap (plus_seen x l ts i) e

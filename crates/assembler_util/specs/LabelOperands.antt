@@ -1,19 +1,13 @@
 -- Labels and offsets: the operand readers (assembler_util.rs) on a decoded token list and an index (document 01, 'Tokens'). Assumes nothing.
-use Rattle.std.specs.Prelude.{ℕ, List, Bool, true, false}
+use Rattle.std.specs.Prelude.{ℕ, List, Bool, true, false, None, Option, Some}
 use Rattle.record.specs.declared.Location.{Location}
 use Rattle.registers.specs.declared.RegisterSlot.{RegisterSlot}
 use Rattle.lexer.specs.declared.Text.{Text}
 use Rattle.lexer.specs.declared.Token.{Token}
-use Rattle.lexer.specs.declared.MaybeInteger.{MaybeInteger}
-use Rattle.lexer.specs.declared.MaybeInteger.TheVariants.{Some as SomeInteger, Nothing as NoInteger}
-use Rattle.lexer.specs.declared.MaybeText.{MaybeText}
-use Rattle.lexer.specs.declared.MaybeText.TheVariants.{Some as SomeText, Nothing as NoText}
 use Rattle.lexer.specs.Tokens.{strip}
 use Rattle.lexer.specs.Views.{as_symbol}
 use Rattle.address_label.specs.declared.AddressLabel.{AddressLabel}
 use Rattle.address_label.specs.declared.AddressLabel.TheVariants.{Constant, Label}
-use Rattle.cursor.specs.declared.Seen.{Seen}
-use Rattle.cursor.specs.declared.Seen.TheVariants.{Met, End}
 use Rattle.cursor.specs.Cursors.{At, step, next_adjacent, peek_adjacent}
 use Rattle.operand.specs.declared.Miss.TheVariants.{EndOfFile, ExpectedLabel, ExpectedRightBrace}
 use Rattle.operands.specs.Operands.{is_kind, get_register, get_integer, get_constant}
@@ -22,9 +16,9 @@ use Rattle.operand.specs.declared.OffsetOrLabel.TheVariants.{Label as LabelAlone
 use Rattle.operand.specs.Answers.{Answer, Got, Missed, here}
 
 -- a token of the kind with that number is met
-abbrev pub is_met : ℕ → Seen → Bool
-is_met n End = false
-is_met n (Met t) = is_kind n t
+abbrev pub is_met : ℕ → Option Token → Bool
+is_met n None = false
+is_met n (Some t) = is_kind n t
 
 -- ---- a label: "a number, or a Symbol with an optional Plus and constant"
 
@@ -36,7 +30,7 @@ plus_constant x l (Got n) = Got (named x l n)
 plus_constant x l (Missed m) = Missed m
 
 -- the Symbol x at l, with i the index behind it and what is met ahead
-abbrev pub plus_seen : Text → Location → List Token → ℕ → At Seen → At (Answer AddressLabel)
+abbrev pub plus_seen : Text → Location → List Token → ℕ → At (Option Token) → At (Answer AddressLabel)
 plus_seen x l ts i ahead =
     elim (is_met 9 ahead.answer) [
       | true ↦ here (plus_constant x l (get_constant ts (step ts ahead.index)).answer) (get_constant ts (step ts ahead.index)).index
@@ -48,22 +42,22 @@ unfolding get_constant peek_adjacent step
 symbol_label x l ts i = plus_seen x l ts i (peek_adjacent ts i)
 
 -- "7. A label was due (a: kind met)."
-abbrev pub symbol_met : Token → List Token → ℕ → MaybeText → At (Answer AddressLabel)
-symbol_met t ts i (SomeText x) = symbol_label x t.location ts i
-symbol_met t ts i NoText = here (Missed (ExpectedLabel (strip t.kind) t.location)) i
+abbrev pub symbol_met : Token → List Token → ℕ → Option Text → At (Answer AddressLabel)
+symbol_met t ts i (Some x) = symbol_label x t.location ts i
+symbol_met t ts i None = here (Missed (ExpectedLabel (strip t.kind) t.location)) i
 
-abbrev pub label_met : Token → List Token → ℕ → MaybeInteger → At (Answer AddressLabel)
-label_met t ts i (SomeInteger n) = here (Got (Constant n)) i
-label_met t ts i NoInteger = symbol_met t ts i (as_symbol t.kind)
+abbrev pub label_met : Token → List Token → ℕ → Option ℕ → At (Answer AddressLabel)
+label_met t ts i (Some n) = here (Got (Constant n)) i
+label_met t ts i None = symbol_met t ts i (as_symbol t.kind)
 
 -- the label whose first token is t, with i the index behind it
 unfoldable pub to_label : Token → List Token → ℕ → At (Answer AddressLabel)
 unfolding get_integer symbol_label
 to_label t ts i = label_met t ts (get_integer t ts i).index (get_integer t ts i).answer
 
-abbrev pub label_seen : List Token → ℕ → Seen → At (Answer AddressLabel)
-label_seen ts i End = here (Missed EndOfFile) i
-label_seen ts i (Met t) = to_label t ts i
+abbrev pub label_seen : List Token → ℕ → Option Token → At (Answer AddressLabel)
+label_seen ts i None = here (Missed EndOfFile) i
+label_seen ts i (Some t) = to_label t ts i
 
 unfoldable pub get_label : List Token → ℕ → At (Answer AddressLabel)
 unfolding next_adjacent to_label
@@ -72,9 +66,9 @@ get_label ts i = label_seen ts (next_adjacent ts i).index (next_adjacent ts i).a
 -- ---- an offset with a register in braces, or a label
 
 -- "8. A right brace was due (a: kind met)."
-abbrev pub closed_seen : AddressLabel → RegisterSlot → Seen → Answer OffsetOrLabel
-closed_seen label r End = Missed EndOfFile
-closed_seen label r (Met t) = elim (is_kind 15 t) [ true ↦ Got (Offset label r) | false ↦ Missed (ExpectedRightBrace (strip t.kind) t.location) ]
+abbrev pub closed_seen : AddressLabel → RegisterSlot → Option Token → Answer OffsetOrLabel
+closed_seen label r None = Missed EndOfFile
+closed_seen label r (Some t) = elim (is_kind 15 t) [ true ↦ Got (Offset label r) | false ↦ Missed (ExpectedRightBrace (strip t.kind) t.location) ]
 
 abbrev pub braced_by : AddressLabel → List Token → ℕ → Answer RegisterSlot → At (Answer OffsetOrLabel)
 braced_by label ts i (Got r) = here (closed_seen label r (next_adjacent ts i).answer) (next_adjacent ts i).index
@@ -93,7 +87,7 @@ abbrev pub unbraced : Answer AddressLabel → Answer OffsetOrLabel
 unbraced (Got label) = Got (LabelAlone label)
 unbraced (Missed m) = Missed m
 
-abbrev pub brace_seen : Answer AddressLabel → List Token → At Seen → At (Answer OffsetOrLabel)
+abbrev pub brace_seen : Answer AddressLabel → List Token → At (Option Token) → At (Answer OffsetOrLabel)
 brace_seen label ts ahead =
     elim (is_met 14 ahead.answer) [
       | true ↦ braced (or_zero label) ts (step ts ahead.index)

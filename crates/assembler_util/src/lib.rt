@@ -10,9 +10,9 @@ ghost use Rattle.assembler_util.specs.LabelOperands.{is_met, named, plus_constan
 ghost use Rattle.assembler_util.specs.LabelOperands.{or_zero, unbraced, closed_seen, braced, get_offset_or_label};
 
 use address_label::{AddressLabel, NamedLabel};
-use cursor::{Cursor, Seen};
-use lexer::{MaybeInteger, MaybeText, Text, Token};
-use operand::{Miss, Operand, OperandAnswer, OperandRead, Want};
+use cursor::Cursor;
+use lexer::{Text, Token};
+use operand::{Miss, Operand, OperandRead, Want};
 use record::Location;
 use registers::RegisterSlot;
 
@@ -28,12 +28,12 @@ fn named(text: Text, location: Location, offset: u64) -> AddressLabel
 }
 
 // Whether a token of the kind with that number was met.
-fn is_met(number: u8, seen: Seen) -> bool
+fn is_met(number: u8, seen: Option<Token>) -> bool
     ensures { result ≡ is_met number seen }
 {
     match seen {
-        Seen::End => false,
-        Seen::Met(t) => {
+        None => false,
+        Some(t) => {
             let kind = t.kind;
             lexer::strip(kind) == number
         }
@@ -58,21 +58,21 @@ fn symbol_label(text: Text, location: Location, list: &[u8], from: Cursor) -> Op
         OperandRead { answer, cursor }
     } else {
         OperandRead {
-            answer: OperandAnswer::Got(Operand::Label(named(text, location, 0))),
+            answer: Ok(Operand::Label(named(text, location, 0))),
             cursor: from,
         }
     }
 }
 
-fn plus_constant(text: Text, location: Location, constant: OperandAnswer) -> OperandAnswer
+fn plus_constant(text: Text, location: Location, constant: Result<Operand, Miss>) -> Result<Operand, Miss>
     ensures { result ≡ answer_of Want.Label (plus_constant text location (held_answer Want.Constant constant)) }
 {
     match constant {
-        OperandAnswer::Got(operand) => {
+        Ok(operand) => {
             let offset = operand::constant_in(operand);
-            OperandAnswer::Got(Operand::Label(named(text, location, offset)))
+            Ok(Operand::Label(named(text, location, offset)))
         }
-        OperandAnswer::Missed(miss) => OperandAnswer::Missed(miss),
+        Err(miss) => Err(miss),
     }
 }
 
@@ -89,14 +89,14 @@ fn to_label(first: Token, list: &[u8], from: Cursor) -> OperandRead
     let cursor = read.cursor;
     let number = read.answer;
     match number {
-        MaybeInteger::Some(n) => OperandRead {
-            answer: OperandAnswer::Got(Operand::Label(AddressLabel::Constant(n))),
+        Some(n) => OperandRead {
+            answer: Ok(Operand::Label(AddressLabel::Constant(n))),
             cursor,
         },
-        MaybeInteger::Nothing => match lexer::as_symbol(kind) {
-            MaybeText::Some(text) => symbol_label(text, location, list, cursor),
-            MaybeText::Nothing => OperandRead {
-                answer: OperandAnswer::Missed(Miss::ExpectedLabel(lexer::strip(kind), location)),
+        None => match lexer::as_symbol(kind) {
+            Some(text) => symbol_label(text, location, list, cursor),
+            None => OperandRead {
+                answer: Err(Miss::ExpectedLabel(lexer::strip(kind), location)),
                 cursor,
             },
         },
@@ -111,32 +111,32 @@ pub fn get_label(list: &[u8], from: Cursor) -> OperandRead
     let seen = read.answer;
     let cursor = read.cursor;
     match seen {
-        Seen::End => OperandRead {
-            answer: OperandAnswer::Missed(Miss::EndOfFile),
+        None => OperandRead {
+            answer: Err(Miss::EndOfFile),
             cursor,
         },
-        Seen::Met(t) => to_label(t, list, cursor),
+        Some(t) => to_label(t, list, cursor),
     }
 }
 
-fn or_zero(label: OperandAnswer) -> AddressLabel
+fn or_zero(label: Result<Operand, Miss>) -> AddressLabel
     ensures { result ≡ or_zero (held_answer Want.Label label) }
 {
     match label {
-        OperandAnswer::Got(operand) => operand::label_in(operand),
-        OperandAnswer::Missed(_) => AddressLabel::Constant(0),
+        Ok(operand) => operand::label_in(operand),
+        Err(_) => AddressLabel::Constant(0),
     }
 }
 
-fn unbraced(label: OperandAnswer) -> OperandAnswer
+fn unbraced(label: Result<Operand, Miss>) -> Result<Operand, Miss>
     ensures { result ≡ answer_of Want.OffsetOrLabel (unbraced (held_answer Want.Label label)) }
 {
     match label {
-        OperandAnswer::Got(operand) => {
+        Ok(operand) => {
             let alone = operand::label_in(operand);
-            OperandAnswer::Got(Operand::Label(alone))
+            Ok(Operand::Label(alone))
         }
-        OperandAnswer::Missed(miss) => OperandAnswer::Missed(miss),
+        Err(miss) => Err(miss),
     }
 }
 
@@ -151,11 +151,11 @@ fn braced(label: AddressLabel, list: &[u8], from: Cursor) -> OperandRead
     let register = read.answer;
     let cursor = read.cursor;
     match register {
-        OperandAnswer::Missed(miss) => OperandRead {
-            answer: OperandAnswer::Missed(miss),
+        Err(miss) => OperandRead {
+            answer: Err(miss),
             cursor,
         },
-        OperandAnswer::Got(operand) => {
+        Ok(operand) => {
             let slot = operand::slot_in(operand);
             let right = cursor::next_adjacent(list, cursor);
             let seen = right.answer;
@@ -169,19 +169,19 @@ fn braced(label: AddressLabel, list: &[u8], from: Cursor) -> OperandRead
     }
 }
 
-fn closed_seen(label: AddressLabel, slot: RegisterSlot, seen: Seen) -> OperandAnswer
+fn closed_seen(label: AddressLabel, slot: RegisterSlot, seen: Option<Token>) -> Result<Operand, Miss>
     ensures { result ≡ answer_of Want.OffsetOrLabel (closed_seen label slot seen) }
 {
     match seen {
-        Seen::End => OperandAnswer::Missed(Miss::EndOfFile),
-        Seen::Met(t) => {
+        None => Err(Miss::EndOfFile),
+        Some(t) => {
             let location = t.location;
             let kind = t.kind;
             let number = lexer::strip(kind);
             if number == lexer::RIGHT_BRACE {
-                OperandAnswer::Got(Operand::Offset(label, slot))
+                Ok(Operand::Offset(label, slot))
             } else {
-                OperandAnswer::Missed(Miss::ExpectedRightBrace(number, location))
+                Err(Miss::ExpectedRightBrace(number, location))
             }
         }
     }

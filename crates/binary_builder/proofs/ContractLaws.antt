@@ -1,26 +1,17 @@
 -- The entry's part of the answer, and a whole build's answer for each of its verdicts. Assumes nothing.
-use Rattle.std.specs.Prelude.{ℕ, ◌+◌, ◌≤◌, List, [], ◌∷◌, ◌≡◌, refl, length}
+use Rattle.std.specs.Prelude.{ℕ, ◌+◌, ◌≤◌, List, [], ◌∷◌, ◌≡◌, refl, length, Err, None, Ok, Option, Result, Some}
 use Rattle.std.proofs.Common.{arith, sym, ap, ◌∙◌}
 use Rattle.jobs.specs.declared.Job.{Job}
 use Rattle.record.specs.Records.{next, places, first_bad}
 use Rattle.record.proofs.RecordsLaws.{first_good}
-use Rattle.record.specs.declared.Layout.TheVariants.{Good}
-use Rattle.refusal.specs.Verdicts.{and_then, first_stop, name_verdict}
+use Rattle.refusal.specs.Verdicts.{and_then, first_stop, name_verdict, Verdict}
 use Rattle.refusal.specs.declared.Refusal.{Refusal}
 use Rattle.refusal.specs.declared.Refusal.TheVariants.{UnknownEntry}
-use Rattle.refusal.specs.declared.Verdict.{Verdict}
-use Rattle.refusal.specs.declared.Verdict.TheVariants.{Pass, Stop}
 use Rattle.labels.specs.Labels.{label_repeat, Table, table_of}
-use Rattle.labels.specs.declared.Address.{Address}
-use Rattle.labels.specs.declared.Address.TheVariants.{Known, Unknown}
 use Rattle.address_label.specs.declared.AddressLabel.{AddressLabel}
-use Rattle.address_label.specs.declared.Entry.{Entry}
-use Rattle.address_label.specs.declared.Entry.TheVariants.{Default, Stated}
 use Rattle.address_label.specs.AddressLabels.{address_label_at}
 use Rattle.address_label.specs.Entries.{entry_ok, entry_layout, entry_of}
 use Rattle.address_label.proofs.EntriesLaws.{entry_is, entry_good}
-use Rattle.build_outcome.specs.declared.Built.{Built}
-use Rattle.build_outcome.specs.declared.Built.TheVariants.{Entry as BuiltEntry, Refused}
 use Rattle.patch.specs.Patches.{destination, name_end, name_location, address_or}
 use Rattle.build_outcome.specs.Build.{patch_order, patch_verdict, reach_entry, entry_verdict, entry_address, layout_verdicts, build_verdict, patched_regions, build_outcome}
 use Rattle.build_outcome.specs.Returned.{returned}
@@ -33,10 +24,10 @@ use Rattle.binary_builder.proofs.OrderLaws.{label_end}
 
 -- ---- the entry
 -- a stated name ends within the list
-pub entry_name : (s : List ℕ) (l : AddressLabel) → entry_layout s ≡ Good → entry_of s (places s) ≡ Stated l → name_end l ≤ length s
+pub entry_name : (s : List ℕ) (l : AddressLabel) → entry_layout s ≡ None → entry_of s (places s) ≡ Some l → name_end l ≤ length s
 entry_name s l g e = go (places s) (entry_good s g).1 e
   where
-    go : (ps : List ℕ) → first_bad (entry_ok s) ps ≡ Good → entry_of s ps ≡ Stated l → name_end l ≤ length s
+    go : (ps : List ℕ) → first_bad (entry_ok s) ps ≡ None → entry_of s ps ≡ Some l → name_end l ≤ length s
     go [] f q = let z : ◌≡◌ {A = ℕ} 0 1 = cc in absurd (omega arith)
     go (p ∷ ps) f q =
         let i = entry_is s p (first_good (entry_ok s) p ps f).0 in
@@ -44,21 +35,21 @@ entry_name s l g e = go (places s) (entry_good s g).1 e
         rw k at (label_end s (p + 4) (next s p) (omega arith) i.body)
 
 module _ (labels : Table) (entry : List ℕ) where
-  reached_known : (l : AddressLabel) (x : Address) (a : ℕ) → reached_entry l x ≡ BuiltEntry a → (reach_entry l x ≡ Pass) × (address_or 0 x ≡ a)
-  reached_known l (Known y) a e = (refl, cc)
-  reached_known l Unknown a e = let z : ◌≡◌ {A = ℕ} 0 1 = cc in absurd (omega arith)
+  reached_known : (l : AddressLabel) (x : Option ℕ) (a : ℕ) → reached_entry l x ≡ Ok a → (reach_entry l x ≡ Ok tt) × (address_or 0 x ≡ a)
+  reached_known l (Some y) a e = (refl, cc)
+  reached_known l None a e = let z : ◌≡◌ {A = ℕ} 0 1 = cc in absurd (omega arith)
 
-  reached_unknown : (l : AddressLabel) (x : Address) (r : Refusal) → reached_entry l x ≡ Refused r → reach_entry l x ≡ Stop r
-  reached_unknown l (Known y) r e = cc
-  reached_unknown l Unknown r e = let h : UnknownEntry (name_location l) ≡ r = cc in ap Stop h
+  reached_unknown : (l : AddressLabel) (x : Option ℕ) (r : Refusal) → reached_entry l x ≡ Err r → reach_entry l x ≡ Err r
+  reached_unknown l (Some y) r e = cc
+  reached_unknown l None r e = let h : UnknownEntry (name_location l) ≡ r = cc in ap Err h
 
-  pub entry_passes : (e : Entry) (a : ℕ) → entry_answer labels entry e ≡ BuiltEntry a → (entry_verdict labels entry e ≡ Pass) × (entry_address labels entry e ≡ a)
-  entry_passes Default a h = (refl, cc)
-  entry_passes (Stated l) a h = reached_known l (destination labels entry l) a h
+  pub entry_passes : (e : Option AddressLabel) (a : ℕ) → entry_answer labels entry e ≡ Ok a → (entry_verdict labels entry e ≡ Ok tt) × (entry_address labels entry e ≡ a)
+  entry_passes None a h = (refl, cc)
+  entry_passes (Some l) a h = reached_known l (destination labels entry l) a h
 
-  pub entry_stops : (e : Entry) (r : Refusal) → entry_answer labels entry e ≡ Refused r → entry_verdict labels entry e ≡ Stop r
-  entry_stops Default r h = cc
-  entry_stops (Stated l) r h = reached_unknown l (destination labels entry l) r h
+  pub entry_stops : (e : Option AddressLabel) (r : Refusal) → entry_answer labels entry e ≡ Err r → entry_verdict labels entry e ≡ Err r
+  entry_stops None r h = cc
+  entry_stops (Some l) r h = reached_unknown l (destination labels entry l) r h
 
 -- ---- the build
 module _ (job : Job) (labels entry regions pending : List ℕ) where
@@ -69,7 +60,7 @@ module _ (job : Job) (labels entry regions pending : List ℕ) where
   unfolding build_verdict
   verdict_is a b c d ha hb hc hd = rw (ha, hb, hc, hd)
 
-  build_is : (answer : Built) (exit : List ℕ) → answer ≡ (build_outcome job (table_of labels) entry regions pending).answer → exit ≡ (build_outcome job (table_of labels) entry regions pending).regions
+  build_is : (answer : Result ℕ Refusal) (exit : List ℕ) → answer ≡ (build_outcome job (table_of labels) entry regions pending).answer → exit ≡ (build_outcome job (table_of labels) entry regions pending).regions
       → BuildBy job labels entry regions pending answer exit
   build_is answer exit a b =
       record {
@@ -79,13 +70,13 @@ module _ (job : Job) (labels entry regions pending : List ℕ) where
         reads_back = λ pr. ap (λ (r : List ℕ). readings (image_of r) pending) b ∙ reads_back job (table_of labels) entry regions pending pr;
       }
 
-  pub refused_is : (r : Refusal) → build_verdict job (table_of labels) entry regions pending ≡ Stop r → BuildBy job labels entry regions pending (Refused r) regions
+  pub refused_is : (r : Refusal) → build_verdict job (table_of labels) entry regions pending ≡ Err r → BuildBy job labels entry regions pending (Err r) regions
   refused_is r e =
       let o = outcome_refused job (table_of labels) entry regions pending r e in
-      build_is (Refused r) regions (sym o.0) (sym o.1)
+      build_is (Err r) regions (sym o.0) (sym o.1)
 
-  pub accepted_is : (a : ℕ) (exit : List ℕ) → build_verdict job (table_of labels) entry regions pending ≡ Pass → entry_address (table_of labels) entry (entry_of entry (places entry)) ≡ a
-      → exit ≡ patched_regions (table_of labels) regions pending → BuildBy job labels entry regions pending (BuiltEntry a) exit
+  pub accepted_is : (a : ℕ) (exit : List ℕ) → build_verdict job (table_of labels) entry regions pending ≡ Ok tt → entry_address (table_of labels) entry (entry_of entry (places entry)) ≡ a
+      → exit ≡ patched_regions (table_of labels) regions pending → BuildBy job labels entry regions pending (Ok a) exit
   accepted_is a exit e h k =
       let o = outcome_accepted job (table_of labels) entry regions pending e in
-      build_is (BuiltEntry a) exit (cc) (k ∙ sym o.1)
+      build_is (Ok a) exit (cc) (k ∙ sym o.1)

@@ -1,17 +1,17 @@
 -- What a build promises in each sort of job: its answer in document 01's numbers, every byte of the region list, and that the patches read back. Assumes nothing.
-use Rattle.std.specs.Prelude.{◌≡◌, List, ℕ}
+use Rattle.std.specs.Prelude.{◌≡◌, List, ℕ, Result}
 use Rattle.jobs.specs.declared.Job.{Job}
 use Rattle.jobs.specs.declared.Job.TheVariants.{Commit}
 use Rattle.labels.specs.Labels.{table_of}
-use Rattle.build_outcome.specs.declared.Built.{Built}
 use Rattle.build_outcome.specs.Build.{build_outcome}
 use Rattle.build_outcome.specs.Returned.{returned}
 use Rattle.reading.specs.Reading.{image_of, readings, destinations}
 use Rattle.reading.specs.Premises.{Premises}
+use Rattle.refusal.specs.declared.Refusal.{Refusal}
 
 -- The answer and the region list at exit, for a build of these lists. Of the same outcome are demand 3's claim on two label tables,
 -- `differing_apart` in crates/reading/proofs/Demand.antt, and every finished word, `finished` in crates/finished_words/proofs/Finished.antt.
-pub record BuildBy (job : Job) (labels entry regions pending : List ℕ) (answer : Built) (exit : List ℕ) : Type 0 where
+pub record BuildBy (job : Job) (labels entry regions pending : List ℕ) (answer : Result ℕ Refusal) (exit : List ℕ) : Type 0 where
   pub answer_is : answer ≡ (build_outcome job (table_of labels) entry regions pending).answer
   -- number, location, a, b and entry
   pub returned_is : returned answer ≡ returned (build_outcome job (table_of labels) entry regions pending).answer
@@ -20,5 +20,5 @@ pub record BuildBy (job : Job) (labels entry regions pending : List ℕ) (answer
   pub reads_back : Premises job (table_of labels) entry regions pending → readings (image_of exit) pending ≡ destinations (table_of labels) pending
 
 -- "Old jobs still equal the commit" (document 02, P5): what `build` promises
-abbrev pub BuildIs : (labels entry regions pending : List ℕ) → Built → (exit : List ℕ) → Type 0
+abbrev pub BuildIs : (labels entry regions pending : List ℕ) → Result ℕ Refusal → (exit : List ℕ) → Type 0
 BuildIs = BuildBy Commit

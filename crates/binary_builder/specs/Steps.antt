@@ -1,37 +1,30 @@
 -- What the steps of a build promise: the entry's answer, the pendings' places in patch order, and the places of their labels. Assumes nothing.
-use Rattle.std.specs.Prelude.{ℕ, ◌≤◌, ◌<◌, ◌≡◌, List, map, length, take, get_or}
+use Rattle.std.specs.Prelude.{ℕ, ◌≤◌, ◌<◌, ◌≡◌, List, map, length, take, get_or, Err, None, Ok, Option, Result, Some}
 use Rattle.jobs.specs.declared.Job.{Job}
-use Rattle.record.specs.declared.Layout.TheVariants.{Good}
 use Rattle.refusal.specs.Verdicts.{first_stop}
 use Rattle.refusal.specs.declared.Refusal.TheVariants.{UnknownEntry}
-use Rattle.refusal.specs.declared.Verdict.TheVariants.{Pass}
-use Rattle.labels.specs.declared.Address.{Address}
-use Rattle.labels.specs.declared.Address.TheVariants.{Known, Unknown}
 use Rattle.labels.specs.Labels.{label_layout, Table}
 use Rattle.regions.specs.Regions.{region_layout, region_count}
 use Rattle.address_label.specs.declared.AddressLabel.{AddressLabel}
-use Rattle.address_label.specs.declared.Entry.{Entry}
-use Rattle.address_label.specs.declared.Entry.TheVariants.{Default, Stated}
 use Rattle.pending.specs.Pendings.{pending_layout, pending_at, PendingIs}
 use Rattle.patch.specs.Patches.{destination, name_location}
 use Rattle.patch.specs.Placed.{label_place}
-use Rattle.build_outcome.specs.declared.Built.{Built}
-use Rattle.build_outcome.specs.declared.Built.TheVariants.{Entry as BuiltEntry, Refused}
 use Rattle.build_outcome.specs.Build.{order_from, patch_order, patch_verdict}
+use Rattle.refusal.specs.declared.Refusal.{Refusal}
 
 -- the entry's part of the answer
-abbrev pub reached_entry : AddressLabel → Address → Built
-reached_entry label (Known address) = BuiltEntry address
-reached_entry label Unknown = Refused (UnknownEntry (name_location label))
+abbrev pub reached_entry : AddressLabel → Option ℕ → Result ℕ Refusal
+reached_entry label (Some address) = Ok address
+reached_entry label None = Err (UnknownEntry (name_location label))
 
-abbrev pub entry_answer : (labels : Table) (entry : List ℕ) → Entry → Built
-entry_answer labels entry Default = BuiltEntry 0x00400000
-entry_answer labels entry (Stated label) = reached_entry label (destination labels entry label)
+abbrev pub entry_answer : (labels : Table) (entry : List ℕ) → Option AddressLabel → Result ℕ Refusal
+entry_answer labels entry None = Ok 0x00400000
+entry_answer labels entry (Some label) = reached_entry label (destination labels entry label)
 
 -- a list of pendings, of whatever number of regions
 pub record PendingList (pending : List ℕ) : Type 0 where
   pub regions : ℕ
-  pub kept : pending_layout regions pending ≡ Good
+  pub kept : pending_layout regions pending ≡ None
 
 -- the most pendings of a list: 65,536 bytes have no more records of 36
 abbrev pub most_pendings : ℕ
@@ -44,7 +37,7 @@ pub record Ordered (ps : List ℕ) (n : ℕ) (order : List ℕ) : Type 0 where
 
 -- patch order, of as many regions as the pendings may be of
 abbrev pub InPatchOrder : (pending : List ℕ) (n : ℕ) (order : List ℕ) → Type 0
-InPatchOrder pending n order = (count : ℕ) → count ≤ 16 → pending_layout count pending ≡ Good → Ordered (order_from count pending 0) n order
+InPatchOrder pending n order = (count : ℕ) → count ≤ 16 → pending_layout count pending ≡ None → Ordered (order_from count pending 0) n order
 
 -- a pending stands at each of the places
 abbrev pub EachPending : (pending ps : List ℕ) → Type 0
@@ -57,9 +50,9 @@ label_places labels pending ps = map (λ (p : ℕ). label_place labels pending (
 
 -- lists that keep their layouts, the pendings' places in patch order, and the places of their labels
 pub record BuildLists (labels regions pending order found : List ℕ) : Type 0 where
-  pub labels_good : label_layout labels ≡ Good
-  pub regions_good : region_layout regions ≡ Good
-  pub pending_good : pending_layout (region_count regions) pending ≡ Good
+  pub labels_good : label_layout labels ≡ None
+  pub regions_good : region_layout regions ≡ None
+  pub pending_good : pending_layout (region_count regions) pending ≡ None
   pub in_order : order ≡ patch_order regions pending
   pub few : length order ≤ most_pendings
   pub found_are : found ≡ label_places labels pending order
@@ -67,4 +60,4 @@ pub record BuildLists (labels regions pending order found : List ℕ) : Type 0 w
 -- patches at these places have passed their checks, in whichever job
 pub record PatchesPass (labels : Table) (regions pending ps : List ℕ) : Type 0 where
   pub job : Job
-  pub pass : first_stop (patch_verdict job labels regions pending) ps ≡ Pass
+  pub pass : first_stop (patch_verdict job labels regions pending) ps ≡ Ok tt

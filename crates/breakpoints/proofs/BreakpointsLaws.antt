@@ -1,12 +1,10 @@
 -- What a breakpoint's test says, in facts, and the laws of the filled part of a buffer. Assumes nothing.
-use Rattle.std.specs.Prelude.{ℕ, ◌+◌, ◌%◌, ◌≤◌, ◌<◌, List, Bool, ◌&&◌, ◌≡◌, refl, length, take, leb, eqb}
+use Rattle.std.specs.Prelude.{ℕ, ◌+◌, ◌%◌, ◌≤◌, ◌<◌, List, Bool, ◌&&◌, ◌≡◌, refl, length, take, leb, eqb, None, Option, Some}
 use Rattle.std.proofs.Math.Bool.{true, false, and-eq-true_iff}
 use Rattle.std.proofs.Common.{sym, ◌∙◌, arith, leb-true, leb-false, le-leb, eq-eqb, ne_eqb}
 use Rattle.std.proofs.lemmas.Bool.{lt-leb}
 use Rattle.record.specs.Records.{body_len, kind_at, next, whole, places, first_bad, limit}
 use Rattle.record.proofs.RecordsLaws.{whole_is, limit_kept, limit_passed}
-use Rattle.record.specs.declared.Layout.{Layout}
-use Rattle.record.specs.declared.Layout.TheVariants.{Good, Bad}
 use Rattle.pending.specs.Pendings.{pending_ok}
 use Rattle.breakpoints.specs.Breakpoints.{breakpoint_ok, filled_layout, pending_buffer_layout, breakpoint_buffer_layout, region_number_ok, data_buffer_layout}
 
@@ -31,22 +29,22 @@ breakpoint_is s at e =
 
 -- ---- the filled part of a buffer: its layout, that the count is over the length, or that the buffer is over the limit
 module _ (fill : ℕ) (s : List ℕ) where
-  pub filled_kept : (l : Layout) → length s ≤ limit → fill ≤ length s → filled_layout fill s l ≡ l
+  pub filled_kept : (l : Option ℕ) → length s ≤ limit → fill ≤ length s → filled_layout fill s l ≡ l
   unfolding filled_layout
   filled_kept l h f = rw (le-leb fill (length s) f, filled_layout) (limit_kept s l h)
 
-  pub filled_over : (l : Layout) → length s ≤ limit → length s < fill → filled_layout fill s l ≡ Bad (length s)
+  pub filled_over : (l : Option ℕ) → length s ≤ limit → length s < fill → filled_layout fill s l ≡ Some (length s)
   unfolding filled_layout
-  filled_over l h f = rw (lt-leb fill (length s) f, filled_layout) (limit_kept s (Bad (length s)) h)
+  filled_over l h f = rw (lt-leb fill (length s) f, filled_layout) (limit_kept s (Some (length s)) h)
 
-  pub filled_passed : (l : Layout) → limit < length s → filled_layout fill s l ≡ Bad limit
+  pub filled_passed : (l : Option ℕ) → limit < length s → filled_layout fill s l ≡ Some limit
   unfolding filled_layout
-  filled_passed l h = limit_passed s (elim (leb fill (length s)) [ true ↦ l | false ↦ Bad (length s) ]) h
+  filled_passed l h = limit_passed s (elim (leb fill (length s)) [ true ↦ l | false ↦ Some (length s) ]) h
 
   -- either the count and the length are kept, or no layout of the filled part counts
   data Filled : Type 0 where
     kept : length s ≤ limit → fill ≤ length s → Filled
-    refused : (p : ℕ) → ((l : Layout) → filled_layout fill s l ≡ Bad p) → Filled
+    refused : (p : ℕ) → ((l : Option ℕ) → filled_layout fill s l ≡ Some p) → Filled
 
   which : Filled
   which = go (leb (length s) limit) refl (leb fill (length s)) refl
@@ -56,43 +54,43 @@ module _ (fill : ℕ) (s : List ℕ) where
       go true e false f = refused (length s) (λ l. filled_over l (leb-true (length s) limit e) (leb-false fill (length s) f))
       go false e d f = refused limit (λ l. filled_passed l (leb-false (length s) limit e))
 
-  pub filled_good : (l : Layout) → filled_layout fill s l ≡ Good → (length s ≤ limit) × (fill ≤ length s) × (l ≡ Good)
+  pub filled_good : (l : Option ℕ) → filled_layout fill s l ≡ None → (length s ≤ limit) × (fill ≤ length s) × (l ≡ None)
   filled_good l g = go which
     where
-      go : Filled → (length s ≤ limit) × (fill ≤ length s) × (l ≡ Good)
+      go : Filled → (length s ≤ limit) × (fill ≤ length s) × (l ≡ None)
       go (kept h f) = (h, f, sym (filled_kept l h f) ∙ g)
       go (refused p r) = let b = r l in let z : ◌≡◌ {A = ℕ} 0 1 = cc in absurd (omega arith)
 
   -- where the length or the count is refused, the place is the same for every layout
-  pub filled_bad : (l : Layout) (p : ℕ) → filled_layout fill s Good ≡ Bad p → filled_layout fill s l ≡ Bad p
+  pub filled_bad : (l : Option ℕ) (p : ℕ) → filled_layout fill s None ≡ Some p → filled_layout fill s l ≡ Some p
   filled_bad l p b = go which
     where
-      go : Filled → filled_layout fill s l ≡ Bad p
-      go (kept h f) = cc (filled_kept Good h f)
-      go (refused q r) = cc (r Good, r l)
+      go : Filled → filled_layout fill s l ≡ Some p
+      go (kept h f) = cc (filled_kept None h f)
+      go (refused q r) = cc (r None, r l)
 
   -- ---- the three buffers
-  pub pending_buffer_good : pending_buffer_layout fill s ≡ Good → (length s ≤ limit) × (fill ≤ length s) × (first_bad (pending_ok 16 (take fill s)) (places (take fill s)) ≡ Good)
+  pub pending_buffer_good : pending_buffer_layout fill s ≡ None → (length s ≤ limit) × (fill ≤ length s) × (first_bad (pending_ok 16 (take fill s)) (places (take fill s)) ≡ None)
   unfolding pending_buffer_layout
   pending_buffer_good g = filled_good (first_bad (pending_ok 16 (take fill s)) (places (take fill s))) g
 
-  pub breakpoint_buffer_good : breakpoint_buffer_layout fill s ≡ Good → (length s ≤ limit) × (fill ≤ length s) × (first_bad (breakpoint_ok (take fill s)) (places (take fill s)) ≡ Good)
+  pub breakpoint_buffer_good : breakpoint_buffer_layout fill s ≡ None → (length s ≤ limit) × (fill ≤ length s) × (first_bad (breakpoint_ok (take fill s)) (places (take fill s)) ≡ None)
   unfolding breakpoint_buffer_layout
   breakpoint_buffer_good g = filled_good (first_bad (breakpoint_ok (take fill s)) (places (take fill s))) g
 
-  pub data_layout : (region : ℕ) → region_number_ok region ≡ true → data_buffer_layout region fill s ≡ filled_layout fill s Good
+  pub data_layout : (region : ℕ) → region_number_ok region ≡ true → data_buffer_layout region fill s ≡ filled_layout fill s None
   unfolding data_buffer_layout
   data_layout region e = rw (e, data_buffer_layout)
 
-  pub data_refused : (region : ℕ) → region_number_ok region ≡ false → data_buffer_layout region fill s ≡ Bad 0
+  pub data_refused : (region : ℕ) → region_number_ok region ≡ false → data_buffer_layout region fill s ≡ Some 0
   unfolding data_buffer_layout
   data_refused region e = rw (e, data_buffer_layout)
 
-  pub data_good : (region : ℕ) → data_buffer_layout region fill s ≡ Good → (region_number_ok region ≡ true) × (length s ≤ limit) × (fill ≤ length s)
+  pub data_good : (region : ℕ) → data_buffer_layout region fill s ≡ None → (region_number_ok region ≡ true) × (length s ≤ limit) × (fill ≤ length s)
   data_good region g = go (region_number_ok region) refl
     where
       go : (b : Bool) → region_number_ok region ≡ b → (region_number_ok region ≡ true) × (length s ≤ limit) × (fill ≤ length s)
-      go true e = let f = filled_good Good (sym (data_layout region e) ∙ g) in (e, f.0, f.1)
+      go true e = let f = filled_good None (sym (data_layout region e) ∙ g) in (e, f.0, f.1)
       go false e = let r = data_refused region e in let z : ◌≡◌ {A = ℕ} 0 1 = cc in absurd (omega arith)
 
 -- the numbers that pass, and those that do not

@@ -1,13 +1,12 @@
 -- A breakpoint that is written behind a list of breakpoints: the list keeps its layout, location and pcs read back as what was written,
 -- and the others read as before (document 01, 'Pending 36, breakpoint 37'). Assumes nothing.
-use Rattle.std.specs.Prelude.{ℕ, ◌+◌, ◌≤◌, ◌≡◌, refl, length, take, replicate}
+use Rattle.std.specs.Prelude.{ℕ, ◌+◌, ◌≤◌, ◌≡◌, refl, length, take, replicate, None}
 use Rattle.std.proofs.Common.{arith, sym, subst, length-take-le}
 use mathlib.Core.List.{List, [], ◌∷◌, ◌++◌, Memᴰ}
 use Rattle.record.specs.Records.{places, places_from, places_f, first_bad}
 use Rattle.record.specs.Stores.{filled_with}
 use Rattle.record.proofs.StoresLaws.{filled_append}
 use Rattle.record.proofs.OneMoreLaws.{good_each, one_more}
-use Rattle.record.specs.declared.Layout.TheVariants.{Good}
 use Rattle.record.specs.declared.Location.{Location}
 use Rattle.breakpoints.specs.Breakpoints.{breakpoint_ok, breakpoint_location, breakpoint_pcs}
 use Rattle.breakpoints.proofs.BreakpointsLaws.{breakpoint_is}
@@ -16,20 +15,20 @@ use Rattle.breakpoints.proofs.WrittenLaws.{breakpoint_local, breakpoint_location
 
 -- a buffer whose first `fill` bytes are breakpoints, what is to be written behind them, and room for it
 pub record Writable (buffer : List ℕ) (fill : ℕ) (location : Location) (pc n : ℕ) : Type 0 where
-  pub kept : first_bad (breakpoint_ok (take fill buffer)) (places (take fill buffer)) ≡ Good
+  pub kept : first_bad (breakpoint_ok (take fill buffer)) (places (take fill buffer)) ≡ None
   pub room : fill + length (breakpoint_bytes location pc n) ≤ length buffer
   pub fits : BreakpointFits location pc n
 
 -- the list then, as it was and as it is
 pub record Written (old new : List ℕ) (fill : ℕ) (location : Location) (pc n : ℕ) : Type 0 where
-  pub keeps : first_bad (breakpoint_ok new) (places new) ≡ Good
+  pub keeps : first_bad (breakpoint_ok new) (places new) ≡ None
   pub places_are : places new ≡ places old ++ fill ∷ []
   pub location_is : breakpoint_location new fill ≡ location
   pub pcs_are : breakpoint_pcs new fill ≡ pcs_from n pc
   pub others : (at : ℕ) → Memᴰ at (places old) → (breakpoint_location new at ≡ breakpoint_location old at) × (breakpoint_pcs new at ≡ breakpoint_pcs old at)
 
 -- behind a list
-pub written_behind : (old : List ℕ) (location : Location) (pc n : ℕ) → first_bad (breakpoint_ok old) (places old) ≡ Good → BreakpointFits location pc n
+pub written_behind : (old : List ℕ) (location : Location) (pc n : ℕ) → first_bad (breakpoint_ok old) (places old) ≡ None → BreakpointFits location pc n
     → Written old (old ++ breakpoint_bytes location pc n) (length old) location pc n
 written_behind old location pc n kept fits =
     let bytes = breakpoint_bytes location pc n in

@@ -7,7 +7,7 @@ ghost use Rattle.record.specs.Stores.{append};
 ghost use Rattle.breakpoints.specs.BreakpointBytes.{breakpoint_bytes};
 ghost use Rattle.breakpoints.specs.Breakpoints.{breakpoint_ok, filled_layout, pending_buffer_layout, breakpoint_buffer_layout, data_buffer_layout};
 
-use record::{Layout, Location};
+use record::Location;
 
 // The record kind.
 const BREAKPOINT: u16 = 37;
@@ -41,60 +41,60 @@ fn breakpoint_ok(list: &[u8], at: usize) -> bool
 }
 
 // The place of the first record that is no breakpoint.
-fn first_bad_breakpoint(list: &[u8]) -> Layout
+fn first_bad_breakpoint(list: &[u8]) -> Option<usize>
     ensures { result ≡ first_bad (breakpoint_ok list.now) (places list.now) }
 {
     let mut at: usize = 0;
     while at < list.len() {
         if !breakpoint_ok(list, at) {
-            return Layout::Bad(at);
+            return Some(at);
         }
         at = record::next(list, at);
     }
-    Layout::Good
+    None
 }
 
 // Whether the buffer is within the limit and the fill count within the buffer.
 #[tactic(auto, unfolding(crate::specs::Breakpoints::filled_layout, record::specs::Records::within_limit))]
-fn filled(buffer: &[u8], fill: usize) -> Layout
-    ensures { result ≡ filled_layout fill buffer.now Layout.Good }
+fn filled(buffer: &[u8], fill: usize) -> Option<usize>
+    ensures { result ≡ filled_layout fill buffer.now None }
 {
     if buffer.len() > record::LIMIT {
-        return Layout::Bad(record::LIMIT);
+        return Some(record::LIMIT);
     }
     if fill > buffer.len() {
-        return Layout::Bad(buffer.len());
+        return Some(buffer.len());
     }
-    Layout::Good
+    None
 }
 
 // The layout of the first `fill` bytes as a list of pendings.
-pub fn check_pending_buffer(buffer: &[u8], fill: usize) -> Layout
+pub fn check_pending_buffer(buffer: &[u8], fill: usize) -> Option<usize>
     ensures { result ≡ pending_buffer_layout fill buffer.now }
 {
     match filled(buffer, fill) {
-        Layout::Bad(p) => Layout::Bad(p),
-        Layout::Good => pending::first_bad_pending(&buffer[..fill], 16),
+        Some(p) => Some(p),
+        None => pending::first_bad_pending(&buffer[..fill], 16),
     }
 }
 
 // The layout of the first `fill` bytes as a list of breakpoints.
-pub fn check_breakpoint_buffer(buffer: &[u8], fill: usize) -> Layout
+pub fn check_breakpoint_buffer(buffer: &[u8], fill: usize) -> Option<usize>
     ensures { result ≡ breakpoint_buffer_layout fill buffer.now }
 {
     match filled(buffer, fill) {
-        Layout::Bad(p) => Layout::Bad(p),
-        Layout::Good => first_bad_breakpoint(&buffer[..fill]),
+        Some(p) => Some(p),
+        None => first_bad_breakpoint(&buffer[..fill]),
     }
 }
 
 // The region's number, and the data's length and fill count.
-pub fn check_data_buffer(buffer: &[u8], fill: usize, region: u16) -> Layout
+pub fn check_data_buffer(buffer: &[u8], fill: usize, region: u16) -> Option<usize>
     ensures { result ≡ data_buffer_layout region fill buffer.now }
 {
     if region > 15 {
         if region != 65535 {
-            return Layout::Bad(0);
+            return Some(0);
         }
     }
     filled(buffer, fill)

@@ -1,42 +1,37 @@
 -- Laws of a build's checks: what an accepted build has passed, and that what passes them all is accepted. Assumes nothing.
-use Rattle.std.specs.Prelude.{ℕ, zero, suc, ◌+◌, ◌<◌, ◌≤◌, ◌⊎◌, Bool, true, false, ◌≡◌, refl, eqb}
+use Rattle.std.specs.Prelude.{ℕ, zero, suc, ◌+◌, ◌<◌, ◌≤◌, ◌⊎◌, Bool, true, false, ◌≡◌, refl, eqb, Err, None, Ok}
 use Rattle.std.proofs.Common.{arith, inl, inr, sym, ap, ◌∙◌, eq-eqb, ne_eqb, eqb-true}
 use mathlib.Core.List.Memᴰ
 use mathlib.Core.List.{List, [], ◌∷◌, ◌++◌, Memᴰ}
 use Rattle.std.proofs.lemmas.Bool.{eqb-false}
 use Rattle.jobs.specs.declared.Job.{Job}
 use Rattle.record.specs.Records.{places}
-use Rattle.record.specs.declared.Layout.TheVariants.{Good}
-use Rattle.refusal.specs.Verdicts.{and_then, first_stop, layout_verdict, name_verdict}
+use Rattle.refusal.specs.Verdicts.{and_then, first_stop, layout_verdict, name_verdict, Verdict}
 use Rattle.refusal.proofs.VerdictsLaws.{both_pass, layout_pass, name_pass}
-use Rattle.refusal.specs.declared.Verdict.{Verdict}
-use Rattle.refusal.specs.declared.Verdict.TheVariants.{Pass, Stop}
 use Rattle.refusal.specs.declared.Refusal.{Refusal}
-use Rattle.names.specs.declared.Repeat.TheVariants.{None}
 use Rattle.labels.specs.Labels.{Table}
 use Rattle.regions.specs.Regions.{region_layout, region_count}
 use Rattle.address_label.specs.Entries.{entry_layout, entry_of}
 use Rattle.pending.specs.Pendings.{region_of, pending_layout}
 use Rattle.build_outcome.specs.Build.{keep, order_from, patch_order, patch_verdict, entry_verdict, layout_verdicts, build_verdict, entry_address, patched_regions, build_outcome}
-use Rattle.build_outcome.specs.declared.Built.TheVariants.{Entry as BuiltEntry, Refused}
 
 -- two checks pass where each does
-pub then_pass : (a b : Verdict) → a ≡ Pass → b ≡ Pass → and_then a b ≡ Pass
+pub then_pass : (a b : Verdict) → a ≡ Ok tt → b ≡ Ok tt → and_then a b ≡ Ok tt
 then_pass a b e f = ap (λ (v : Verdict). and_then v b) e ∙ f
 
 -- every element passes where the whole list does
-pub each_pass : (check : ℕ → Verdict) (ps : List ℕ) → first_stop check ps ≡ Pass → (p : ℕ) → Memᴰ p ps → check p ≡ Pass
+pub each_pass : (check : ℕ → Verdict) (ps : List ℕ) → first_stop check ps ≡ Ok tt → (p : ℕ) → Memᴰ p ps → check p ≡ Ok tt
 unfolding first_stop
 each_pass check [] e p m = elim m [ ]
 each_pass check (q ∷ ps) e p m = go (both_pass (check q) (first_stop check ps) e) (Memᴰ.cases_cons m) (each_pass check ps)
   where
-    go : (check q ≡ Pass) × (first_stop check ps ≡ Pass) → (p ≡ q) ⊎ Memᴰ p ps
-        → (first_stop check ps ≡ Pass → (p : ℕ) → Memᴰ p ps → check p ≡ Pass) → check p ≡ Pass
+    go : (check q ≡ Ok tt) × (first_stop check ps ≡ Ok tt) → (p ≡ q) ⊎ Memᴰ p ps
+        → (first_stop check ps ≡ Ok tt → (p : ℕ) → Memᴰ p ps → check p ≡ Ok tt) → check p ≡ Ok tt
     go h (inl s) ih = ap check s ∙ h.0
     go h (inr t) ih = ih h.1 p t
 
 -- and the whole list does where every element does
-pub all_pass : (check : ℕ → Verdict) (ps : List ℕ) → ((p : ℕ) → Memᴰ p ps → check p ≡ Pass) → first_stop check ps ≡ Pass
+pub all_pass : (check : ℕ → Verdict) (ps : List ℕ) → ((p : ℕ) → Memᴰ p ps → check p ≡ Ok tt) → first_stop check ps ≡ Ok tt
 unfolding first_stop
 all_pass check [] a = refl
 all_pass check (p ∷ ps) a = rw (a p (Memᴰ.head refl)) (all_pass check ps (λ q m. a q (Memᴰ.tail m)))
@@ -85,15 +80,15 @@ in_order regions pending p h m = order_mem (region_count regions) pending 0 p (o
 
 -- ---- an accepted build
 pub record Accepted (job : Job) (labels : Table) (entry regions pending : List ℕ) : Type 0 where
-  pub labels_good : labels.layout ≡ Good
-  pub entry_good : entry_layout entry ≡ Good
-  pub regions_good : region_layout regions ≡ Good
-  pub pending_good : pending_layout (region_count regions) pending ≡ Good
+  pub labels_good : labels.layout ≡ None
+  pub entry_good : entry_layout entry ≡ None
+  pub regions_good : region_layout regions ≡ None
+  pub pending_good : pending_layout (region_count regions) pending ≡ None
   pub names_good : labels.repeat ≡ None
-  pub entry_passes : entry_verdict labels entry (entry_of entry (places entry)) ≡ Pass
-  pub patches_pass : first_stop (patch_verdict job labels regions pending) (patch_order regions pending) ≡ Pass
+  pub entry_passes : entry_verdict labels entry (entry_of entry (places entry)) ≡ Ok tt
+  pub patches_pass : first_stop (patch_verdict job labels regions pending) (patch_order regions pending) ≡ Ok tt
 
-pub accepted_is : (job : Job) (labels : Table) (entry regions pending : List ℕ) → build_verdict job labels entry regions pending ≡ Pass → Accepted job labels entry regions pending
+pub accepted_is : (job : Job) (labels : Table) (entry regions pending : List ℕ) → build_verdict job labels entry regions pending ≡ Ok tt → Accepted job labels entry regions pending
 unfolding build_verdict layout_verdicts
 accepted_is job labels entry regions pending e =
     let b₁ = both_pass (layout_verdicts labels entry regions pending) _ e in
@@ -113,7 +108,7 @@ accepted_is job labels entry regions pending e =
     }
 
 -- and what passes all of these is accepted
-pub is_accepted : (job : Job) (labels : Table) (entry regions pending : List ℕ) → Accepted job labels entry regions pending → build_verdict job labels entry regions pending ≡ Pass
+pub is_accepted : (job : Job) (labels : Table) (entry regions pending : List ℕ) → Accepted job labels entry regions pending → build_verdict job labels entry regions pending ≡ Ok tt
 unfolding build_verdict layout_verdicts
 is_accepted job labels entry regions pending a =
     then_pass (layout_verdicts labels entry regions pending) _
@@ -151,13 +146,13 @@ pub ordered_in : (regions pending : List ℕ) (p : ℕ) → Memᴰ p (patch_orde
 ordered_in regions pending p m = order_in (region_count regions) pending 0 p m
 
 -- ---- the outcome
-pub outcome_accepted : (job : Job) (labels : Table) (entry regions pending : List ℕ) → build_verdict job labels entry regions pending ≡ Pass
-    → ((build_outcome job labels entry regions pending).answer ≡ BuiltEntry (entry_address labels entry (entry_of entry (places entry))))
+pub outcome_accepted : (job : Job) (labels : Table) (entry regions pending : List ℕ) → build_verdict job labels entry regions pending ≡ Ok tt
+    → ((build_outcome job labels entry regions pending).answer ≡ Ok (entry_address labels entry (entry_of entry (places entry))))
     × ((build_outcome job labels entry regions pending).regions ≡ patched_regions labels regions pending)
 unfolding build_outcome
 outcome_accepted job labels entry regions pending e = (rw e, rw e)
 
-pub outcome_refused : (job : Job) (labels : Table) (entry regions pending : List ℕ) (r : Refusal) → build_verdict job labels entry regions pending ≡ Stop r
-    → ((build_outcome job labels entry regions pending).answer ≡ Refused r) × ((build_outcome job labels entry regions pending).regions ≡ regions)
+pub outcome_refused : (job : Job) (labels : Table) (entry regions pending : List ℕ) (r : Refusal) → build_verdict job labels entry regions pending ≡ Err r
+    → ((build_outcome job labels entry regions pending).answer ≡ Err r) × ((build_outcome job labels entry regions pending).regions ≡ regions)
 unfolding build_outcome
 outcome_refused job labels entry regions pending r e = (rw e, rw e)

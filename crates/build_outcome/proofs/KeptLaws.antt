@@ -1,10 +1,9 @@
 -- What patches leave of the region list: its length, its records' places and heads, and each region's address. Assumes nothing.
-use Rattle.std.specs.Prelude.{ℕ, ◌+◌, ◌-◌, ◌<◌, ◌≤◌, List, Bool, true, false, ◌⊎◌, ◌≡◌, refl, length, ltb}
+use Rattle.std.specs.Prelude.{ℕ, ◌+◌, ◌-◌, ◌<◌, ◌≤◌, List, Bool, true, false, ◌⊎◌, ◌≡◌, refl, length, ltb, None}
 use Rattle.std.proofs.Common.{arith, inl, inr, sym, ap, ◌∙◌, ltb-true, ltb-false}
 use Rattle.record.specs.Bytes.{byte_at, le32}
 use Rattle.record.specs.Records.{body_len, next, places}
 use Rattle.record.specs.Stores.{le32_bytes, append}
-use Rattle.record.specs.declared.Layout.TheVariants.{Good}
 use Rattle.regions.specs.Regions.{region_layout, region_count, region_place, region_at}
 use Rattle.regions.proofs.RegionsLaws.{RegionIs, region_is, region_place_ok, places_apart, places_kept}
 use Rattle.patch.proofs.WordLaws.{length_put, byte_out}
@@ -17,7 +16,7 @@ pub record InData (regions : List ℕ) (r i : ℕ) : Type 0 where
   pub within : i + 4 ≤ length regions
 
 -- those at an offset within a region's data do
-pub in_data : (regions : List ℕ) (r o : ℕ) → region_layout regions ≡ Good → r < region_count regions → o + 4 ≤ (region_at regions (region_place regions r)).size
+pub in_data : (regions : List ℕ) (r o : ℕ) → region_layout regions ≡ None → r < region_count regions → o + 4 ≤ (region_at regions (region_place regions r)).size
     → InData regions r ((region_at regions (region_place regions r)).start + o)
 in_data regions r o g n h =
     let q = region_place regions r in
@@ -37,13 +36,13 @@ data_apart regions r q i j n a b = go (ltb r q) refl (ltb q r) refl
         absurd (n (omega arith))
 
 pub record Kept (regions d : List ℕ) : Type 0 where
-  pub regions_good : region_layout regions ≡ Good
+  pub regions_good : region_layout regions ≡ None
   pub length_same : length d ≡ length regions
   pub places_same : places d ≡ places regions
-  pub layout_good : region_layout d ≡ Good
+  pub layout_good : region_layout d ≡ None
   pub heads : (r : ℕ) → r < region_count regions → (j : ℕ) → region_place regions r ≤ j → j < region_place regions r + 8 → byte_at d j ≡ byte_at regions j
 
-pub kept_first : (regions : List ℕ) → region_layout regions ≡ Good → Kept regions regions
+pub kept_first : (regions : List ℕ) → region_layout regions ≡ None → Kept regions regions
 kept_first regions g = record { regions_good = g; length_same = refl; places_same = refl; layout_good = g; heads = λ r h j a b. refl }
 
 module _ (regions d : List ℕ) (k : Kept regions d) where

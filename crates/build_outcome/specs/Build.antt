@@ -1,24 +1,17 @@
 -- A whole build: its answer and every byte of the region list, from a table of labels and three lists (document 01, 'Where the work stops').
 -- Assumes nothing.
-use Rattle.std.specs.Prelude.{ℕ, zero, suc, ◌+◌, List, [], ◌∷◌, ◌++◌, true, false, eqb}
+use Rattle.std.specs.Prelude.{ℕ, zero, suc, ◌+◌, List, [], ◌∷◌, ◌++◌, true, false, eqb, Err, None, Ok, Option, Result, Some}
 use Rattle.jobs.specs.declared.Job.{Job}
 use Rattle.record.specs.Records.{places}
-use Rattle.refusal.specs.Verdicts.{and_then, first_stop, layout_verdict, name_verdict}
+use Rattle.refusal.specs.Verdicts.{and_then, first_stop, layout_verdict, name_verdict, Verdict}
 use Rattle.refusal.specs.declared.Refusal.TheVariants.{UnknownEntry}
-use Rattle.refusal.specs.declared.Verdict.{Verdict}
-use Rattle.refusal.specs.declared.Verdict.TheVariants.{Pass, Stop}
 use Rattle.labels.specs.Labels.{Table}
-use Rattle.labels.specs.declared.Address.{Address}
-use Rattle.labels.specs.declared.Address.TheVariants.{Known, Unknown}
 use Rattle.regions.specs.Regions.{region_layout, region_count}
 use Rattle.address_label.specs.Entries.{entry_layout, entry_of}
 use Rattle.address_label.specs.declared.AddressLabel.{AddressLabel}
-use Rattle.address_label.specs.declared.Entry.{Entry}
-use Rattle.address_label.specs.declared.Entry.TheVariants.{Default, Stated}
 use Rattle.pending.specs.Pendings.{region_of, pending_layout, pending_at}
 use Rattle.patch.specs.Patches.{destination, region_for, name_location, pending_verdict, address_or, write_pending}
-use Rattle.build_outcome.specs.declared.Built.{Built}
-use Rattle.build_outcome.specs.declared.Built.TheVariants.{Entry as BuiltEntry, Refused}
+use Rattle.refusal.specs.declared.Refusal.{Refusal}
 
 -- ---- patch order: "region by region in rising number, and list order inside a region"
 
@@ -47,18 +40,18 @@ patches_verdict job labels regions pending = first_stop (patch_verdict job label
 
 -- ---- the entry: 13
 
-abbrev pub reach_entry : AddressLabel → Address → Verdict
-reach_entry label (Known address) = Pass
-reach_entry label Unknown = Stop (UnknownEntry (name_location label))
+abbrev pub reach_entry : AddressLabel → Option ℕ → Verdict
+reach_entry label (Some address) = Ok tt
+reach_entry label None = Err (UnknownEntry (name_location label))
 
-abbrev pub entry_verdict : Table → List ℕ → Entry → Verdict
-entry_verdict labels entry Default = Pass
-entry_verdict labels entry (Stated label) = reach_entry label (destination labels entry label)
+abbrev pub entry_verdict : Table → List ℕ → Option AddressLabel → Verdict
+entry_verdict labels entry None = Ok tt
+entry_verdict labels entry (Some label) = reach_entry label (destination labels entry label)
 
 -- "its destination is the build's entry, default 0x00400000"
-abbrev pub entry_address : Table → List ℕ → Entry → ℕ
-entry_address labels entry Default = 0x00400000
-entry_address labels entry (Stated label) = address_or 0 (destination labels entry label)
+abbrev pub entry_address : Table → List ℕ → Option AddressLabel → ℕ
+entry_address labels entry None = 0x00400000
+entry_address labels entry (Some label) = address_or 0 (destination labels entry label)
 
 -- ---- the checks in order: 1 for each buffer, 2, 13, then patch by patch
 
@@ -93,13 +86,13 @@ patched_regions labels regions pending = write_patches labels regions pending (p
 -- ---- the whole build
 
 pub record BuildOutcome : Type 0 where
-  pub answer : Built
+  pub answer : Result ℕ Refusal
   pub regions : List ℕ
 
 -- "Lent bytes ... then remain as at entry"
 abbrev pub outcome_by : Verdict → ℕ → (patched regions : List ℕ) → BuildOutcome
-outcome_by Pass entry patched regions = record { answer = BuiltEntry entry; regions = patched }
-outcome_by (Stop refusal) entry patched regions = record { answer = Refused refusal; regions = regions }
+outcome_by (Ok tt) entry patched regions = record { answer = Ok entry; regions = patched }
+outcome_by (Err refusal) entry patched regions = record { answer = Err refusal; regions = regions }
 
 unfoldable pub build_outcome : Job → (labels : Table) (entry regions pending : List ℕ) → BuildOutcome
 unfolding build_verdict write_patches places order_from

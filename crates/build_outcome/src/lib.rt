@@ -3,9 +3,3 @@
 
 use refusal::Refusal;
 
-// A build's answer: the entry address, or why it stops.
-#[derive(Clone, Copy)]
-pub enum Built {
-    Entry(u32),
-    Refused(Refusal),
-}

@@ -1,23 +1,22 @@
 -- What `count_forms` prints (document 02, P14): `addiu`, `ori`, `lui` and `both`, each on its line with its decimal count; or the refusal's
 -- line. Assumes nothing.
-use Rattle.std.specs.Prelude.{ℕ, List, ◌++◌}
+use Rattle.std.specs.Prelude.{ℕ, List, ◌++◌, Err, Ok, Result}
 use Rattle.pseudo_names.specs.PseudoNames.{bytes_of}
 use Rattle.refusal.specs.Numbers.{numbered}
 use Rattle.form_counts.specs.declared.FormCounts.{FormCounts}
-use Rattle.form_counts.specs.declared.CountAnswer.{CountAnswer}
-use Rattle.form_counts.specs.declared.CountAnswer.TheVariants.{Counted, Refused}
 use Rattle.form_counts.specs.FormCounts.{count_forms}
 use Rattle.input.specs.Input.{word_or_zero}
 use Rattle.text.specs.Text.{last_field, refused_line}
+use Rattle.refusal.specs.declared.Refusal.{Refusal}
 
 abbrev pub count_lines : FormCounts → List ℕ
 count_lines c =
     (bytes_of "addiu" ++ last_field c.addiu) ++ (bytes_of "ori" ++ last_field c.ori) ++ (bytes_of "lui" ++ last_field c.lui)
     ++ (bytes_of "both" ++ last_field c.both)
 
-abbrev pub answer_text : CountAnswer → List ℕ
-answer_text (Counted c) = count_lines c
-answer_text (Refused r) = refused_line (numbered r)
+abbrev pub answer_text : Result FormCounts Refusal → List ℕ
+answer_text (Ok c) = count_lines c
+answer_text (Err r) = refused_line (numbered r)
 
 -- an input is the range's start and its end
 unfoldable pub count_text : List ℕ → List ℕ

@@ -5,7 +5,8 @@ ghost use Rattle.std.specs.Prelude.{◌≤◌, length};
 ghost use Rattle.text.specs.Text.{Put};
 ghost use Rattle.count_text.specs.CountText.{count_lines, answer_text, count_text};
 
-use form_counts::{CountAnswer, FormCounts};
+use form_counts::FormCounts;
+use refusal::Refusal;
 
 // Room for four counts, or for a refusal.
 pub const MOST: usize = 128;
@@ -20,13 +21,13 @@ fn put_counts(out: &mut [u8], counts: FormCounts) -> usize
     text::put_number_line(out, both_at, b"both", counts.both)
 }
 
-fn put_answer(out: &mut [u8], answer: CountAnswer) -> usize
+fn put_answer(out: &mut [u8], answer: Result<FormCounts, Refusal>) -> usize
     requires { 128 ≤ length out.old }
     ensures { Put out.old 0 (answer_text answer) out.new result }
 {
     match answer {
-        CountAnswer::Counted(counts) => put_counts(out, counts),
-        CountAnswer::Refused(refusal) => text::put_refusal(out, 0, refusal::numbers(refusal)),
+        Ok(counts) => put_counts(out, counts),
+        Err(refusal) => text::put_refusal(out, 0, refusal::numbers(refusal)),
     }
 }
 

@@ -1,16 +1,14 @@
 -- Laws of positions: an index and its byte place, and what is passed over. Assumes nothing.
-use Rattle.std.specs.Prelude.{ℕ, zero, suc, ◌+◌, ◌≤◌, ◌<◌, List, [], ◌∷◌, map, Bool, true, false, ◌≡◌, refl, length, get_or, ltb}
+use Rattle.std.specs.Prelude.{ℕ, zero, suc, ◌+◌, ◌≤◌, ◌<◌, List, [], ◌∷◌, map, Bool, true, false, ◌≡◌, refl, length, get_or, ltb, None, Some}
 use Rattle.std.proofs.Common.{add-one, arith, sym, ap, ◌∙◌, drop_of_length-le, drop-cons, lt-ltb, le-ltb, ltb-true, ltb-false}
 use Rattle.std.proofs.lemmas.List.{length-map}
 use Rattle.std.proofs.Math.ListN.{get_or-eq_default}
 use Rattle.record.specs.Records.{next, whole, places, places_from}
 use Rattle.record.proofs.RecordsLaws.{places_all, places_end, places_step, places_cut, layout_from, good_ok, good_next}
-use Rattle.record.specs.declared.Layout.TheVariants.{Good}
 use Rattle.lexer.specs.declared.Token.{Token}
 use Rattle.lexer.specs.Tokens.{token_ok, TokenIs, token_layout, token_at, tokens}
 use Rattle.lexer.proofs.TokensLaws.{token_is, token_good}
 use Rattle.cursor.specs.declared.Cursor.{Cursor}
-use Rattle.cursor.specs.declared.Seen.TheVariants.{Met, End}
 use Rattle.cursor.specs.Cursors.{is_adjacent_kind, passed, seek, no_token, peek, step, cursor_at}
 use Rattle.cursor.specs.Reads.{Placed}
 
@@ -50,7 +48,7 @@ some_from s i at h = go (ltb at (length s)) refl
     go false b = absurd (omega (arith, rw (places_end s at (ltb-false at (length s) b)) at h))
 
 -- in a list of tokens each stands before the list's end, and the next place is where it ends
-each_from : (s : List ℕ) (i at : ℕ) → layout_from (token_ok s) s at ≡ Good → i < length (places_from s at)
+each_from : (s : List ℕ) (i at : ℕ) → layout_from (token_ok s) s at ≡ None → i < length (places_from s at)
     → let p = get_or (places_from s at) i (length s) in (p < length s) × TokenIs s p × (get_or (places_from s at) (suc i) (length s) ≡ next s p)
 each_from s zero at g h =
     let b = some_from s 0 at h in
@@ -62,7 +60,7 @@ each_from s (suc i) at g h =
     let e = places_step s at b t.whole_at in
     rw e (each_from s i (next s at) (good_next (token_ok s) s at b t.whole_at g) (omega (arith, rw e at h)))
 
-module _ (s : List ℕ) (good : token_layout s ≡ Good) where
+module _ (s : List ℕ) (good : token_layout s ≡ None) where
   place_each : (i : ℕ) → i < length (tokens s) → (place s i < length s) × TokenIs s (place s i) × (place s (suc i) ≡ next s (place s i))
   place_each i h =
       let e = places_all s in
@@ -100,11 +98,11 @@ seek_next ts i h e = rw (drop-cons ts i no_token h) (rw (e, passed) (rw (add-one
 
 -- ---- what stands at an index, and the index behind it
 
-pub peek_in : (ts : List Token) (i : ℕ) → i < length ts → peek ts i ≡ Met (get_or ts i no_token)
+pub peek_in : (ts : List Token) (i : ℕ) → i < length ts → peek ts i ≡ Some (get_or ts i no_token)
 unfolding peek
 peek_in ts i h = rw (lt-ltb i (length ts) h, peek)
 
-pub peek_end : (ts : List Token) (i : ℕ) → length ts ≤ i → peek ts i ≡ End
+pub peek_end : (ts : List Token) (i : ℕ) → length ts ≤ i → peek ts i ≡ None
 unfolding peek
 peek_end ts i h = rw (le-ltb i (length ts) h, peek)
 
@@ -130,7 +128,7 @@ cursor_eta s c p = cursor_is s c c.index p refl
 pub placed_is : (s : List ℕ) (c : Cursor) (i : ℕ) → Placed s c → c.index ≡ i → (c ≡ cursor_at s i) × Placed s c
 placed_is s c i p e = (cursor_is s c i p e, p)
 
-pub placed_first : (s : List ℕ) → token_layout s ≡ Good → Placed s (record { index = 0; at = 0 })
+pub placed_first : (s : List ℕ) → token_layout s ≡ None → Placed s (record { index = 0; at = 0 })
 placed_first s g = record { layout_good = g; index_within = omega arith; place_is = sym (place_first s) }
 
 -- what a cursor before the list's end stands at, and the cursor behind that

@@ -1,13 +1,11 @@
 -- Positions in a decoded token list (cursor.rs). Assumes nothing.
-use Rattle.std.specs.Prelude.{ℕ, suc, ◌+◌, min, List, [], ◌∷◌, Bool, true, false, not, ◌&&◌, length, get_or, drop, ltb, eqb}
+use Rattle.std.specs.Prelude.{ℕ, suc, ◌+◌, min, List, [], ◌∷◌, Bool, true, false, not, ◌&&◌, length, get_or, drop, ltb, eqb, None, Option, Some}
 use Rattle.record.specs.Records.{places}
 use Rattle.lexer.specs.declared.Token.{Token}
 use Rattle.lexer.specs.declared.TokenKind.{TokenKind}
 use Rattle.lexer.specs.declared.TokenKind.TheVariants.{NewLine}
 use Rattle.lexer.specs.Tokens.{strip}
 use Rattle.cursor.specs.declared.Cursor.{Cursor}
-use Rattle.cursor.specs.declared.Seen.{Seen}
-use Rattle.cursor.specs.declared.Seen.TheVariants.{Met, End}
 
 -- an answer, and the index at which reading stands then
 pub record At (A : Type 0) : Type 0 where
@@ -31,20 +29,20 @@ abbrev pub no_token : Token
 no_token = record { location = record { source = 0; index = 0 }; kind = NewLine }
 
 -- what stands at an index
-unfoldable pub peek : List Token → ℕ → Seen
-peek ts i = elim (ltb i (length ts)) [ true ↦ Met (get_or ts i no_token) | false ↦ End ]
+unfoldable pub peek : List Token → ℕ → Option Token
+peek ts i = elim (ltb i (length ts)) [ true ↦ Some (get_or ts i no_token) | false ↦ None ]
 
 -- the index behind it: "A position is a count of tokens: the smaller of the Rust's index and the list's length."
 unfoldable pub step : List Token → ℕ → ℕ
 step ts i = elim (ltb i (length ts)) [ true ↦ i + 1 | false ↦ length ts ]
 
 -- the next token that is not passed over, and the index behind it
-unfoldable pub next_adjacent : List Token → ℕ → At Seen
+unfoldable pub next_adjacent : List Token → ℕ → At (Option Token)
 unfolding peek step passed
 next_adjacent ts i = record { answer = peek ts (seek ts i); index = step ts (seek ts i) }
 
 -- the same, and its own index
-unfoldable pub peek_adjacent : List Token → ℕ → At Seen
+unfoldable pub peek_adjacent : List Token → ℕ → At (Option Token)
 unfolding peek passed
 peek_adjacent ts i = record { answer = peek ts (seek ts i); index = seek ts i }
 

@@ -1,14 +1,13 @@
 -- A cursor that stands in its token list, and what a reader promises. Assumes nothing.
-use Rattle.std.specs.Prelude.{ℕ, ◌≤◌, List, ◌≡◌, length, get_or}
+use Rattle.std.specs.Prelude.{ℕ, ◌≤◌, List, ◌≡◌, length, get_or, None}
 use Rattle.record.specs.Records.{places}
-use Rattle.record.specs.declared.Layout.TheVariants.{Good}
 use Rattle.lexer.specs.Tokens.{token_layout, tokens}
 use Rattle.cursor.specs.declared.Cursor.{Cursor}
 use Rattle.cursor.specs.Cursors.{At, cursor_at}
 
 -- the list keeps its layout, the index is within it, and the byte place is that of the index
 pub record Placed (s : List ℕ) (c : Cursor) : Type 0 where
-  pub layout_good : token_layout s ≡ Good
+  pub layout_good : token_layout s ≡ None
   pub index_within : c.index ≤ length (tokens s)
   pub place_is : c.at ≡ get_or (places s) c.index (length s)
 

@@ -5,7 +5,8 @@ ghost use Rattle.cursor.specs.Cursors.{cursor_at, peek, step, seek};
 ghost use Rattle.cursor.specs.Reads.{Placed};
 ghost use Rattle.cursor.specs.Position.{position_of};
 
-use crate::{Cursor, Seen};
+use crate::Cursor;
+use lexer::Token;
 
 // The list, the count of tokens before the position, and its byte place.
 #[derive(Clone, Copy)]
@@ -27,7 +28,7 @@ pub fn new<'a>(tokens: &'a [u8], position: Cursor) -> LexerCursor<'a>
 }
 
 // What stands at its position.
-pub fn peek<'a>(cursor: LexerCursor<'a>) -> Seen
+pub fn peek<'a>(cursor: LexerCursor<'a>) -> Option<Token>
     requires { Placed cursor.tokens.now (position_of cursor) }
     ensures { result ≡ peek (tokens cursor.entry.tokens.now) cursor.entry.index }
 {
@@ -58,7 +59,7 @@ pub fn seek_without<'a>(cursor: LexerCursor<'a>) -> LexerCursor<'a>
 }
 
 // The token, with the cursor moved past it where it lies.
-pub fn next<'s, 'a>(cursor: &'s mut LexerCursor<'a>) -> Seen
+pub fn next<'s, 'a>(cursor: &'s mut LexerCursor<'a>) -> Option<Token>
     requires { Placed cursor.old.tokens.now (position_of cursor.old) }
     ensures { (result ≡ peek (tokens cursor.old.tokens.now) cursor.old.index)
         × (cursor.new.tokens ≡ cursor.old.tokens)

@@ -9,7 +9,6 @@ ghost use Rattle.cursor.specs.Reads.{Placed, ReadAs};
 mod lexer_cursor;
 
 use lexer::{Token, TokenKind};
-use record::Layout;
 
 // The count of tokens before the position, and its byte place.
 #[derive(Clone, Copy)]
@@ -18,23 +17,16 @@ pub struct Cursor {
     pub at: usize,
 }
 
-// What stands at a position.
-#[derive(Clone, Copy)]
-pub enum Seen {
-    Met(Token),
-    End,
-}
-
 // What was read, and the position behind it.
 #[derive(Clone, Copy)]
 pub struct TokenRead {
-    pub answer: Seen,
+    pub answer: Option<Token>,
     pub cursor: Cursor,
 }
 
 // The position of a token number, or the list's end.
 pub fn start(list: &[u8], position: usize) -> Cursor
-    requires { token_layout list.now ≡ Layout.Good }
+    requires { token_layout list.now ≡ None }
     ensures { (result ≡ cursor_at list.now (start_index (tokens list.now) position)) × Placed list.now result }
 {
     let mut index: usize = 0;
@@ -50,15 +42,15 @@ pub fn start(list: &[u8], position: usize) -> Cursor
 }
 
 // What stands at the position.
-fn peek(list: &[u8], position: Cursor) -> Seen
+fn peek(list: &[u8], position: Cursor) -> Option<Token>
     requires { Placed list.now position }
     ensures { result ≡ peek (tokens list.now) position.index }
 {
     let at = position.at;
     if at < list.len() {
-        Seen::Met(lexer::token_at(list, at))
+        Some(lexer::token_at(list, at))
     } else {
-        Seen::End
+        None
     }
 }
 

@@ -1,17 +1,15 @@
 -- What a descriptor's test says, in facts, what a list of descriptors that keeps its layout holds, and a number past a list. Assumes nothing.
-use Rattle.std.specs.Prelude.{ℕ, ◌+◌, ◌≤◌, ◌<◌, List, true, ◌&&◌, not, ◌≡◌, length, leb, eqb}
+use Rattle.std.specs.Prelude.{ℕ, ◌+◌, ◌≤◌, ◌<◌, List, true, ◌&&◌, not, ◌≡◌, length, leb, eqb, None, Some}
 use Rattle.std.proofs.Common.{arith, ◌∙◌, leb-true, eqb-true}
 use Rattle.std.proofs.Math.Bool.{and-eq-true_iff}
 use Rattle.std.proofs.Math.Path.{ap}
 use Rattle.record.specs.Bytes.{is_text, all}
 use Rattle.record.specs.Records.{body_len, kind_at, next, whole, places, first_bad, limit}
 use Rattle.record.proofs.RecordsLaws.{places_all, whole_is, layout_from, limit_kept, limit_passed, limit_good}
-use Rattle.record.specs.declared.Layout.TheVariants.{Good, Bad}
 use Rattle.names.specs.Names.{name_of, is_named}
 use Rattle.names.proofs.NamesLaws.{has_name_lem, all_named, named_ok}
 use Rattle.names.specs.Owners.{has_owner, WithoutOwners, has_owned_name}
 use Rattle.names.proofs.StraightLaws.{shared_named}
-use Rattle.names.specs.declared.Named.TheVariants.{At}
 use Rattle.name_index.proofs.CountLaws.{count_at_least}
 use Rattle.descriptors.specs.Descriptors.{fields_ok, descriptor_ok, descriptor_layout, find_descriptor}
 
@@ -48,16 +46,16 @@ module _ (s : List ℕ) where
   unfolding descriptor_layout
   descriptor_kept h = limit_kept s (first_bad (descriptor_ok s) (places s)) h ∙ ap (first_bad (descriptor_ok s)) (places_all s)
 
-  pub descriptor_passed : limit < length s → descriptor_layout s ≡ Bad limit
+  pub descriptor_passed : limit < length s → descriptor_layout s ≡ Some limit
   unfolding descriptor_layout
   descriptor_passed h = limit_passed s (first_bad (descriptor_ok s) (places s)) h
 
-  pub descriptors_good : descriptor_layout s ≡ Good → first_bad (descriptor_ok s) (places s) ≡ Good
+  pub descriptors_good : descriptor_layout s ≡ None → first_bad (descriptor_ok s) (places s) ≡ None
   unfolding descriptor_layout
   descriptors_good g = (limit_good s (first_bad (descriptor_ok s) (places s)) g).1
 
   -- each descriptor has thirteen bytes at least
-  pub descriptors_few : descriptor_layout s ≡ Good → (length s ≤ limit) × (length (places s) ≤ 5041)
+  pub descriptors_few : descriptor_layout s ≡ None → (length s ≤ limit) × (length (places s) ≤ 5041)
   unfolding descriptor_layout
   descriptors_few g =
       let h = (limit_good s (first_bad (descriptor_ok s) (places s)) g).0 in
@@ -65,14 +63,14 @@ module _ (s : List ℕ) where
       (h, omega arith)
 
   -- each record has a name and none an owner, and the one that is found is a descriptor
-  pub descriptors_named : descriptor_layout s ≡ Good → first_bad (has_owned_name 8 s) (places s) ≡ Good
+  pub descriptors_named : descriptor_layout s ≡ None → first_bad (has_owned_name 8 s) (places s) ≡ None
   descriptors_named g = all_named (descriptor_ok s) (has_owned_name 8 s) named (places s) (descriptors_good g)
     where
       named : (p : ℕ) → descriptor_ok s p ≡ true → has_owned_name 8 s p ≡ true
       named p e = let d = descriptor_is s p e in shared_named 8 s p d.shared ∙ has_name_lem 8 s p d.whole_at (omega arith)
 
-  pub descriptors_shared : descriptor_layout s ≡ Good → WithoutOwners s
+  pub descriptors_shared : descriptor_layout s ≡ None → WithoutOwners s
   descriptors_shared g = all_named (descriptor_ok s) (λ (p : ℕ). not (has_owner s p)) (λ p e. (descriptor_is s p e).shared) (places s) (descriptors_good g)
 
-  pub descriptor_found : (name : List ℕ) (p : ℕ) → descriptor_layout s ≡ Good → find_descriptor s name ≡ At p → DescriptorIs s p
+  pub descriptor_found : (name : List ℕ) (p : ℕ) → descriptor_layout s ≡ None → find_descriptor s name ≡ Some p → DescriptorIs s p
   descriptor_found name p g e = descriptor_is s p (named_ok (is_named 8 s name) (descriptor_ok s) (places s) p (descriptors_good g) e)

@@ -1,5 +1,5 @@
 -- What a mnemonic's test says, in facts, what a list of one mnemonic holds, and its name byte by byte. Assumes nothing.
-use Rattle.std.specs.Prelude.{ℕ, zero, suc, ◌+◌, ◌≤◌, ◌<◌, List, [], ◌∷◌, ◌++◌, map, Bool, ◌&&◌, ◌≡◌, length, take, set, replicate, leb, eqb}
+use Rattle.std.specs.Prelude.{ℕ, zero, suc, ◌+◌, ◌≤◌, ◌<◌, List, [], ◌∷◌, ◌++◌, map, Bool, ◌&&◌, ◌≡◌, length, take, set, replicate, leb, eqb, None, Some}
 use Rattle.std.proofs.Common.{add-one, arith, sym, ap₂, ◌∙◌, take-suc, take-suc-set, get_or-set_other, leb-true, leb-false}
 use Rattle.std.proofs.lemmas.List.{map-append}
 use Rattle.std.proofs.Math.Bool.{true, false, and-eq-true_iff}
@@ -7,7 +7,6 @@ use Rattle.std.proofs.Math.Path.{refl, ap}
 use Rattle.record.specs.Bytes.{byte_at, is_text, all}
 use Rattle.record.specs.Records.{body_len, kind_at, next, whole, places, places_from, first_bad_of, limit}
 use Rattle.record.proofs.RecordsLaws.{places_all, places_step, places_cut, places_end, whole_is, good_ok, of_good, limit_kept, limit_passed, limit_good}
-use Rattle.record.specs.declared.Layout.TheVariants.{Good, Bad}
 use Rattle.descriptors.specs.Mnemonics.{mnemonic_bytes, mnemonic_ok, one_mnemonic, mnemonic_layout, lower, ZeroFrom}
 
 pub record MnemonicIs (s : List ℕ) (at : ℕ) : Type 0 where
@@ -31,7 +30,7 @@ mnemonic_is s at e =
 
 module _ (s : List ℕ) where
   -- the layout past the limit, of an empty list within it, and of one that has a record
-  pub mnemonic_passed : limit < length s → mnemonic_layout s ≡ Bad limit
+  pub mnemonic_passed : limit < length s → mnemonic_layout s ≡ Some limit
   unfolding mnemonic_layout
   mnemonic_passed h = limit_passed s (one_mnemonic s (places s)) h
 
@@ -39,9 +38,9 @@ module _ (s : List ℕ) where
   unfolding mnemonic_layout
   kept h = limit_kept s (one_mnemonic s (places s)) h ∙ ap (one_mnemonic s) (places_all s)
 
-  pub mnemonic_none : length s ≡ 0 → mnemonic_layout s ≡ Bad 0
+  pub mnemonic_none : length s ≡ 0 → mnemonic_layout s ≡ Some 0
   unfolding one_mnemonic
-  mnemonic_none e = kept (omega arith) ∙ ap (one_mnemonic s) (places_end s 0 (omega arith)) ∙ ap Bad e
+  mnemonic_none e = kept (omega arith) ∙ ap (one_mnemonic s) (places_end s 0 (omega arith)) ∙ ap Some e
 
   pub mnemonic_some : 0 < length s → length s ≤ limit → mnemonic_layout s ≡ first_bad_of 1 (mnemonic_ok s) (places_from s 0)
   unfolding one_mnemonic
@@ -51,12 +50,12 @@ module _ (s : List ℕ) where
       go true e = rw (places_step s 0 h e)
       go false e = rw (places_cut s 0 h e)
 
-  within : mnemonic_layout s ≡ Good → length s ≤ limit
+  within : mnemonic_layout s ≡ None → length s ≤ limit
   unfolding mnemonic_layout
   within g = (limit_good s (one_mnemonic s (places s)) g).0
 
   -- a list that keeps its layout begins with a mnemonic
-  pub mnemonic_good : mnemonic_layout s ≡ Good → MnemonicIs s 0
+  pub mnemonic_good : mnemonic_layout s ≡ None → MnemonicIs s 0
   mnemonic_good g = go (leb (length s) 0) refl
     where
       go : (b : Bool) → leb (length s) 0 ≡ b → MnemonicIs s 0

@@ -1,17 +1,12 @@
 -- Descriptor records, kind 33: the instruction table (document 01, 'Mnemonic 32, descriptor 33'). Assumes nothing.
-use Rattle.std.specs.Prelude.{ℕ, ◌+◌, List, [], ◌∷◌, Bool, true, false, ◌&&◌, ◌||◌, get_or, leb, eqb}
+use Rattle.std.specs.Prelude.{ℕ, ◌+◌, List, [], ◌∷◌, Bool, true, false, ◌&&◌, ◌||◌, get_or, leb, eqb, None, Option, Some}
 use Rattle.record.specs.Bytes.{byte_at, is_text, all}
 use Rattle.record.specs.Records.{body_len, kind_at, whole, places, first_bad, within_limit}
-use Rattle.record.specs.declared.Layout.{Layout}
 use Rattle.names.specs.Names.{name_of, first_named, first_repeat}
-use Rattle.names.specs.declared.Named.{Named}
-use Rattle.names.specs.declared.Repeat.{Repeat}
 use Rattle.instructions.specs.declared.Opcode.{Opcode}
 use Rattle.instructions.specs.declared.Opcode.TheVariants.{Op, Func, Special, Algebra, Cop1, Cop1I}
 use Rattle.instructions.specs.declared.Size.{Size}
 use Rattle.instructions.specs.declared.Size.TheVariants.{Single, Double, Word}
-use Rattle.instructions.specs.declared.Alternative.{Alternative}
-use Rattle.instructions.specs.declared.Alternative.TheVariants.{Nothing, Some}
 use Rattle.instructions.specs.declared.Encoding.{Encoding}
 use Rattle.instructions.specs.declared.Encoding.TheVariants.{Register, RegisterShift, Source, Destination, Inputs, Sham, SpecialBranch, Immediate, LoadImmediate, Jump, Branch, BranchZero, Parameterless, Offset, FPOffset, FP3Register, FP2Register, FPMove, FPCond, FPCrossMove, FPBranch}
 use Rattle.descriptors.specs.declared.Instruction.{Instruction}
@@ -66,16 +61,16 @@ unfoldable pub descriptor_ok : List ℕ → ℕ → Bool
 unfolding fields_ok all
 descriptor_ok s at = whole s at && (eqb (kind_at s at) 33 && leb 9 (body_len s at) && leb (body_len s at) 24 && fields_ok s at && all is_text (name_of 8 s at))
 
-unfoldable pub descriptor_layout : List ℕ → Layout
+unfoldable pub descriptor_layout : List ℕ → Option ℕ
 unfolding descriptor_ok first_bad places within_limit
 descriptor_layout s = within_limit s (first_bad (descriptor_ok s) (places s))
 
 -- refusal 2: "Two descriptors ... share a name"
-abbrev pub descriptor_repeat : List ℕ → Repeat
+abbrev pub descriptor_repeat : List ℕ → Option ℕ
 descriptor_repeat s = first_repeat 8 s
 
 -- the place of the descriptor of a name
-abbrev pub find_descriptor : List ℕ → List ℕ → Named
+abbrev pub find_descriptor : List ℕ → List ℕ → Option ℕ
 find_descriptor s name = first_named 8 s name
 
 -- ---- a descriptor taken apart
@@ -85,8 +80,8 @@ opcode_from class key = get_or (Op key ∷ Func key ∷ Special key ∷ Algebra 
 abbrev pub size_from : ℕ → Size
 size_from n = get_or (Single ∷ Double ∷ []) n Word
 
-abbrev pub alternative_at : List ℕ → ℕ → Alternative
-alternative_at s at = elim (eqb (present_of s at) 1) [ true ↦ Some (opcode_from (alt_class_of s at) (alt_key_of s at)) | false ↦ Nothing ]
+abbrev pub alternative_at : List ℕ → ℕ → Option Opcode
+alternative_at s at = elim (eqb (present_of s at) 1) [ true ↦ Some (opcode_from (alt_class_of s at) (alt_key_of s at)) | false ↦ None ]
 
 -- the twenty-one encodings in order, with what each carries
 abbrev pub encodings_at : List ℕ → ℕ → List Encoding

@@ -1,9 +1,7 @@
 -- The mnemonic record, kind 32 (document 01, 'Mnemonic 32, descriptor 33'). Assumes nothing.
-use Rattle.std.specs.Prelude.{ℕ, ◌+◌, ◌-◌, ◌≤◌, List, [], ◌∷◌, map, Bool, true, false, ◌&&◌, ◌≡◌, length, leb, eqb}
+use Rattle.std.specs.Prelude.{ℕ, ◌+◌, ◌-◌, ◌≤◌, List, [], ◌∷◌, map, Bool, true, false, ◌&&◌, ◌≡◌, length, leb, eqb, Option, Some}
 use Rattle.record.specs.Bytes.{byte_at, location_at, part, is_text, all}
 use Rattle.record.specs.Records.{body_len, kind_at, whole, places, first_bad_of, within_limit}
-use Rattle.record.specs.declared.Layout.{Layout}
-use Rattle.record.specs.declared.Layout.TheVariants.{Bad}
 use Rattle.record.specs.declared.Location.{Location}
 
 -- "Mnemonic (exactly one in its list): location, then 0 to 16 bytes"
@@ -14,12 +12,12 @@ unfoldable pub mnemonic_ok : List ℕ → ℕ → Bool
 unfolding all
 mnemonic_ok s at = whole s at && (eqb (kind_at s at) 32 && leb 8 (body_len s at) && leb (body_len s at) 24 && all is_text (mnemonic_bytes s at))
 
-unfoldable pub one_mnemonic : List ℕ → List ℕ → Layout
+unfoldable pub one_mnemonic : List ℕ → List ℕ → Option ℕ
 unfolding mnemonic_ok first_bad_of
-one_mnemonic s [] = Bad (length s)
+one_mnemonic s [] = Some (length s)
 one_mnemonic s (p ∷ ps) = first_bad_of 1 (mnemonic_ok s) (p ∷ ps)
 
-unfoldable pub mnemonic_layout : List ℕ → Layout
+unfoldable pub mnemonic_layout : List ℕ → Option ℕ
 unfolding one_mnemonic places within_limit
 mnemonic_layout s = within_limit s (one_mnemonic s (places s))
 

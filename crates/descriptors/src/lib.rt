@@ -7,9 +7,8 @@ ghost use Rattle.descriptors.specs.Descriptors.{most_size, most_flag, most_prese
 
 mod numbers;
 
-use instructions::{Alternative, Encoding, Opcode, Size};
-use names::{Named, Repeat};
-use record::{Layout, Location};
+use instructions::{Encoding, Opcode, Size};
+use record::Location;
 
 // The kinds of the two records.
 const MNEMONIC: usize = 32;
@@ -57,23 +56,23 @@ fn mnemonic_ok(list: &[u8], at: usize) -> bool
 }
 
 // The place of the first record that breaks the layout, the list's end where there is none, or the limit.
-pub fn first_bad_mnemonic(list: &[u8]) -> Layout
+pub fn first_bad_mnemonic(list: &[u8]) -> Option<usize>
     ensures { result ≡ mnemonic_layout list.now }
 {
     if list.len() > record::LIMIT {
-        return Layout::Bad(record::LIMIT);
+        return Some(record::LIMIT);
     }
     if list.len() == 0 {
-        return Layout::Bad(0);
+        return Some(0);
     }
     if !mnemonic_ok(list, 0) {
-        return Layout::Bad(0);
+        return Some(0);
     }
     let end = record::next(list, 0);
     if end < list.len() {
-        return Layout::Bad(end);
+        return Some(end);
     }
-    Layout::Good
+    None
 }
 
 fn lower_byte(b: u8) -> u8
@@ -90,7 +89,7 @@ fn lower_byte(b: u8) -> u8
 
 // The one mnemonic of a list that keeps its layout.
 pub fn read_mnemonic(list: &[u8]) -> Mnemonic
-    requires { mnemonic_layout list.now ≡ Layout.Good }
+    requires { mnemonic_layout list.now ≡ None }
     ensures { (take result.len result.bytes ≡ mnemonic_name list.now) × (result.len ≤ 16)
         × (result.location ≡ mnemonic_location list.now) × ZeroFrom result.len result.bytes }
 {
@@ -202,25 +201,25 @@ fn descriptor_ok(list: &[u8], at: usize) -> bool
 }
 
 // The place of the first record that is no descriptor, or the limit.
-pub fn first_bad_descriptor(list: &[u8]) -> Layout
+pub fn first_bad_descriptor(list: &[u8]) -> Option<usize>
     ensures { result ≡ descriptor_layout list.now }
 {
     if list.len() > record::LIMIT {
-        return Layout::Bad(record::LIMIT);
+        return Some(record::LIMIT);
     }
     let mut at: usize = 0;
     while at < list.len() {
         if !descriptor_ok(list, at) {
-            return Layout::Bad(at);
+            return Some(at);
         }
         at = record::next(list, at);
     }
-    Layout::Good
+    None
 }
 
 // The first descriptor that shares its name with an earlier one, by an index of the list.
-fn repeat_by_index(list: &[u8]) -> Repeat
-    requires { descriptor_layout list.now ≡ Layout.Good }
+fn repeat_by_index(list: &[u8]) -> Option<usize>
+    requires { descriptor_layout list.now ≡ None }
     ensures { result ≡ descriptor_repeat list.now }
 {
     let mut index = [0u16; MOST];
@@ -230,19 +229,19 @@ fn repeat_by_index(list: &[u8]) -> Repeat
 }
 
 // The first descriptor that shares its name with an earlier one: there is none where the names rise.
-pub fn first_repeat(list: &[u8]) -> Repeat
-    requires { descriptor_layout list.now ≡ Layout.Good }
+pub fn first_repeat(list: &[u8]) -> Option<usize>
+    requires { descriptor_layout list.now ≡ None }
     ensures { result ≡ descriptor_repeat list.now }
 {
     if name_index::rises(list, 8) {
-        return Repeat::None;
+        return None;
     }
     repeat_by_index(list)
 }
 
 // The place of the descriptor of that name.
-pub fn find(list: &[u8], name: &[u8]) -> Named
-    requires { descriptor_layout list.now ≡ Layout.Good }
+pub fn find(list: &[u8], name: &[u8]) -> Option<usize>
+    requires { descriptor_layout list.now ≡ None }
     ensures { result ≡ find_descriptor list.now name.now }
 {
     names::find_named(list, 8, names::FOR_ALL, name)
@@ -271,14 +270,14 @@ fn size_from(n: u8) -> Size
     }
 }
 
-fn alternative_at(list: &[u8], at: usize) -> Alternative
+fn alternative_at(list: &[u8], at: usize) -> Option<Opcode>
     requires { at + 12 ≤ length list.now }
     ensures { result ≡ alternative_at list.now at }
 {
     if list[at + 9] == 1 {
-        Alternative::Some(opcode_from(list[at + 10], list[at + 11]))
+        Some(opcode_from(list[at + 10], list[at + 11]))
     } else {
-        Alternative::Nothing
+        None
     }
 }
 

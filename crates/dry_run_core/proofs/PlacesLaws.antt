@@ -1,23 +1,22 @@
 -- The places of a region list, found one after the other. Assumes nothing.
-use Rattle.std.specs.Prelude.{◌≡◌, ℕ, ◌+◌, ◌<◌, ◌≤◌, List, ◌∷◌, ◌++◌, length, take, slice_set}
+use Rattle.std.specs.Prelude.{◌≡◌, ℕ, ◌+◌, ◌<◌, ◌≤◌, List, ◌∷◌, ◌++◌, length, take, slice_set, None}
 use Rattle.std.proofs.Common.{add-one, arith, append-nil, sym, ap, ◌∙◌, length-append, length-take, length-set, take-suc-set}
 use Rattle.std.proofs.Math.Seq.{append_snoc}
 use Rattle.record.specs.Records.{next, places, places_from, first_bad}
 use Rattle.record.proofs.RecordsLaws.{layout_from, places_all, places_step, places_end, good_ok, good_next}
-use Rattle.record.specs.declared.Layout.TheVariants.{Good}
 use Rattle.regions.specs.Regions.{region_ok, region_layout}
 use Rattle.regions.proofs.RegionsLaws.{RegionIs, region_is, region_good}
 
 -- the first `count` of those found, and then those from `place` on, are the places of s
 pub record Passed (s found : List ℕ) (count place : ℕ) : Type 0 where
   pub within : place ≤ length s
-  pub good : layout_from (region_ok s) s place ≡ Good
+  pub good : layout_from (region_ok s) s place ≡ None
   pub all_of : take count found ++ places_from s place ≡ places s
   pub few : length (places s) ≤ 16
   pub held : count ≤ length found
   pub slots : length found ≡ 16
 
-pub passed_none : (s found : List ℕ) → region_layout s ≡ Good → length found ≡ 16 → Passed s found 0 0
+pub passed_none : (s found : List ℕ) → region_layout s ≡ None → length found ≡ 16 → Passed s found 0 0
 passed_none s found g l = record {
   within = omega arith;
   good = ap (first_bad (region_ok s)) (sym (places_all s)) ∙ (region_good s g).1;

@@ -1,5 +1,5 @@
 -- The steps of a run: what a loop knows before each, and what each leaves. Assumes nothing.
-use Rattle.std.specs.Prelude.{◌≡◌, ℕ, ◌+◌, ◌-◌, ◌<◌, ◌≤◌, Bool, true, false, set, ◌==◌, slice_index, slice_set, refl}
+use Rattle.std.specs.Prelude.{◌≡◌, ℕ, ◌+◌, ◌-◌, ◌<◌, ◌≤◌, Bool, true, false, set, ◌==◌, slice_index, slice_set, refl, None, Option, Some}
 use Rattle.std.proofs.Common.{arith, sym, ap, ap₂, ◌∙◌, set-set, get_or-set_other, eqb-true}
 use Rattle.std.proofs.lemmas.Bool.{eqb-false}
 use Rattle.loading.specs.Run.{Registers, read_register, write_register}
@@ -11,8 +11,6 @@ use Rattle.machine.specs.declared.Reason.TheVariants.{Allowance, Pc}
 use Rattle.machine.specs.Instructions.{rs, rt, instruction_of}
 use Rattle.machine.specs.Effects.{next_pc, effect_of}
 use Rattle.machine.specs.Step.{goes, stops, at, apply, step_word, Zero}
-use Rattle.dry_run_outcome.specs.declared.Fetched.{Fetched}
-use Rattle.dry_run_outcome.specs.declared.Fetched.TheVariants.{Word, Missing}
 use Rattle.dry_run_outcome.specs.Fetch.{fetch}
 use Rattle.dry_run_outcome.specs.Run.{step, later, run, ran_for}
 use Rattle.dry_run_outcome.proofs.RunLaws.{loop_start, loop_end, loop_goes, loop_stops}
@@ -38,11 +36,11 @@ write_held g r v z = go (r == 0) refl
 
 -- ---- one step
 
-pub step_none : (image : Image) (m : Machine) (f : Fetched) → f ≡ fetch image m.pc → f ≡ Missing → step image m ≡ stops Pc
+pub step_none : (image : Image) (m : Machine) (f : Option ℕ) → f ≡ fetch image m.pc → f ≡ None → step image m ≡ stops Pc
 unfolding step
 step_none image m f e k = rw (sym e ∙ k)
 
-pub step_word_lem : (image : Image) (m : Machine) (f : Fetched) (w s t : ℕ) (e : Effect) → Zero m.registers → f ≡ fetch image m.pc → f ≡ Word w
+pub step_word_lem : (image : Image) (m : Machine) (f : Option ℕ) (w s t : ℕ) (e : Effect) → Zero m.registers → f ≡ fetch image m.pc → f ≡ Some w
     → s ≡ slice_index m.registers (rs w) → t ≡ slice_index m.registers (rt w) → e ≡ effect_of (instruction_of w) w m.pc s t → step image m ≡ apply e w m
 unfolding step step_word
 step_word_lem image m f w s t e z a b hs ht he =

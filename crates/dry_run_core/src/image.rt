@@ -5,8 +5,6 @@ ghost use Rattle.regions.specs.Regions.{region_layout};
 ghost use Rattle.reading.specs.Reading.{image_of};
 ghost use Rattle.dry_run_outcome.specs.Fetch.{fetch};
 
-use dry_run_outcome::Fetched;
-use record::Layout;
 use std::num;
 
 // Where the region records stand in their list.
@@ -17,7 +15,7 @@ pub(crate) struct Places {
 }
 
 pub(crate) fn region_places(regions: &[u8]) -> Places
-    requires { region_layout regions.now ≡ Layout.Good }
+    requires { region_layout regions.now ≡ None }
     ensures { (take result.count result.at ≡ places regions.now) × (result.count ≤ length result.at) }
 {
     let mut at = [0usize; 16];
@@ -32,8 +30,8 @@ pub(crate) fn region_places(regions: &[u8]) -> Places
 }
 
 // The word at pc, of the first region that has it.
-pub(crate) fn fetch(regions: &[u8], found: &[usize], pc: u32) -> Fetched
-    requires regions_value { region_layout regions.now ≡ Layout.Good }
+pub(crate) fn fetch(regions: &[u8], found: &[usize], pc: u32) -> Option<u32>
+    requires regions_value { region_layout regions.now ≡ None }
     requires found_value { found.now ≡ places regions.now }
     ensures { result ≡ fetch (image_of regions.now) pc }
 {
@@ -42,9 +40,9 @@ pub(crate) fn fetch(regions: &[u8], found: &[usize], pc: u32) -> Fetched
         let at = found[i];
         let offset = num::wrapping_sub_u32(pc, record::word_at(regions, at + 4)) as usize;
         if offset + 8 <= record::half_at(regions, at) {
-            return Fetched::Word(record::word_at(regions, at + 8 + offset));
+            return Some(record::word_at(regions, at + 8 + offset));
         }
         i += 1;
     }
-    Fetched::Missing
+    None
 }

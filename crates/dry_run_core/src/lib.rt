@@ -8,9 +8,8 @@ ghost use Rattle.reading.specs.Reading.{image_of};
 ghost use Rattle.dry_run_outcome.specs.DryRun.{can_start, started, dry_run_outcome};
 ghost use Rattle.dry_run_outcome.specs.DryRun.{refused_run};
 
-use dry_run_outcome::{DryRun, Fetched, RunAnswer};
+use dry_run_outcome::{DryRun, RunAnswer};
 use machine::Machine;
-use record::Layout;
 use refusal::Refusal;
 
 mod image;
@@ -21,8 +20,8 @@ pub fn dry_run(regions: &[u8], machine: Machine, allowance: u32) -> DryRun
     ensures { result ≡ dry_run_outcome regions.now machine allowance }
 {
     match regions::first_bad_region(regions) {
-        Layout::Bad(place) => refused(machine, Refusal::BadLayout(0, place as u32)),
-        Layout::Good => run_good(regions, machine, allowance),
+        Some(place) => refused(machine, Refusal::BadLayout(0, place as u32)),
+        None => run_good(regions, machine, allowance),
     }
 }
 
@@ -37,7 +36,7 @@ fn refused(machine: Machine, refusal: Refusal) -> DryRun
 
 // The run of a region list that keeps its layout.
 fn run_good(regions: &[u8], machine: Machine, allowance: u32) -> DryRun
-    requires { region_layout regions.now ≡ Layout.Good }
+    requires { region_layout regions.now ≡ None }
     ensures { result ≡ dry_run_outcome regions.now machine allowance }
 {
     let places = image::region_places(regions);
@@ -56,7 +55,7 @@ fn run_good(regions: &[u8], machine: Machine, allowance: u32) -> DryRun
 }
 
 fn can_start(regions: &[u8], found: &[usize], pc: u32) -> bool
-    requires regions_value { region_layout regions.now ≡ Layout.Good }
+    requires regions_value { region_layout regions.now ≡ None }
     requires found_value { found.now ≡ places regions.now }
     ensures { result ≡ can_start (image_of regions.now) pc }
 {
@@ -64,8 +63,8 @@ fn can_start(regions: &[u8], found: &[usize], pc: u32) -> bool
         return false;
     }
     match image::fetch(regions, found, pc) {
-        Fetched::Word(_) => true,
-        Fetched::Missing => false,
+        Some(_) => true,
+        None => false,
     }
 }
 

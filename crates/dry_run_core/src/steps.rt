@@ -8,10 +8,9 @@ ghost use Rattle.dry_run_outcome.specs.Run.{run};
 ghost use Rattle.dry_run_outcome.specs.Run.{ran_for};
 
 use crate::image;
-use dry_run_outcome::{Fetched, Ran};
+use dry_run_outcome::Ran;
 use machine::effects::Operands;
 use machine::{Effect, Machine, Reason, effects, words};
-use record::Layout;
 
 fn ran(machine: Machine, reason: Reason, steps: u32) -> Ran
     ensures { result ≡ ran_for steps machine reason }
@@ -25,7 +24,7 @@ fn ran(machine: Machine, reason: Reason, steps: u32) -> Ran
 
 // Runs the words from the machine's pc on, one a step, until the allowance is used up or a word stops the run.
 pub(crate) fn run(regions: &[u8], found: &[usize], machine: Machine, allowance: u32) -> Ran
-    requires regions_value { region_layout regions.now ≡ Layout.Good }
+    requires regions_value { region_layout regions.now ≡ None }
     requires found_value { found.now ≡ places regions.now }
     requires zero { Zero machine.registers }
     ensures { result ≡ run allowance (image_of regions.now) machine }
@@ -34,7 +33,7 @@ pub(crate) fn run(regions: &[u8], found: &[usize], machine: Machine, allowance: 
     let mut steps: u32 = 0;
     while steps < allowance {
         let pc = m.pc;
-        let Fetched::Word(word) = image::fetch(regions, found, pc) else {
+        let Some(word) = image::fetch(regions, found, pc) else {
             return ran(m, Reason::Pc, steps);
         };
         let i = words::rs(word);

@@ -1,8 +1,6 @@
 -- What holds of a run, said of the whole call: its steps and reason, its stopping word, $zero and the registers. Assumes nothing.
-use Rattle.std.specs.Prelude.{ℕ, List, Bool, true, false, ◌≡◌, refl}
+use Rattle.std.specs.Prelude.{ℕ, List, Bool, true, false, ◌≡◌, refl, None, Option, Some}
 use Rattle.std.proofs.Common.{arith, sym, ap, subst, ◌∙◌, length-set}
-use Rattle.record.specs.declared.Layout.{Layout}
-use Rattle.record.specs.declared.Layout.TheVariants.{Good, Bad}
 use Rattle.refusal.specs.declared.Refusal.{Refusal}
 use Rattle.refusal.specs.declared.Refusal.TheVariants.{BadLayout, BadStart}
 use Rattle.regions.specs.Regions.{region_layout}
@@ -32,18 +30,18 @@ module _ (regions : List ℕ) (m : Machine) (allowance : ℕ) where
   -- a call is refused and gives its machine back, or it is a run
   pub data Called : Type 0 where
     not_run : (r : Refusal) → call ≡ refused_run m r → Called
-    is_run : region_layout regions ≡ Good → can_start (image_of regions) m.pc ≡ true → call ≡ stopped_run (run allowance (image_of regions) (started m)) → Called
+    is_run : region_layout regions ≡ None → can_start (image_of regions) m.pc ≡ true → call ≡ stopped_run (run allowance (image_of regions) (started m)) → Called
 
   pub called : Called
   called = by_layout (region_layout regions) refl
     where
-      by_start : region_layout regions ≡ Good → (b : Bool) → can_start (image_of regions) m.pc ≡ b → Called
+      by_start : region_layout regions ≡ None → (b : Bool) → can_start (image_of regions) m.pc ≡ b → Called
       by_start g true e = is_run g e (outcome_run regions m allowance g e)
       by_start g false e = not_run BadStart (outcome_start regions m allowance g e)
 
-      by_layout : (l : Layout) → region_layout regions ≡ l → Called
-      by_layout Good e = by_start e (can_start (image_of regions) m.pc) refl
-      by_layout (Bad place) e = not_run (BadLayout 0 place) (outcome_layout regions m allowance place e)
+      by_layout : (l : Option ℕ) → region_layout regions ≡ l → Called
+      by_layout None e = by_start e (can_start (image_of regions) m.pc) refl
+      by_layout (Some place) e = not_run (BadLayout 0 place) (outcome_layout regions m allowance place e)
 
   pub call_refused : (r : Refusal) → call.answer ≡ Refused r → call.machine ≡ m
   call_refused r e = go called
@@ -55,7 +53,7 @@ module _ (regions : List ℕ) (m : Machine) (allowance : ℕ) where
   module _ (reason : Reason) (steps : ℕ) (stopped : call.answer ≡ Stopped reason steps) where
     -- the run of a call that is not refused
     pub record Runs : Type 0 where
-      pub good : region_layout regions ≡ Good
+      pub good : region_layout regions ≡ None
       pub starts : can_start (image_of regions) m.pc ≡ true
       pub ran : run allowance (image_of regions) (started m) ≡ ran_for steps call.machine reason
 

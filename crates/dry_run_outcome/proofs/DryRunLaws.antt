@@ -1,6 +1,5 @@
 -- Laws of a whole dry run: refused for its list, refused for its pc, or run. Assumes nothing.
-use Rattle.std.specs.Prelude.{ℕ, List, true, false, ◌≡◌}
-use Rattle.record.specs.declared.Layout.TheVariants.{Good, Bad}
+use Rattle.std.specs.Prelude.{ℕ, List, true, false, ◌≡◌, None, Some}
 use Rattle.refusal.specs.declared.Refusal.TheVariants.{BadLayout, BadStart}
 use Rattle.regions.specs.Regions.{region_layout}
 use Rattle.reading.specs.Reading.{image_of}
@@ -15,11 +14,11 @@ abbrev pub stopped_run : Ran → DryRun
 stopped_run r = record { machine = r.machine; answer = Stopped r.reason r.steps }
 
 module _ (regions : List ℕ) (m : Machine) (allowance : ℕ) where
-  pub outcome_layout : (place : ℕ) → region_layout regions ≡ Bad place → dry_run_outcome regions m allowance ≡ refused_run m (BadLayout 0 place)
+  pub outcome_layout : (place : ℕ) → region_layout regions ≡ Some place → dry_run_outcome regions m allowance ≡ refused_run m (BadLayout 0 place)
   unfolding dry_run_outcome
   outcome_layout place e = rw e
 
-  module _ (g : region_layout regions ≡ Good) where
+  module _ (g : region_layout regions ≡ None) where
     pub outcome_start : can_start (image_of regions) m.pc ≡ false → dry_run_outcome regions m allowance ≡ refused_run m BadStart
     unfolding dry_run_outcome
     outcome_start e = rw (g, e)

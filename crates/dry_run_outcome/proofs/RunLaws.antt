@@ -1,7 +1,7 @@
 -- Laws of runs: one step more, and the turns of a loop that has some steps taken and the rest of the allowance left. Assumes nothing.
 use Prim.Native.Nat.{ℕ, zero, suc, ◌+◌, ◌-◌, ◌<◌, ◌≤◌}
 use Rattle.std.proofs.Common.{zero-add, add-zero, add_assoc, arith, sym, ap, ◌∙◌}
-use Rattle.std.specs.Prelude.{◌≡◌}
+use Rattle.std.specs.Prelude.{◌≡◌, None, Option, Some}
 use Rattle.std.proofs.Math.Path.{refl, subst}
 use Rattle.reading.specs.Reading.{Image}
 use Rattle.machine.specs.declared.Machine.{Machine}
@@ -9,8 +9,6 @@ use Rattle.machine.specs.declared.Reason.{Reason}
 use Rattle.machine.specs.declared.Reason.TheVariants.{Allowance}
 use Rattle.machine.specs.Step.{Step, goes, stops, step_word}
 use Rattle.machine.proofs.StepLaws.{After, StopsOtherwise, word_stop}
-use Rattle.dry_run_outcome.specs.declared.Fetched.{Fetched}
-use Rattle.dry_run_outcome.specs.declared.Fetched.TheVariants.{Word, Missing}
 use Rattle.dry_run_outcome.specs.declared.Ran.{Ran}
 use Rattle.dry_run_outcome.specs.Fetch.{fetch}
 use Rattle.dry_run_outcome.specs.Run.{step_fetched, step, ended, later, run, ran_for}
@@ -38,9 +36,9 @@ pub stops_otherwise : (image : Image) (m : Machine) (reason : Reason) → step i
 unfolding step
 stops_otherwise image m reason e = subst StopsOtherwise e (fetched (fetch image m.pc))
   where
-    fetched : (f : Fetched) → StopsOtherwise (step_fetched f m)
-    fetched (Word w) = word_stop w m
-    fetched Missing = λ x. let y : ◌≡◌ {A = ℕ} 0 1 = cc in omega arith
+    fetched : (f : Option ℕ) → StopsOtherwise (step_fetched f m)
+    fetched (Some w) = word_stop w m
+    fetched None = λ x. let y : ◌≡◌ {A = ℕ} 0 1 = cc in omega arith
 
 -- what every word keeps, every run keeps
 module _ (P : Machine → Type 0) (keeps : (w : ℕ) (m : Machine) → P m → After P (step_word w m)) where
@@ -48,9 +46,9 @@ module _ (P : Machine → Type 0) (keeps : (w : ℕ) (m : Machine) → P m → A
   unfolding step
   step_keeps image m m' e p = subst (After P) e (fetched (fetch image m.pc))
     where
-      fetched : (f : Fetched) → After P (step_fetched f m)
-      fetched (Word w) = keeps w m p
-      fetched Missing = tt
+      fetched : (f : Option ℕ) → After P (step_fetched f m)
+      fetched (Some w) = keeps w m p
+      fetched None = tt
 
   pub run_keeps : (n : ℕ) (image : Image) (m : Machine) → P m → P (run n image m).machine
   unfolding run

@@ -1,5 +1,5 @@
 -- Words that stand in an image one after the other, and a dry run through them. Assumes nothing.
-use Rattle.std.specs.Prelude.{ℕ, suc, ◌+◌, ◌*◌, ◌%◌, ◌^◌, ◌<◌, ◌≡◌, refl, List, [], ◌∷◌, ◌++◌, length}
+use Rattle.std.specs.Prelude.{ℕ, suc, ◌+◌, ◌*◌, ◌%◌, ◌^◌, ◌<◌, ◌≡◌, refl, List, [], ◌∷◌, ◌++◌, length, Some}
 use Rattle.std.proofs.Common.{suc-add, zero-add, arith, sym, ap, ◌∙◌}
 use Rattle.loading.specs.Run.{Registers, Outcome, ran, failed, step as load_step, run as load_run}
 use Rattle.reading.specs.Reading.{Image}
@@ -9,14 +9,13 @@ use Rattle.machine.specs.Step.{goes, stops, at, step_word}
 use Rattle.machine.proofs.LoadingAgrees.{agrees}
 use Rattle.machine.specs.declared.Machine.{Machine}
 use Rattle.machine.specs.declared.Reason.{Reason}
-use Rattle.dry_run_outcome.specs.declared.Fetched.TheVariants.{Word}
 use Rattle.dry_run_outcome.specs.Fetch.{fetch}
 use Rattle.dry_run_outcome.specs.Run.{step, ended, later, run}
 use Rattle.dry_run_outcome.proofs.RunLaws.{later_later, later_none, run_goes, run_stops}
 
 pub data Standing : Image → (pc : ℕ) → List ℕ → Type 0 where
   none : {image : Image} {pc : ℕ} → Standing image pc []
-  next : {image : Image} {pc w : ℕ} {ws : List ℕ} → fetch image pc ≡ Word w → Standing image (next_pc pc) ws → Standing image pc (w ∷ ws)
+  next : {image : Image} {pc w : ℕ} {ws : List ℕ} → fetch image pc ≡ Some w → Standing image (next_pc pc) ws → Standing image pc (w ∷ ws)
 
 -- the pc behind the words
 abbrev pub pc_behind : List ℕ → ℕ → ℕ
@@ -37,7 +36,7 @@ standing_right {image = image} {pc = pc} (w ∷ ws) vs (next f s) = standing_rig
 
 -- ---- one word
 
-module _ (image : Image) (w : ℕ) (m : Machine) (f : fetch image m.pc ≡ Word w) where
+module _ (image : Image) (w : ℕ) (m : Machine) (f : fetch image m.pc ≡ Some w) where
   pub step_there : step image m ≡ step_word w m
   unfolding step
   step_there = rw f

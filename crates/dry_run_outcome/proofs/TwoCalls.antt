@@ -1,11 +1,9 @@
 -- Two calls are one, unless the second is refused with 28: it starts where the first left off, and behind a last word there is none to start
 -- from. Assumes nothing.
-use Rattle.std.specs.Prelude.{ℕ, zero, suc, ◌+◌, ◌%◌, List, Bool, true, false, ◌&&◌, ◌≡◌, refl, eqb}
+use Rattle.std.specs.Prelude.{ℕ, zero, suc, ◌+◌, ◌%◌, List, Bool, true, false, ◌&&◌, ◌≡◌, refl, eqb, None, Option, Some}
 use Rattle.std.proofs.Common.{add-zero, arith, sym, ap, subst, ◌∙◌, eq-eqb, eqb-true}
 use Rattle.std.proofs.lemmas.Bool.{false≢true}
 use Rattle.std.proofs.Math.Bool.{and-eq-true_iff}
-use Rattle.record.specs.declared.Layout.{Layout}
-use Rattle.record.specs.declared.Layout.TheVariants.{Good, Bad}
 use Rattle.refusal.specs.declared.Refusal.{Refusal}
 use Rattle.refusal.specs.declared.Refusal.TheVariants.{BadStart}
 use Rattle.regions.specs.Regions.{region_layout}
@@ -17,8 +15,6 @@ use Rattle.machine.specs.Step.{at}
 use Rattle.machine.proofs.StepLaws.{HoldsZero}
 use Rattle.machine.specs.Fits.{Aligned}
 use Rattle.machine.proofs.FitsLaws.{word_aligned}
-use Rattle.dry_run_outcome.specs.declared.Fetched.{Fetched}
-use Rattle.dry_run_outcome.specs.declared.Fetched.TheVariants.{Word as Found, Missing}
 use Rattle.dry_run_outcome.specs.declared.Ran.{Ran}
 use Rattle.dry_run_outcome.specs.declared.RunAnswer.{RunAnswer}
 use Rattle.dry_run_outcome.specs.declared.RunAnswer.TheVariants.{Stopped, Refused}
@@ -61,11 +57,11 @@ started_same : (m : Machine) → HoldsZero m → started m ≡ m
 started_same m z = ap (at m.pc) (set_held m.registers z)
 
 -- no word stands where a run may not start, though the pc is a multiple of four
-missing : (f : Fetched) (pc : ℕ) → pc % 4 ≡ 0 → (eqb (pc % 4) 0 && is_word f) ≡ false → f ≡ Missing
-missing Missing pc a e = refl
-missing (Found w) pc a e = absurd (false≢true (sym (rw (eq-eqb (pc % 4) 0 a) at e)))
+missing : (f : Option ℕ) (pc : ℕ) → pc % 4 ≡ 0 → (eqb (pc % 4) 0 && is_word f) ≡ false → f ≡ None
+missing None pc a e = refl
+missing (Some w) pc a e = absurd (false≢true (sym (rw (eq-eqb (pc % 4) 0 a) at e)))
 
-run_missing : (b : ℕ) (image : Image) (m : Machine) → fetch image m.pc ≡ Missing → run b image m ≡ ended m (ends_for b)
+run_missing : (b : ℕ) (image : Image) (m : Machine) → fetch image m.pc ≡ None → run b image m ≡ ended m (ends_for b)
 unfolding run step
 run_missing zero image m e = refl
 run_missing (suc b) image m e = run_stops b image m Pc (rw e)
@@ -81,7 +77,7 @@ module _ (regions : List ℕ) (m : Machine) (a b : ℕ) where
   second = dry_run_outcome regions first.machine b
 
   -- the run of the first call, and the second behind it
-  module _ (g : region_layout regions ≡ Good) (s : can_start (image_of regions) m.pc ≡ true) where
+  module _ (g : region_layout regions ≡ None) (s : can_start (image_of regions) m.pc ≡ true) where
     abbrev r : Ran
     r = run a (image_of regions) (started m)
 
@@ -118,15 +114,15 @@ module _ (regions : List ℕ) (m : Machine) (a b : ℕ) where
   pub two_calls : dry_run_outcome regions m (a + b) ≡ joined b first second
   two_calls = by_layout (region_layout regions) refl
     where
-      by_start : (g : region_layout regions ≡ Good) → (c : Bool) → can_start (image_of regions) m.pc ≡ c → IsJoined first
+      by_start : (g : region_layout regions ≡ None) → (c : Bool) → can_start (image_of regions) m.pc ≡ c → IsJoined first
       by_start g true e =
           subst IsJoined (sym (outcome_run regions m a g e))
           (outcome_run regions m (a + b) g e ∙ ap stopped_run (run_split a b (image_of regions) (started m)) ∙ by_reason g e (r g e).reason)
       by_start g false e = subst IsJoined (sym (outcome_start regions m a g e)) (outcome_start regions m (a + b) g e)
 
-      by_layout : (l : Layout) → region_layout regions ≡ l → IsJoined first
-      by_layout Good e = by_start e (can_start (image_of regions) m.pc) refl
-      by_layout (Bad place) e = subst IsJoined (sym (outcome_layout regions m a place e)) (outcome_layout regions m (a + b) place e)
+      by_layout : (l : Option ℕ) → region_layout regions ≡ l → IsJoined first
+      by_layout None e = by_start e (can_start (image_of regions) m.pc) refl
+      by_layout (Some place) e = subst IsJoined (sym (outcome_layout regions m a place e)) (outcome_layout regions m (a + b) place e)
 
   -- ---- where the first stopped for the allowance
 
@@ -142,7 +138,7 @@ module _ (regions : List ℕ) (m : Machine) (a b : ℕ) where
     pub only_28 : (q : Refusal) → second.answer ≡ Refused q → q ≡ BadStart
     only_28 q e = go (can_start (image_of regions) first.machine.pc) refl
       where
-        good : region_layout regions ≡ Good
+        good : region_layout regions ≡ None
         good = (call_runs regions m a Allowance steps stopped).good
 
         go : (c : Bool) → can_start (image_of regions) first.machine.pc ≡ c → q ≡ BadStart

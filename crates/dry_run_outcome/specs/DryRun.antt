@@ -1,15 +1,11 @@
 -- A whole dry run: its answer and its state, from the region list, the registers, the pc and the allowance (document 02, P10). Assumes nothing.
-use Rattle.std.specs.Prelude.{ℕ, ◌%◌, List, Bool, true, false, ◌&&◌, cond, eqb, set}
-use Rattle.refusal.specs.Verdicts.{and_then, layout_verdict}
+use Rattle.std.specs.Prelude.{ℕ, ◌%◌, List, Bool, true, false, ◌&&◌, cond, eqb, set, Err, None, Ok, Option, Some}
+use Rattle.refusal.specs.Verdicts.{and_then, layout_verdict, Verdict}
 use Rattle.refusal.specs.declared.Refusal.TheVariants.{BadStart}
-use Rattle.refusal.specs.declared.Verdict.{Verdict}
-use Rattle.refusal.specs.declared.Verdict.TheVariants.{Pass, Stop}
 use Rattle.regions.specs.Regions.{region_layout}
 use Rattle.reading.specs.Reading.{Image, image_of}
 use Rattle.machine.specs.declared.Machine.{Machine}
 use Rattle.machine.specs.Step.{at}
-use Rattle.dry_run_outcome.specs.declared.Fetched.{Fetched}
-use Rattle.dry_run_outcome.specs.declared.Fetched.TheVariants.{Word, Missing}
 use Rattle.dry_run_outcome.specs.declared.Ran.{Ran}
 use Rattle.dry_run_outcome.specs.declared.RunAnswer.TheVariants.{Stopped, Refused}
 use Rattle.dry_run_outcome.specs.declared.DryRun.{DryRun}
@@ -19,16 +15,16 @@ use Rattle.refusal.specs.declared.Refusal.{Refusal}
 
 -- ---- the checks in order: 1, 28
 
-abbrev pub is_word : Fetched → Bool
-is_word (Word w) = true
-is_word Missing = false
+abbrev pub is_word : Option ℕ → Bool
+is_word (Some w) = true
+is_word None = false
 
 -- "28, a starting pc that is no multiple of four or has no whole word, before the first step"
 abbrev pub can_start : Image → ℕ → Bool
 can_start image pc = eqb (pc % 4) 0 && is_word (fetch image pc)
 
 abbrev pub start_verdict : Image → ℕ → Verdict
-start_verdict image pc = cond (can_start image pc) Pass (Stop BadStart)
+start_verdict image pc = cond (can_start image pc) (Ok tt) (Err BadStart)
 
 abbrev pub dry_run_verdict : (regions : List ℕ) → ℕ → Verdict
 dry_run_verdict regions pc = and_then (layout_verdict 0 (region_layout regions)) (start_verdict (image_of regions) pc)
@@ -41,8 +37,8 @@ started m = at m.pc (set m.registers 0 0)
 
 -- "It returns state, reason and the number of steps taken"
 abbrev pub outcome_by : Verdict → Machine → Ran → DryRun
-outcome_by Pass m r = record { machine = r.machine; answer = Stopped r.reason r.steps }
-outcome_by (Stop refusal) m r = record { machine = m; answer = Refused refusal }
+outcome_by (Ok tt) m r = record { machine = r.machine; answer = Stopped r.reason r.steps }
+outcome_by (Err refusal) m r = record { machine = m; answer = Refused refusal }
 
 unfoldable pub dry_run_outcome : (regions : List ℕ) → Machine → (allowance : ℕ) → DryRun
 unfolding region_layout image_of fetch run

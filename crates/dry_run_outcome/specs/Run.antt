@@ -1,18 +1,16 @@
 -- A run with an allowance (document 02, P10). Assumes nothing.
-use Rattle.std.specs.Prelude.{ℕ, zero, suc, ◌+◌}
+use Rattle.std.specs.Prelude.{ℕ, zero, suc, ◌+◌, None, Option, Some}
 use Rattle.reading.specs.Reading.{Image}
 use Rattle.machine.specs.declared.Machine.{Machine}
 use Rattle.machine.specs.declared.Reason.{Reason}
 use Rattle.machine.specs.declared.Reason.TheVariants.{Allowance, Pc}
 use Rattle.machine.specs.Step.{Step, goes, stops, step_word}
-use Rattle.dry_run_outcome.specs.declared.Fetched.{Fetched}
-use Rattle.dry_run_outcome.specs.declared.Fetched.TheVariants.{Word, Missing}
 use Rattle.dry_run_outcome.specs.declared.Ran.{Ran}
 use Rattle.dry_run_outcome.specs.Fetch.{fetch}
 
-abbrev pub step_fetched : Fetched → Machine → Step
-step_fetched Missing m = stops Pc
-step_fetched (Word w) m = step_word w m
+abbrev pub step_fetched : Option ℕ → Machine → Step
+step_fetched None m = stops Pc
+step_fetched (Some w) m = step_word w m
 
 -- "on a pc without a whole word", before the word is looked at
 unfoldable pub step : Image → Machine → Step

@@ -4,13 +4,6 @@
 use machine::{Machine, Reason};
 use refusal::Refusal;
 
-// What stands at a pc.
-#[derive(Clone, Copy)]
-pub enum Fetched {
-    Word(u32),
-    Missing,
-}
-
 // The state, the reason and the number of steps taken.
 #[derive(Clone, Copy)]
 pub struct Ran {

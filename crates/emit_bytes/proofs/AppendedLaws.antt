@@ -1,16 +1,15 @@
 -- Laws of what a line appends: one word or one record more, and the lengths. Assumes nothing.
 use Prim.Native.Nat.{ℕ, zero, suc, ◌+◌, ◌*◌, ◌≤◌, ◌<◌}
 use Rattle.std.proofs.Common.{not-suc-le-zero, add-one, arith, ◌∙◌, length-append, length-take-le}
-use Rattle.std.specs.Prelude.{◌≡◌, refl, length, take, get_or}
+use Rattle.std.specs.Prelude.{◌≡◌, refl, length, take, get_or, None, Option, Some}
 use Rattle.std.proofs.Math.Path.{sym, ap}
 use mathlib.Core.List.{List, [], ◌∷◌, ◌++◌, map, append_assoc, append-nil}
 use Rattle.record.specs.Stores.{le32_bytes}
 use Rattle.pending.proofs.PendingBytesLaws.{pending_length}
 use Rattle.pending.specs.declared.Origin.{Origin}
 use Rattle.emit_pairs.specs.declared.InstructionPair.{InstructionPair}
-use Rattle.emit_pairs.specs.declared.PairLabel.{PairLabel}
-use Rattle.emit_pairs.specs.declared.PairLabel.TheVariants.{Nothing, Some}
 use Rattle.emit_bytes.specs.Appended.{word_bytes, onward, pair_bytes, pendings_bytes, pair_len, pendings_len}
+use Rattle.pending.specs.declared.InstructionLabel.{InstructionLabel}
 
 -- ---- words
 
@@ -47,8 +46,8 @@ words_next ps i h = rw add-one (words_suc ps i h)
 
 -- ---- pending records
 
-pair_length : (tokens : List ℕ) (origin : Origin) (waits : PairLabel) → length (pair_bytes tokens origin waits) ≡ pair_len tokens waits
-pair_length tokens origin Nothing = refl
+pair_length : (tokens : List ℕ) (origin : Origin) (waits : Option InstructionLabel) → length (pair_bytes tokens origin waits) ≡ pair_len tokens waits
+pair_length tokens origin None = refl
 pair_length tokens origin (Some waits) = pending_length tokens origin waits
 
 pub pendings_length : (tokens : List ℕ) (origin : Origin) (ps : List InstructionPair) → length (pendings_bytes tokens origin ps) ≡ pendings_len tokens ps
@@ -79,7 +78,7 @@ unfolding word_at
 word_offset zero origin = omega arith
 word_offset (suc i) origin = omega (arith, word_offset i (onward origin))
 
-module _ (tokens : List ℕ) (d : InstructionPair) (w : PairLabel) where
+module _ (tokens : List ℕ) (d : InstructionPair) (w : Option InstructionLabel) where
   pendings_suc : (origin : Origin) (ps : List InstructionPair) (i : ℕ) → i < length ps → (get_or ps i d).label ≡ w
       → pendings_bytes tokens origin (take (suc i) ps) ≡ pendings_bytes tokens origin (take i ps) ++ pair_bytes tokens (word_at i origin) w
   unfolding pendings_bytes word_at
@@ -114,6 +113,6 @@ sizes_within tokens (p ∷ ps) (suc m) zero h = absurd (not-suc-le-zero h)
 sizes_within tokens (p ∷ ps) (suc m) (suc n) h = omega (arith, sizes_within tokens ps m n (omega arith))
 
 -- there is room for the next pair's record behind those of the pairs before it
-pub sizes_room : (tokens : List ℕ) (d : InstructionPair) (w : PairLabel) (ps : List InstructionPair) (i n : ℕ) → i < n → n ≤ length ps → (get_or ps i d).label ≡ w
+pub sizes_room : (tokens : List ℕ) (d : InstructionPair) (w : Option InstructionLabel) (ps : List InstructionPair) (i n : ℕ) → i < n → n ≤ length ps → (get_or ps i d).label ≡ w
     → pendings_len tokens (take i ps) + pair_len tokens w ≤ pendings_len tokens (take n ps)
 sizes_room tokens d w ps i n h k g = omega (arith, sizes_next tokens d w ps i (omega arith) g, sizes_within tokens ps (i + 1) n (omega arith))

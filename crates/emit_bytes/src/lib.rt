@@ -6,8 +6,8 @@ ghost use Rattle.emit_pairs.specs.declared.InstructionPair.{InstructionPair};
 ghost use Rattle.record.specs.Stores.{le32_bytes, append};
 ghost use Rattle.emit_bytes.specs.Appended.{word_bytes, onward, pendings_bytes, pair_len, pendings_len};
 
-use emit_pairs::{EmitInstruction, PairLabel};
-use pending::Origin;
+use emit_pairs::EmitInstruction;
+use pending::{InstructionLabel, Origin};
 
 // The four little-endian bytes of a word.
 fn bytes_of(w: u32) -> [u8; 4]
@@ -57,13 +57,13 @@ pub fn put_words(d: &mut [u8], at: usize, e: EmitInstruction)
 }
 
 // How many bytes the record of one word takes.
-fn pair_size(tokens: &[u8], waits: PairLabel) -> usize
+fn pair_size(tokens: &[u8], waits: Option<InstructionLabel>) -> usize
     requires { length tokens.now ≤ 65536 }
     ensures { (result ≡ pair_len tokens.now waits) × (result ≤ 65572) }
 {
     match waits {
-        PairLabel::Nothing => 0,
-        PairLabel::Some(x) => {
+        None => 0,
+        Some(x) => {
             let label = x.label;
             let name = address_label::name_of(tokens, label);
             36 + name.len()
@@ -117,11 +117,11 @@ pub fn put_pendings(d: &mut [u8], tokens: &[u8], at: usize, origin: Origin, e: E
         let pair = pairs[i];
         let waits = pair.label;
         match waits {
-            PairLabel::Nothing => {
+            None => {
                 from = onward(from);
                 i = i + 1;
             }
-            PairLabel::Some(label) => {
+            Some(label) => {
                 pending::put_pending(&mut *d, tokens, to, from, label);
                 to = to + pair_size(tokens, waits);
                 from = onward(from);

@@ -1,13 +1,9 @@
 -- The layouts one after the other and the names after them, and what lists that pass have. Assumes nothing.
-use Rattle.std.specs.Prelude.{ℕ, List, ◌≡◌}
+use Rattle.std.specs.Prelude.{ℕ, List, ◌≡◌, Ok, Option}
 use Rattle.record.specs.Records.{places, first_bad}
 use Rattle.record.proofs.RecordsLaws.{limit_good}
-use Rattle.record.specs.declared.Layout.{Layout}
-use Rattle.names.specs.declared.Repeat.{Repeat}
-use Rattle.refusal.specs.Verdicts.{and_then, layout_verdict, name_verdict}
+use Rattle.refusal.specs.Verdicts.{and_then, layout_verdict, name_verdict, Verdict}
 use Rattle.refusal.proofs.VerdictsLaws.{both_pass, layout_pass}
-use Rattle.refusal.specs.declared.Verdict.{Verdict}
-use Rattle.refusal.specs.declared.Verdict.TheVariants.{Pass}
 use Rattle.lexer.specs.Tokens.{token_ok, token_layout}
 use Rattle.descriptors.specs.Mnemonics.{mnemonic_layout}
 use Rattle.descriptors.specs.Descriptors.{descriptor_layout, descriptor_repeat}
@@ -19,7 +15,7 @@ use Rattle.emit_outcome.specs.Checks.{layout_stop, list_stop}
 use Rattle.emit_checks.specs.Made.{ListsGood}
 
 module _ (token_list mnemonic descriptors : List ℕ) (lent : Lent) (region : ℕ) (counts : FillCounts) where
-  pub layouts_are : {t m d r p b : Layout} → token_layout token_list ≡ t → mnemonic_layout mnemonic ≡ m → descriptor_layout descriptors ≡ d
+  pub layouts_are : {t m d r p b : (Option ℕ)} → token_layout token_list ≡ t → mnemonic_layout mnemonic ≡ m → descriptor_layout descriptors ≡ d
       → data_buffer_layout region counts.data_len lent.region_data ≡ r → pending_buffer_layout counts.pending lent.pending ≡ p
       → breakpoint_buffer_layout counts.breakpoints lent.breakpoints ≡ b
       → layout_stop token_list mnemonic descriptors lent region counts
@@ -27,12 +23,12 @@ module _ (token_list mnemonic descriptors : List ℕ) (lent : Lent) (region : �
   unfolding layout_stop
   layouts_are ht hm hd hr hp hb = rw (ht, hm, hd, hr, hp, hb)
 
-  pub lists_are : {v : Verdict} {r : Repeat} → layout_stop token_list mnemonic descriptors lent region counts ≡ v → descriptor_repeat descriptors ≡ r
+  pub lists_are : {v : Verdict} {r : (Option ℕ)} → layout_stop token_list mnemonic descriptors lent region counts ≡ v → descriptor_repeat descriptors ≡ r
       → list_stop token_list mnemonic descriptors lent region counts ≡ and_then v (name_verdict 2 r)
   unfolding list_stop
   lists_are hv hr = rw (hv, hr)
 
-  pub layouts_pass : layout_stop token_list mnemonic descriptors lent region counts ≡ Pass → ListsGood token_list mnemonic descriptors lent counts
+  pub layouts_pass : layout_stop token_list mnemonic descriptors lent region counts ≡ Ok tt → ListsGood token_list mnemonic descriptors lent counts
   unfolding layout_stop token_layout
   layouts_pass e =
       let t = both_pass (layout_verdict 0 (token_layout token_list)) _ e in
@@ -59,6 +55,6 @@ module _ (token_list mnemonic descriptors : List ℕ) (lent : Lent) (region : �
         };
       }
 
-  pub lists_pass : list_stop token_list mnemonic descriptors lent region counts ≡ Pass → ListsGood token_list mnemonic descriptors lent counts
+  pub lists_pass : list_stop token_list mnemonic descriptors lent region counts ≡ Ok tt → ListsGood token_list mnemonic descriptors lent counts
   unfolding list_stop
   lists_pass e = layouts_pass (both_pass (layout_stop token_list mnemonic descriptors lent region counts) (name_verdict 2 (descriptor_repeat descriptors)) e).0

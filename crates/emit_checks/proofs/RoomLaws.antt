@@ -3,16 +3,14 @@ use Prim.Native.Nat.{ℕ, zero, suc, ◌+◌, ◌-◌, ◌*◌, ◌^◌, ◌≤�
 use native.Mathlib.Omega.{arith}
 use Rattle.std.proofs.Math.Path.{◌≡◌, refl}
 use Rattle.std.proofs.Common.{ap}
-use Rattle.std.specs.Prelude.{List, Bool, ◌&&◌, length, eqb}
+use Rattle.std.specs.Prelude.{List, Bool, ◌&&◌, length, eqb, Err, Ok}
 use Rattle.std.proofs.Math.Bool.{true, false, and-eq-true_iff}
 use Rattle.std.proofs.Math.Dec.{leb}
 use borrow.Author.Tests.{le-leb, lt-leb, leb-true}
 use Rattle.record.specs.declared.Location.{Location}
-use Rattle.refusal.specs.Verdicts.{and_then}
+use Rattle.refusal.specs.Verdicts.{and_then, Verdict}
 use Rattle.refusal.proofs.VerdictsLaws.{both_pass}
 use Rattle.refusal.specs.declared.Refusal.TheVariants.{MissingRegion, OverwriteEdge}
-use Rattle.refusal.specs.declared.Verdict.{Verdict}
-use Rattle.refusal.specs.declared.Verdict.TheVariants.{Pass, Stop}
 use Rattle.emit_pairs.specs.declared.InstructionPair.{InstructionPair}
 use Rattle.emit_dispatch.specs.declared.LineAnswer.{LineAnswer}
 use Rattle.emit_dispatch.specs.declared.LineAnswer.TheVariants.{Made, Missed, OutOfRange}
@@ -28,7 +26,7 @@ use Rattle.emit_checks.specs.Made.{RoomFor}
 
 -- ---- refusal 11: no word is left, the first fits, the first does not
 module _ (line : Location) (address : ℕ) where
-  pub edge_end : (n size : ℕ) → n ≡ 0 → edge_stop line address n size ≡ Pass
+  pub edge_end : (n size : ℕ) → n ≡ 0 → edge_stop line address n size ≡ Ok tt
   unfolding edge_stop
   edge_end n size e = rw e
 
@@ -39,20 +37,20 @@ module _ (line : Location) (address : ℕ) where
       let e : n ≡ suc n - 1 = omega arith in
       rw (le-leb (address + size) 4294967295 k, edge_stop) (ap (λ (m : ℕ). edge_stop line address m (size + 4)) e)
 
-  pub edge_stop_lem : (n size : ℕ) → 0 < n → 4294967295 < address + size → edge_stop line address n size ≡ Stop (OverwriteEdge line address size)
+  pub edge_stop_lem : (n size : ℕ) → 0 < n → 4294967295 < address + size → edge_stop line address n size ≡ Err (OverwriteEdge line address size)
   unfolding edge_stop
   edge_stop_lem zero size h k = absurd (omega arith)
   edge_stop_lem (suc n) size h k = rw (lt-leb (address + size) 4294967295 k, edge_stop)
 
-  edge_later : (n size : ℕ) → edge_stop line address (suc n) size ≡ Pass → edge_stop line address n (size + 4) ≡ Pass
+  edge_later : (n size : ℕ) → edge_stop line address (suc n) size ≡ Ok tt → edge_stop line address n (size + 4) ≡ Ok tt
   unfolding edge_stop
   edge_later n size e = go (leb (address + size) (2 ^ 32 - 1)) refl
     where
-      go : (b : Bool) → leb (address + size) (2 ^ 32 - 1) ≡ b → edge_stop line address n (size + 4) ≡ Pass
+      go : (b : Bool) → leb (address + size) (2 ^ 32 - 1) ≡ b → edge_stop line address n (size + 4) ≡ Ok tt
       go false b = cc
       go true b = rw (b, edge_stop) at e
 
-  edge_room : (n size : ℕ) → edge_stop line address n size ≡ Pass → 0 < n → address + size + 4 * n ≤ 2 ^ 32 + 3
+  edge_room : (n size : ℕ) → edge_stop line address n size ≡ Ok tt → 0 < n → address + size + 4 * n ≤ 2 ^ 32 + 3
   unfolding edge_stop
   edge_room zero size e h = absurd (omega arith)
   edge_room (suc zero) size e h = go (leb (address + size) (2 ^ 32 - 1)) refl
@@ -62,7 +60,7 @@ module _ (line : Location) (address : ℕ) where
       go true b = omega (arith, leb-true (address + size) (2 ^ 32 - 1) b)
   edge_room (suc (suc n)) size e h = omega (arith, edge_room (suc n) (size + 4) (edge_later (suc n) size e) (omega arith))
 
-space_passes : (line : Location) (which : ℕ) (b : Bool) → space_stop line which b ≡ Pass → b ≡ true
+space_passes : (line : Location) (which : ℕ) (b : Bool) → space_stop line which b ≡ Ok tt → b ≡ true
 space_passes line which true e = refl
 space_passes line which false e = cc
 
@@ -90,11 +88,11 @@ module _ (token_list : List ℕ) (line : Location) (numbers : LineNumbers) (lent
       → leb filled (length lent.region_data) ≡ d → leb filled most_data ≡ f → leb (numbers.counts.pending + size) (length lent.pending) ≡ p
       → leb (numbers.counts.breakpoints + (12 + 4 * n)) (length lent.breakpoints) ≡ k
       → room_stop token_list line numbers lent pairs
-      ≡ and_then (elim b [ true ↦ Stop (MissingRegion line) | false ↦ Pass ])
+      ≡ and_then (elim b [ true ↦ Err (MissingRegion line) | false ↦ Ok tt ])
       (and_then v (and_then (space_stop line 0 (d && f)) (and_then (space_stop line 1 p) (space_stop line 2 k))))
   room_are hb hv hd hf hp hk = rw (room_is, hb, hv, hd, hf, hp, hk, region_stop)
 
-  pub room_fits : room_stop token_list line numbers lent pairs ≡ Pass → RoomFor numbers lent n size
+  pub room_fits : room_stop token_list line numbers lent pairs ≡ Ok tt → RoomFor numbers lent n size
   room_fits e =
       let counts = numbers.counts in
       let r = both_pass (region_stop line numbers.place.region) _ (rw room_is at e) in
@@ -110,10 +108,10 @@ module _ (token_list : List ℕ) (line : Location) (numbers : LineNumbers) (lent
 
 -- a line that no check stops has room
 pub line_room : (token_list : List ℕ) (line : Location) (numbers : LineNumbers) (lent : Lent) (made : Line)
-    → line_stop token_list line numbers lent made ≡ Pass → room_stop token_list line numbers lent made.pairs ≡ Pass
+    → line_stop token_list line numbers lent made ≡ Ok tt → room_stop token_list line numbers lent made.pairs ≡ Ok tt
 line_room token_list line numbers lent made = go made.answer
   where
-    go : (a : LineAnswer) → answer_stop token_list line numbers lent made.pairs a ≡ Pass → room_stop token_list line numbers lent made.pairs ≡ Pass
+    go : (a : LineAnswer) → answer_stop token_list line numbers lent made.pairs a ≡ Ok tt → room_stop token_list line numbers lent made.pairs ≡ Ok tt
     go Made e = e
     go (Missed m) e = cc
     go (OutOfRange fault) e = cc

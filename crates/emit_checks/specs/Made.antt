@@ -1,6 +1,5 @@
 -- What the steps of an emit call know of the lists that passed, and of the line that was made. Assumes nothing.
-use Rattle.std.specs.Prelude.{ℕ, ◌+◌, ◌*◌, ◌^◌, ◌≤◌, ◌<◌, ◌≡◌, List, length, take}
-use Rattle.record.specs.declared.Layout.TheVariants.{Good}
+use Rattle.std.specs.Prelude.{ℕ, ◌+◌, ◌*◌, ◌^◌, ◌≤◌, ◌<◌, ◌≡◌, List, length, take, None}
 use Rattle.lexer.specs.Tokens.{token_layout}
 use Rattle.descriptors.specs.Mnemonics.{mnemonic_layout}
 use Rattle.descriptors.specs.Descriptors.{descriptor_layout}
@@ -25,9 +24,9 @@ pub record Filled (token_list : List ℕ) (lent : Lent) (counts : FillCounts) : 
 
 -- the lists' layouts, and the lengths and fill counts
 pub record ListsGood (token_list mnemonic descriptors : List ℕ) (lent : Lent) (counts : FillCounts) : Type 0 where
-  pub tokens_good : token_layout token_list ≡ Good
-  pub mnemonic_good : mnemonic_layout mnemonic ≡ Good
-  pub descriptors_good : descriptor_layout descriptors ≡ Good
+  pub tokens_good : token_layout token_list ≡ None
+  pub mnemonic_good : mnemonic_layout mnemonic ≡ None
+  pub descriptors_good : descriptor_layout descriptors ≡ None
   pub filled : Filled token_list lent counts
 
 -- the words that count

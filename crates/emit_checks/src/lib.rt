@@ -11,10 +11,9 @@ ghost use Rattle.emit_checks.specs.Made.{pairs_of, made_line, Filled, MadeGood};
 use emit_dispatch::{LineAnswer, LineEmit};
 use emit_outcome::{FillCounts, LineNumbers};
 use emit_pairs::{EmitInstruction, Fault};
-use names::Repeat;
 use operand::Miss;
-use record::{Layout, Location};
-use refusal::{Refusal, Verdict};
+use record::Location;
+use refusal::Refusal;
 
 // Refusal 1: the first list or buffer that breaks its layout.
 pub fn check_layouts(
@@ -26,37 +25,37 @@ pub fn check_layouts(
     breakpoints: &[u8],
     region: u16,
     counts: FillCounts,
-) -> Verdict
+) -> Result<(), Refusal>
     ensures { result ≡ layout_stop tokens.now mnemonic.now descriptors.now
         (lent_of «data».now pending.now breakpoints.now) region counts }
 {
-    if let Layout::Bad(place) = lexer::first_bad_token(tokens) {
-        return Verdict::Stop(Refusal::BadLayout(0, place as u32));
+    if let Some(place) = lexer::first_bad_token(tokens) {
+        return Err(Refusal::BadLayout(0, place as u32));
     }
-    if let Layout::Bad(place) = descriptors::first_bad_mnemonic(mnemonic) {
-        return Verdict::Stop(Refusal::BadLayout(1, place as u32));
+    if let Some(place) = descriptors::first_bad_mnemonic(mnemonic) {
+        return Err(Refusal::BadLayout(1, place as u32));
     }
-    if let Layout::Bad(place) = descriptors::first_bad_descriptor(descriptors) {
-        return Verdict::Stop(Refusal::BadLayout(2, place as u32));
+    if let Some(place) = descriptors::first_bad_descriptor(descriptors) {
+        return Err(Refusal::BadLayout(2, place as u32));
     }
-    if let Layout::Bad(place) = breakpoints::check_data_buffer(
+    if let Some(place) = breakpoints::check_data_buffer(
         data,
         counts.data_len as usize,
         region,
     ) {
-        return Verdict::Stop(Refusal::BadLayout(3, place as u32));
+        return Err(Refusal::BadLayout(3, place as u32));
     }
     let kept = counts.pending as usize;
-    if let Layout::Bad(place) = breakpoints::check_pending_buffer(pending, kept) {
-        return Verdict::Stop(Refusal::BadLayout(4, place as u32));
+    if let Some(place) = breakpoints::check_pending_buffer(pending, kept) {
+        return Err(Refusal::BadLayout(4, place as u32));
     }
-    if let Layout::Bad(place) = breakpoints::check_breakpoint_buffer(
+    if let Some(place) = breakpoints::check_breakpoint_buffer(
         breakpoints,
         counts.breakpoints as usize,
     ) {
-        return Verdict::Stop(Refusal::BadLayout(5, place as u32));
+        return Err(Refusal::BadLayout(5, place as u32));
     }
-    Verdict::Pass
+    Ok(())
 }
 
 // Refusals 1 and 2.
@@ -69,7 +68,7 @@ pub fn check_lists(
     breakpoints: &[u8],
     region: u16,
     counts: FillCounts,
-) -> Verdict
+) -> Result<(), Refusal>
     ensures { result ≡ list_stop tokens.now mnemonic.now descriptors.now
         (lent_of «data».now pending.now breakpoints.now) region counts }
 {
@@ -83,10 +82,10 @@ pub fn check_lists(
         region,
         counts,
     ) {
-        Verdict::Stop(refusal) => Verdict::Stop(refusal),
-        Verdict::Pass => match descriptors::first_repeat(descriptors) {
-            Repeat::None => Verdict::Pass,
-            Repeat::Later(place) => Verdict::Stop(Refusal::DuplicateName(2, place as u32)),
+        Err(refusal) => Err(refusal),
+        Ok(()) => match descriptors::first_repeat(descriptors) {
+            None => Ok(()),
+            Some(place) => Err(Refusal::DuplicateName(2, place as u32)),
         },
     }
 }
@@ -136,7 +135,7 @@ fn met_location(line: Location, kind: u8, met: Location) -> Location
 }
 
 // Refusal 11: the first of n words whose pc does not fit 32 bits.
-fn check_edge(numbers: LineNumbers, line: Location, n: usize) -> Verdict
+fn check_edge(numbers: LineNumbers, line: Location, n: usize) -> Result<(), Refusal>
     requires { (n ≤ 5) × (numbers.counts.data_len ≤ 65536) }
     ensures { result ≡ edge_stop line numbers.place.address n numbers.counts.data_len }
 {
@@ -145,12 +144,12 @@ fn check_edge(numbers: LineNumbers, line: Location, n: usize) -> Verdict
     let mut at = numbers.counts.data_len;
     while 0 < left {
         if address > 0xFFFF_FFFF - at {
-            return Verdict::Stop(Refusal::OverwriteEdge(line, address, at));
+            return Err(Refusal::OverwriteEdge(line, address, at));
         }
         at = at + 4;
         left = left - 1;
     }
-    Verdict::Pass
+    Ok(())
 }
 
 // Refusals 10, 11 and 12.
@@ -162,7 +161,7 @@ fn check_room(
     numbers: LineNumbers,
     line: Location,
     e: EmitInstruction,
-) -> Verdict
+) -> Result<(), Refusal>
     requires { Filled tokens.now (lent_of «data».now pending.now breakpoints.now) numbers.counts × (e.count ≤ 5) }
     ensures { result ≡ room_stop tokens.now line numbers
         (lent_of «data».now pending.now breakpoints.now) (pairs_of e) }
@@ -171,25 +170,25 @@ fn check_room(
     let n = emit_bytes::count_of(e);
     let size = emit_bytes::pendings_size(tokens, e);
     if numbers.place.region == emit_outcome::NO_REGION {
-        return Verdict::Stop(Refusal::MissingRegion(line));
+        return Err(Refusal::MissingRegion(line));
     }
     match check_edge(numbers, line, n) {
-        Verdict::Stop(refusal) => Verdict::Stop(refusal),
-        Verdict::Pass => {
+        Err(refusal) => Err(refusal),
+        Ok(()) => {
             let filled = counts.data_len as usize + 4 * n;
             if filled > data.len() {
-                return Verdict::Stop(Refusal::NoSpace(line, 0));
+                return Err(Refusal::NoSpace(line, 0));
             }
             if filled > emit_outcome::MOST_DATA {
-                return Verdict::Stop(Refusal::NoSpace(line, 0));
+                return Err(Refusal::NoSpace(line, 0));
             }
             if counts.pending as usize + size > pending.len() {
-                return Verdict::Stop(Refusal::NoSpace(line, 1));
+                return Err(Refusal::NoSpace(line, 1));
             }
             if counts.breakpoints as usize + (12 + 4 * n) > breakpoints.len() {
-                return Verdict::Stop(Refusal::NoSpace(line, 2));
+                return Err(Refusal::NoSpace(line, 2));
             }
-            Verdict::Pass
+            Ok(())
         }
     }
 }
@@ -203,7 +202,7 @@ pub fn check_line(
     numbers: LineNumbers,
     line: Location,
     made: LineEmit,
-) -> Verdict
+) -> Result<(), Refusal>
     requires { Filled tokens.now (lent_of «data».now pending.now breakpoints.now) numbers.counts × MadeGood tokens.now made }
     ensures { result ≡ line_stop tokens.now line numbers
         (lent_of «data».now pending.now breakpoints.now) (made_line made) }
@@ -211,8 +210,8 @@ pub fn check_line(
     let answer = made.answer;
     let e = made.emit;
     match answer {
-        LineAnswer::Missed(miss) => Verdict::Stop(miss_refusal(line, miss)),
-        LineAnswer::OutOfRange(fault) => Verdict::Stop(fault_refusal(line, fault)),
+        LineAnswer::Missed(miss) => Err(miss_refusal(line, miss)),
+        LineAnswer::OutOfRange(fault) => Err(fault_refusal(line, fault)),
         LineAnswer::Made => check_room(tokens, data, pending, breakpoints, numbers, line, e),
     }
 }

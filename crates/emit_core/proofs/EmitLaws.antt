@@ -1,24 +1,17 @@
 -- Laws of an emit call: its outcome by what the lists and the mnemonic are. Assumes nothing.
-use Rattle.std.specs.Prelude.{ℕ, ◌+◌, ◌≤◌, ◌≡◌, refl, List, length, Bool, true, false}
+use Rattle.std.specs.Prelude.{ℕ, ◌+◌, ◌≤◌, ◌≡◌, refl, List, length, Bool, true, false, Err, None, Ok, Option, Some}
 use Rattle.std.proofs.Common.{arith, sym, subst, ◌∙◌, length-take}
 use Rattle.std.proofs.Math.Path.{ap}
 use Rattle.jobs.specs.declared.Job.{Job}
-use Rattle.record.specs.declared.Layout.TheVariants.{Good}
-use Rattle.names.specs.declared.Named.{Named}
-use Rattle.names.specs.declared.Named.TheVariants.{At, Missing}
 use Rattle.record.specs.declared.Location.{Location}
 use Rattle.refusal.specs.declared.Refusal.{Refusal}
 use Rattle.refusal.specs.declared.Refusal.TheVariants.{UnknownInstruction}
-use Rattle.refusal.specs.declared.Verdict.{Verdict}
-use Rattle.refusal.specs.declared.Verdict.TheVariants.{Pass, Stop}
 use Rattle.descriptors.specs.declared.Instruction.{Instruction}
 use Rattle.lexer.specs.declared.Token.{Token}
 use Rattle.cursor.specs.declared.Cursor.{Cursor}
 use Rattle.descriptors.specs.Mnemonics.{mnemonic_name}
 use Rattle.descriptors.specs.Descriptors.{descriptor_layout, find_descriptor, instruction_at}
 use Rattle.descriptors.proofs.DescriptorsLaws.{descriptor_found}
-use Rattle.pseudo_names.specs.declared.MaybePseudo.{MaybePseudo}
-use Rattle.pseudo_names.specs.declared.MaybePseudo.TheVariants.{Some, Nothing}
 use Rattle.pseudo_names.specs.PseudoNames.{pseudo_of}
 use Rattle.emit_pairs.specs.declared.EmitInstruction.{EmitInstruction}
 use Rattle.emit_dispatch.specs.declared.LineAnswer.{LineAnswer}
@@ -37,30 +30,32 @@ use Rattle.emit_outcome.specs.Checks.{list_stop}
 use Rattle.emit_outcome.specs.Emit.{call_line, call_refused, line_outcome, list_outcome, meaning_outcome, emit_outcome}
 use Rattle.emit_checks.specs.Made.{made_line, MadeGood}
 use Rattle.emit_core.specs.Read.{LineFor, ReadIs}
+use Rattle.pseudo_names.specs.declared.Pseudo.{Pseudo}
+use Rattle.refusal.specs.Verdicts.{Verdict}
 
 -- what a name is, by what the table and the pseudo-instructions say
 module _ (descriptors name : List ℕ) where
-  pub by_table : {found : Named} → find_descriptor descriptors name ≡ found → meaning descriptors name ≡ or_pseudo found name
+  pub by_table : {found : (Option ℕ)} → find_descriptor descriptors name ≡ found → meaning descriptors name ≡ or_pseudo found name
   unfolding meaning
-  by_table e = ap (λ (n : Named). or_pseudo n name) e
+  by_table e = ap (λ (n : Option ℕ). or_pseudo n name) e
 
-  pub by_pseudo : {p : MaybePseudo} → find_descriptor descriptors name ≡ Missing → pseudo_of name ≡ p → meaning descriptors name ≡ or_neither p
+  pub by_pseudo : {p : (Option Pseudo)} → find_descriptor descriptors name ≡ None → pseudo_of name ≡ p → meaning descriptors name ≡ or_neither p
   by_pseudo e f = by_table e ∙ ap or_neither f
 
   -- a descriptor that was found stands in the table whole
-  pub table_fits : (p : ℕ) → descriptor_layout descriptors ≡ Good → meaning descriptors name ≡ Table p → p + 12 ≤ length descriptors
+  pub table_fits : (p : ℕ) → descriptor_layout descriptors ≡ None → meaning descriptors name ≡ Table p → p + 12 ≤ length descriptors
   table_fits p g e = go (find_descriptor descriptors name) refl
     where
-      go : (n : Named) → find_descriptor descriptors name ≡ n → p + 12 ≤ length descriptors
-      go (At q) f =
+      go : (n : Option ℕ) → find_descriptor descriptors name ≡ n → p + 12 ≤ length descriptors
+      go (Some q) f =
           let k : q ≡ p = cc (by_table f) in
           let d = descriptor_found descriptors name q g f in
           omega (arith, k, d.body, d.least)
-      go Missing f = none (pseudo_of name) refl
+      go None f = none (pseudo_of name) refl
         where
-          none : (m : MaybePseudo) → pseudo_of name ≡ m → p + 12 ≤ length descriptors
+          none : (m : Option Pseudo) → pseudo_of name ≡ m → p + 12 ≤ length descriptors
           none (Some x) h = let z : ◌≡◌ {A = ℕ} 0 1 = cc (by_pseudo f h) in absurd (omega arith)
-          none Nothing h = let z : ◌≡◌ {A = ℕ} 0 1 = cc (by_pseudo f h) in absurd (omega arith)
+          none None h = let z : ◌≡◌ {A = ℕ} 0 1 = cc (by_pseudo f h) in absurd (omega arith)
 
 -- the line of a descriptor that was read
 pub table_as : (job : Job) (descriptors : List ℕ) (p : ℕ) {x : Instruction} {s : List ℕ} (ts : List Token) (i : ℕ) {answer : LineAnswer} {emit : EmitInstruction} {cursor : Cursor}
@@ -88,11 +83,11 @@ module _ (job : Job) (c : Call) where
   abbrev stop : Verdict
   stop = list_stop c.token_list c.mnemonic c.descriptors c.lent c.numbers.place.region c.numbers.counts
 
-  pub by_lists : {r : Refusal} → stop ≡ Stop r → emit_outcome job c ≡ call_refused c r
+  pub by_lists : {r : Refusal} → stop ≡ Err r → emit_outcome job c ≡ call_refused c r
   unfolding emit_outcome
   by_lists e = ap (list_outcome job c) e
 
-  pub by_meaning : {m : Meaning} → stop ≡ Pass → meaning c.descriptors (mnemonic_name c.mnemonic) ≡ m → emit_outcome job c ≡ meaning_outcome job c m
+  pub by_meaning : {m : Meaning} → stop ≡ Ok tt → meaning c.descriptors (mnemonic_name c.mnemonic) ≡ m → emit_outcome job c ≡ meaning_outcome job c m
   unfolding emit_outcome
   by_meaning e f = ap (list_outcome job c) e ∙ ap (meaning_outcome job c) f
 
@@ -101,7 +96,7 @@ module _ (job : Job) (c : Call) where
   read_outcome true line made = line_outcome c.token_list line c.numbers c.lent (made_line made)
   read_outcome false line made = call_refused c (UnknownInstruction line)
 
-  module _ (known : Bool) (line : Location) (made : LineEmit) (read : ReadIs job c.token_list c.mnemonic c.descriptors c.numbers.place.position known line made) (pass : stop ≡ Pass) where
+  module _ (known : Bool) (line : Location) (made : LineEmit) (read : ReadIs job c.token_list c.mnemonic c.descriptors c.numbers.place.position known line made) (pass : stop ≡ Ok tt) where
     located : (l : Line) → l ≡ made_line made → call_line c l ≡ line_outcome c.token_list line c.numbers c.lent (made_line made)
     located l e = ap (call_line c) e ∙ ap (λ (x : Location). line_outcome c.token_list x c.numbers c.lent (made_line made)) (sym read.location_is)
 

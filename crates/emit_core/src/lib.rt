@@ -2,7 +2,6 @@
 #![tactic(auto)]
 
 ghost use Rattle.std.specs.Prelude.{◌≡◌, ◌+◌, ◌≤◌, length};
-ghost use Rattle.refusal.specs.declared.Verdict.TheVariants.{Pass};
 ghost use Rattle.lexer.specs.Tokens.{token_layout, tokens as tokens_of};
 ghost use Rattle.cursor.specs.Reads.{Placed};
 ghost use Rattle.descriptors.specs.Mnemonics.{mnemonic_layout};
@@ -19,10 +18,8 @@ use cursor::Cursor;
 use emit_dispatch::{LineAnswer, LineEmit};
 use emit_outcome::{Emitted, FillCounts, LineNumbers, LinePlace, Meaning};
 use jobs::Job;
-use names::Named;
-use pseudo_names::MaybePseudo;
-use record::{Layout, Location};
-use refusal::{Refusal, Verdict};
+use record::Location;
+use refusal::Refusal;
 
 // A line that was read: whether its mnemonic is known, where that stands, and what was made of the operands. Nothing is made of one that is unknown.
 #[derive(Clone, Copy)]
@@ -34,14 +31,14 @@ pub struct LineRead {
 
 // A descriptor goes before a pseudo-instruction of its name.
 fn find_meaning(descriptors: &[u8], name: &[u8]) -> Meaning
-    requires { descriptor_layout descriptors.now ≡ Layout.Good }
+    requires { descriptor_layout descriptors.now ≡ None }
     ensures { result ≡ meaning descriptors.now name.now }
 {
     match descriptors::find(descriptors, name) {
-        Named::At(place) => Meaning::Table(place),
-        Named::Missing => match pseudo_names::pseudo_of(name) {
-            MaybePseudo::Some(pseudo) => Meaning::Builtin(pseudo),
-            MaybePseudo::Nothing => Meaning::Neither,
+        Some(place) => Meaning::Table(place),
+        None => match pseudo_names::pseudo_of(name) {
+            Some(pseudo) => Meaning::Builtin(pseudo),
+            None => Meaning::Neither,
         },
     }
 }
@@ -73,7 +70,7 @@ pub fn read_line(
     descriptors: &[u8],
     position: u32,
 ) -> LineRead
-    requires { (token_layout tokens.now ≡ Layout.Good) × (mnemonic_layout mnemonic.now ≡ Layout.Good) × (descriptor_layout descriptors.now ≡ Layout.Good) }
+    requires { (token_layout tokens.now ≡ None) × (mnemonic_layout mnemonic.now ≡ None) × (descriptor_layout descriptors.now ≡ None) }
     ensures { ReadIs job tokens.now mnemonic.now descriptors.now position result.known result.line result.made }
 {
     let named = descriptors::read_mnemonic(mnemonic);
@@ -122,7 +119,7 @@ fn emit_named(
     numbers: LineNumbers,
 ) -> Emitted
     requires { list_stop tokens.now mnemonic.now descriptors.now (lent_of «data».old pending.old breakpoints.old)
-        numbers.place.region numbers.counts ≡ Pass }
+        numbers.place.region numbers.counts ≡ Ok tt }
     ensures { emit_outcome job (call_of tokens.now mnemonic.now descriptors.now
         (lent_of «data».old pending.old breakpoints.old) numbers.counts numbers.place)
         ≡ outcome_of result.answer result.counts (lent_of «data».new pending.new breakpoints.new) }
@@ -167,8 +164,8 @@ pub fn do_job(
         place.region,
         counts,
     ) {
-        Verdict::Stop(refusal) => emit_made::refused(refusal, place.position, counts),
-        Verdict::Pass => emit_named(
+        Err(refusal) => emit_made::refused(refusal, place.position, counts),
+        Ok(()) => emit_named(
             job,
             tokens,
             mnemonic,

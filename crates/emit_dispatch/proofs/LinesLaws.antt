@@ -1,5 +1,5 @@
 -- Laws of a line: the words of an encoding by its case, and the line by what was read. Assumes nothing.
-use Rattle.std.specs.Prelude.{ℕ, ◌≡◌, refl, List, [], Bool, true, false}
+use Rattle.std.specs.Prelude.{ℕ, ◌≡◌, refl, List, [], Bool, true, false, Err, Ok, Result}
 use Rattle.std.proofs.Common.{sym, subst, arith}
 use Rattle.instructions.specs.declared.Opcode.{Opcode}
 use Rattle.instructions.specs.declared.Encoding.{Encoding}
@@ -14,8 +14,6 @@ use Rattle.operand.specs.declared.Miss.{Miss}
 use Rattle.operand.specs.Answers.{Answer}
 use Rattle.operand_list.specs.declared.Wants.{Wants}
 use Rattle.operand_list.specs.declared.Operands.{Operands}
-use Rattle.operand_list.specs.declared.OperandsAnswer.{OperandsAnswer}
-use Rattle.operand_list.specs.declared.OperandsAnswer.TheVariants.{Got as GotOperands, Missed as MissedOperands}
 use Rattle.operand_list.specs.OperandLists.{AskedAll, given_all}
 use Rattle.operand_list.specs.HeldOperands.{held_values}
 use Rattle.operand_list.proofs.HeldOperandsLaws.{all_given, none_given}
@@ -24,14 +22,13 @@ use Rattle.loading.specs.declared.LoadForm.TheVariants.{Nothing as Unloaded}
 use Rattle.emit_pairs.specs.declared.EmitInstruction.{EmitInstruction}
 use Rattle.emit_pairs.specs.declared.InstructionPair.{InstructionPair}
 use Rattle.emit_pairs.specs.declared.Fault.TheVariants.{Dropped}
-use Rattle.emit_pairs.specs.declared.Range.{Range}
-use Rattle.emit_pairs.specs.declared.Range.TheVariants.{Within, Outside}
 use Rattle.emit_pairs.specs.Pairs.{EmitIs}
 use Rattle.emit_dispatch.specs.declared.LineAnswer.{LineAnswer}
 use Rattle.emit_dispatch.specs.declared.LineAnswer.TheVariants.{Made, Missed as MissedOperand}
 use Rattle.emit_dispatch.specs.Wants.{encoding_wants, pseudo_wants}
 use Rattle.emit_dispatch.specs.Lines.{encoding_range, encoding_pairs, pseudo_pairs, encoding_form, pseudo_form, range_answer, range_then, kept_range, line_by}
 use Rattle.emit_dispatch.specs.Contract.{LineAs}
+use Rattle.emit_pairs.specs.declared.Fault.{Fault}
 
 -- ---- words and ranges, by the case that the encoding or the pseudo-instruction is
 
@@ -43,38 +40,38 @@ pub pseudo_as : {r : EmitInstruction} (job : Job) {p is : Pseudo} (o : Operands)
     → EmitIs r (pseudo_pairs job p (held_values (pseudo_wants p) o)) (pseudo_form p (held_values (pseudo_wants p) o))
 pseudo_as {r} job o e i = subst (λ (x : Pseudo). EmitIs r (pseudo_pairs job x (held_values (pseudo_wants x) o)) (pseudo_form x (held_values (pseudo_wants x) o))) (sym e) i
 
-pub range_as : {r : Range} (job : Job) {e is : Encoding} (op : Opcode) (o : Operands) → e ≡ is → r ≡ encoding_range job is op (held_values (encoding_wants is) o)
+pub range_as : {r : (Result (Unit {0}) Fault)} (job : Job) {e is : Encoding} (op : Opcode) (o : Operands) → e ≡ is → r ≡ encoding_range job is op (held_values (encoding_wants is) o)
     → r ≡ encoding_range job e op (held_values (encoding_wants e) o)
 range_as {r} job op o e i = subst (λ (x : Encoding). r ≡ encoding_range job x op (held_values (encoding_wants x) o)) (sym e) i
 
 -- ---- the line, by what was read
 
 -- a line is made where its operands lie within their ranges
-pub within_made : (r : Range) → range_answer r ≡ Made → r ≡ Within
-within_made Within e = refl
-within_made (Outside fault) e = cc
+pub within_made : (r : Result (Unit {0}) Fault) → range_answer r ≡ Made → r ≡ Ok tt
+within_made (Ok tt) e = refl
+within_made (Err fault) e = cc
 
 -- and so does each part of a test of two
-pub then_within : (first next : Range) → range_then first next ≡ Within → (first ≡ Within) × (next ≡ Within)
-then_within Within next e = (refl, e)
-then_within (Outside fault) next e = let z : ◌≡◌ {A = ℕ} 0 1 = cc in absurd (omega arith)
+pub then_within : (first next : Result (Unit {0}) Fault) → range_then first next ≡ Ok tt → (first ≡ Ok tt) × (next ≡ Ok tt)
+then_within (Ok tt) next e = (refl, e)
+then_within (Err fault) next e = let z : ◌≡◌ {A = ℕ} 0 1 = cc in absurd (omega arith)
 
 -- a line that is taken is not dropped
-pub kept_within : (job : Job) (third : Bool) (op : Opcode) → kept_range job third op ≡ Within → is_dropped job third op ≡ false
+pub kept_within : (job : Job) (third : Bool) (op : Opcode) → kept_range job third op ≡ Ok tt → is_dropped job third op ≡ false
 kept_within job third op e = go (is_dropped job third op) e
   where
-    go : (b : Bool) → elim b [ true ↦ Outside Dropped | false ↦ Within ] ≡ Within → b ≡ false
+    go : (b : Bool) → elim b [ true ↦ Err Dropped | false ↦ Ok tt ] ≡ Ok tt → b ≡ false
     go true h = cc
     go false h = refl
 
-module _ (w : Wants) {s : List ℕ} (x : At (Answer (AskedAll w))) {given : OperandsAnswer} {cursor : Cursor} (r : ReadAs s (given_all w x) given cursor)
-    (range : AskedAll w → Range) (pairs : AskedAll w → List InstructionPair) (form : AskedAll w → LoadForm) {answer : LineAnswer} {emit : EmitInstruction} where
-  pub line_missed : (m : Miss) → given ≡ MissedOperands m → answer ≡ MissedOperand m → EmitIs emit [] Unloaded → LineAs s (line_by x.answer x.index range pairs form) answer emit cursor
+module _ (w : Wants) {s : List ℕ} (x : At (Answer (AskedAll w))) {given : (Result Operands Miss)} {cursor : Cursor} (r : ReadAs s (given_all w x) given cursor)
+    (range : AskedAll w → Result (Unit {0}) Fault) (pairs : AskedAll w → List InstructionPair) (form : AskedAll w → LoadForm) {answer : LineAnswer} {emit : EmitInstruction} where
+  pub line_missed : (m : Miss) → given ≡ Err m → answer ≡ MissedOperand m → EmitIs emit [] Unloaded → LineAs s (line_by x.answer x.index range pairs form) answer emit cursor
   line_missed m e a i =
       subst (λ (y : At (Answer (AskedAll w))). LineAs s (line_by y.answer y.index range pairs form) answer emit cursor) (sym (none_given w x r m e))
       (record { answer_is = a; words_are = i; cursor_is = cursor_eta s cursor r.placed; placed = r.placed })
 
-  pub line_read : (o : Operands) → given ≡ GotOperands o → answer ≡ range_answer (range (held_values w o)) → EmitIs emit (pairs (held_values w o)) (form (held_values w o))
+  pub line_read : (o : Operands) → given ≡ Ok o → answer ≡ range_answer (range (held_values w o)) → EmitIs emit (pairs (held_values w o)) (form (held_values w o))
       → LineAs s (line_by x.answer x.index range pairs form) answer emit cursor
   line_read o e a i =
       subst (λ (y : At (Answer (AskedAll w))). LineAs s (line_by y.answer y.index range pairs form) answer emit cursor) (sym (all_given w x r o e))

@@ -1,7 +1,6 @@
 -- A line: its operands read, and the words of its encoding or pseudo-instruction made of them. What words take is what is asked for, by their
 -- types: words for other operands than `Wants` has are no definition. Assumes nothing.
-use Rattle.std.specs.Prelude.{ℕ, List, [], Bool, true, false}
-use Rattle.std.proofs.Math.Option.{Option, none, some}
+use Rattle.std.specs.Prelude.{ℕ, List, [], Bool, true, false, Err, Ok, Result, Option, None, Some}
 use Rattle.registers.specs.Numbers.{register_number, fp_register_number}
 use Rattle.instructions.specs.declared.Opcode.{Opcode}
 use Rattle.instructions.specs.declared.Opcode.TheVariants.{Op, Func}
@@ -18,8 +17,6 @@ use Rattle.operand_list.specs.OperandLists.{AskedAll, read_operands}
 use Rattle.emit_pairs.specs.declared.InstructionPair.{InstructionPair}
 use Rattle.emit_pairs.specs.declared.Fault.{Fault}
 use Rattle.emit_pairs.specs.declared.Fault.TheVariants.{ShiftAmount, ConditionCode, Dropped}
-use Rattle.emit_pairs.specs.declared.Range.{Range}
-use Rattle.emit_pairs.specs.declared.Range.TheVariants.{Within, Outside}
 use Rattle.loading.specs.declared.LoadForm.{LoadForm}
 use Rattle.loading.specs.declared.LoadForm.TheVariants.{Nothing as Unloaded}
 use Rattle.loading.specs.Load.{form_of}
@@ -80,24 +77,24 @@ pseudo_pairs job Subiu x = subi_pairs (Op 9) (Func 33) x.0 x.1 x.2
 -- ---- what a job takes: "9. An immediate without alternative lies outside -32,768 to 32,767"; document 02, P5: "19, a shift amount outside 0 to
 -- 31; 20, a condition code outside 0 to 7 .. tested .. after the line's last operand is read, before 9"; P9: "27 .. tested straight after 20"
 
-abbrev pub within_or : Fault → Bool → Range
-within_or fault b = elim b [ true ↦ Within | false ↦ Outside fault ]
+abbrev pub within_or : Fault → Bool → Result (Unit {0}) Fault
+within_or fault b = elim b [ true ↦ Ok tt | false ↦ Err fault ]
 
 -- the first that lies outside decides
-abbrev pub range_then : Range → Range → Range
-range_then Within next = next
-range_then (Outside fault) next = Outside fault
+abbrev pub range_then : Result (Unit {0}) Fault → Result (Unit {0}) Fault → Result (Unit {0}) Fault
+range_then (Ok tt) next = next
+range_then (Err fault) next = Err fault
 
 -- whether the optional operand of Inputs was read
 abbrev pub is_given : Option InstructionValue → Bool
-is_given none = false
-is_given (some value) = true
+is_given None = false
+is_given (Some value) = true
 
 -- 27
-abbrev pub kept_range : Job → (third : Bool) → Opcode → Range
-kept_range job third op = elim (is_dropped job third op) [ true ↦ Outside Dropped | false ↦ Within ]
+abbrev pub kept_range : Job → (third : Bool) → Opcode → Result (Unit {0}) Fault
+kept_range job third op = elim (is_dropped job third op) [ true ↦ Err Dropped | false ↦ Ok tt ]
 
-abbrev pub encoding_range : Job → (e : Encoding) → Opcode → AskedAll (encoding_wants e) → Range
+abbrev pub encoding_range : Job → (e : Encoding) → Opcode → AskedAll (encoding_wants e) → Result (Unit {0}) Fault
 encoding_range job Register op x = kept_range job false op
 encoding_range job RegisterShift op x = kept_range job false op
 encoding_range job Source op x = kept_range job false op
@@ -174,12 +171,12 @@ pub record Line : Type 0 where
   pub form : LoadForm
   pub index : ℕ
 
-abbrev pub range_answer : Range → LineAnswer
-range_answer Within = Made
-range_answer (Outside fault) = OutOfRange fault
+abbrev pub range_answer : Result (Unit {0}) Fault → LineAnswer
+range_answer (Ok tt) = Made
+range_answer (Err fault) = OutOfRange fault
 
 -- operands that were read make the words; where one was missed there are none
-abbrev pub line_by : {A : Type 0} → Answer A → ℕ → (A → Range) → (A → List InstructionPair) → (A → LoadForm) → Line
+abbrev pub line_by : {A : Type 0} → Answer A → ℕ → (A → Result (Unit {0}) Fault) → (A → List InstructionPair) → (A → LoadForm) → Line
 line_by (Got x) i range pairs form = record { answer = range_answer (range x); pairs = pairs x; form = form x; index = i }
 line_by (Missed m) i range pairs form = record { answer = MissedOperand m; pairs = []; form = Unloaded; index = i }
 
@@ -195,4 +192,4 @@ unfoldable pub pseudo_line : Job → Pseudo → List Token → ℕ → Line
 unfolding read_operands
 pseudo_line job p ts i =
     let read = read_operands (pseudo_wants p) ts i in
-    line_by read.answer read.index (λ x. Within) (pseudo_pairs job p) (pseudo_form p)
+    line_by read.answer read.index (λ x. (Ok tt)) (pseudo_pairs job p) (pseudo_form p)

@@ -14,12 +14,12 @@ ghost use Rattle.emit_dispatch.specs.Contract.{LineAs};
 
 use cursor::Cursor;
 use emit_float::MoveForm;
-use emit_pairs::{EmitInstruction, Fault, Range};
+use emit_pairs::{EmitInstruction, Fault};
 use emit_pseudo::{Comparison, ImmediateOpcodes};
 use instructions::{Encoding, Opcode};
 use jobs::{Format, Job};
 use operand::{Miss, Operand, Want};
-use operand_list::{Operands, OperandsAnswer, Wants};
+use operand_list::{Operands, Wants};
 use pseudo_names::Pseudo;
 
 // Whether a line's operands were read and its words made.
@@ -171,36 +171,36 @@ fn encoding_pairs(job: Job, encoding: Encoding, op: Opcode, operands: Operands) 
     }
 }
 
-fn within_or(fault: Fault, within: bool) -> Range
+fn within_or(fault: Fault, within: bool) -> Result<(), Fault>
     ensures { result ≡ within_or fault within }
 {
     if within {
-        Range::Within
+        Ok(())
     } else {
-        Range::Outside(fault)
+        Err(fault)
     }
 }
 
-fn shift_range(job: Job, operand: Operand) -> Range
+fn shift_range(job: Job, operand: Operand) -> Result<(), Fault>
     ensures { result ≡ within_or Fault.ShiftAmount (shift_within job (constant_in operand)) }
 {
     let within = jobs::shift_within(job, operand::constant_in(operand));
     within_or(Fault::ShiftAmount, within)
 }
 
-fn code_range(job: Job, operand: Operand) -> Range
+fn code_range(job: Job, operand: Operand) -> Result<(), Fault>
     ensures { result ≡ within_or Fault.ConditionCode (code_within job (code_in operand)) }
 {
     let within = jobs::code_within(job, operand::code_in(operand));
     within_or(Fault::ConditionCode, within)
 }
 
-fn range_then(first: Range, next: Range) -> Range
+fn range_then(first: Result<(), Fault>, next: Result<(), Fault>) -> Result<(), Fault>
     ensures { result ≡ range_then first next }
 {
     match first {
-        Range::Within => next,
-        Range::Outside(fault) => Range::Outside(fault),
+        Ok(()) => next,
+        Err(fault) => Err(fault),
     }
 }
 
@@ -220,18 +220,18 @@ fn is_given(operand: Operand) -> bool
     }
 }
 
-fn kept_range(job: Job, third: bool, op: Opcode) -> Range
+fn kept_range(job: Job, third: bool, op: Opcode) -> Result<(), Fault>
     ensures { result ≡ kept_range job third op }
 {
     if jobs::is_dropped(job, third, op) {
-        Range::Outside(Fault::Dropped)
+        Err(Fault::Dropped)
     } else {
-        Range::Within
+        Ok(())
     }
 }
 
 // Whether the job takes the line: 19 and 20, then 27, then 9.
-fn encoding_range(job: Job, encoding: Encoding, op: Opcode, operands: Operands) -> Range
+fn encoding_range(job: Job, encoding: Encoding, op: Opcode, operands: Operands) -> Result<(), Fault>
     ensures { result ≡ encoding_range job encoding op (held_values (encoding_wants encoding) operands) }
 {
     let first = operands.first;
@@ -323,12 +323,12 @@ fn subi_opcodes(op: u8, alternative: u8) -> ImmediateOpcodes
     }
 }
 
-fn range_answer(range: Range) -> LineAnswer
+fn range_answer(range: Result<(), Fault>) -> LineAnswer
     ensures { result ≡ range_answer range }
 {
     match range {
-        Range::Within => LineAnswer::Made,
-        Range::Outside(fault) => LineAnswer::OutOfRange(fault),
+        Ok(()) => LineAnswer::Made,
+        Err(fault) => LineAnswer::OutOfRange(fault),
     }
 }
 
@@ -347,12 +347,12 @@ pub fn dispatch_encoding(
     let given = read.answer;
     let cursor = read.cursor;
     match given {
-        OperandsAnswer::Missed(miss) => LineEmit {
+        Err(miss) => LineEmit {
             answer: LineAnswer::Missed(miss),
             emit: emit_pairs::none(),
             cursor,
         },
-        OperandsAnswer::Got(operands) => {
+        Ok(operands) => {
             let answer = range_answer(encoding_range(job, encoding, op, operands));
             let emit = encoding_pairs(job, encoding, op, operands);
             LineEmit {
@@ -373,12 +373,12 @@ pub fn dispatch_pseudo(job: Job, pseudo: Pseudo, list: &[u8], from: Cursor) -> L
     let given = read.answer;
     let cursor = read.cursor;
     match given {
-        OperandsAnswer::Missed(miss) => LineEmit {
+        Err(miss) => LineEmit {
             answer: LineAnswer::Missed(miss),
             emit: emit_pairs::none(),
             cursor,
         },
-        OperandsAnswer::Got(operands) => {
+        Ok(operands) => {
             let emit = pseudo_pairs(job, pseudo, operands);
             LineEmit {
                 answer: LineAnswer::Made,

@@ -9,7 +9,7 @@ ghost use Rattle.emit_pairs.specs.Values.{offset_form};
 ghost use Rattle.emit_integer.specs.IntegerWords.{offset_line_pairs};
 ghost use Rattle.emit_float.specs.FloatWords.{fp3_pairs, fp2_pairs, fp_move_pairs, fp_cond_pairs, fp_cross_move_pairs, fp_branch_pairs};
 
-use emit_pairs::{EmitInstruction, PairLabel};
+use emit_pairs::EmitInstruction;
 use emit_words::{FP2Fields, FP3Fields, FPCondFields, FPImmediateFields, FPMoveFields};
 use instructions::Opcode;
 use jobs::Format;
@@ -43,7 +43,7 @@ pub fn do_fp_offset_instruction(op: Opcode, operands: Operands) -> EmitInstructi
     };
     let word = emit_words::fp_immediate_word(op, fields);
     let emit = parts.emit;
-    emit.push(word, PairLabel::Nothing)
+    emit.push(word, None)
 }
 
 pub fn do_fp_three_register_instruction(

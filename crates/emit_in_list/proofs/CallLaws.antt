@@ -1,5 +1,5 @@
 -- What an emit call leaves of its data buffer: words appended, or none. Assumes nothing.
-use Rattle.std.specs.Prelude.{ℕ, ◌+◌, ◌-◌, ◌*◌, ◌≤◌, Bool, ◌&&◌, List, [], eqb}
+use Rattle.std.specs.Prelude.{ℕ, ◌+◌, ◌-◌, ◌*◌, ◌≤◌, Bool, ◌&&◌, List, [], eqb, Err, Ok}
 use Rattle.std.proofs.Common.{arith, sym, ap, ap₂, ◌∙◌}
 use Rattle.std.proofs.Math.Bool.{true, false, and-eq-true_iff}
 use Rattle.std.proofs.Math.Path.{◌≡◌, refl}
@@ -15,8 +15,6 @@ use Rattle.record_growth.proofs.PutLaws.{part_in}
 use Rattle.refusal.proofs.VerdictsLaws.{both_pass}
 use Rattle.refusal.specs.declared.Refusal.{Refusal}
 use Rattle.refusal.specs.declared.Refusal.TheVariants.{UnknownInstruction, NoSpace, MissingRegion}
-use Rattle.refusal.specs.declared.Verdict.{Verdict}
-use Rattle.refusal.specs.declared.Verdict.TheVariants.{Pass, Stop}
 use Rattle.lexer.specs.Tokens.{tokens}
 use Rattle.descriptors.specs.Mnemonics.{mnemonic_name, mnemonic_location}
 use Rattle.emit_pairs.specs.declared.InstructionPair.{InstructionPair}
@@ -37,6 +35,7 @@ use Rattle.emit_outcome.specs.Dispatch.{meaning, table_line}
 use Rattle.emit_outcome.specs.Room.{no_region, most_data, region_stop, edge_stop, space_stop, room_stop}
 use Rattle.emit_outcome.specs.Emit.{refuse, line_stop, accept_or, line_outcome, start_of, meaning_outcome, list_outcome, emit_outcome}
 use Rattle.patching_outcome.specs.Line.{new_words}
+use Rattle.refusal.specs.Verdicts.{Verdict}
 
 -- an accepted line has a selected region, and its data stays within the most that a region has
 pub data Told (region : ℕ) (counts : FillCounts) : EmitAnswer → Type 0 where
@@ -56,7 +55,7 @@ refuse_appends region counts lent position r h =
     record { words = []; data_is = append_none lent.region_data counts.data_len; count_is = omega arith; room = omega arith; told = told_refused r position }
 
 module _ (token_list : List ℕ) (line : Location) (numbers : LineNumbers) (lent : Lent) where
-  room_told : (pairs : List InstructionPair) → room_stop token_list line numbers lent pairs ≡ Pass → let filled = numbers.counts.data_len + 4 * length pairs in
+  room_told : (pairs : List InstructionPair) → room_stop token_list line numbers lent pairs ≡ Ok tt → let filled = numbers.counts.data_len + 4 * length pairs in
       (eqb numbers.place.region no_region ≡ false) × (filled ≤ length lent.region_data) × (filled ≤ most_data)
   unfolding room_stop
   room_told pairs e =
@@ -67,18 +66,18 @@ module _ (token_list : List ℕ) (line : Location) (numbers : LineNumbers) (lent
       let f = (and-eq-true_iff (leb filled (length lent.region_data)) (leb filled most_data)).0 (fits (leb filled (length lent.region_data) && leb filled most_data) b₂.0) in
       (selected (eqb numbers.place.region no_region) b₀.0, leb-true filled (length lent.region_data) f.0, leb-true filled most_data f.1)
     where
-      selected : (b : Bool) → elim b [ true ↦ Stop (MissingRegion line) | false ↦ Pass ] ≡ Pass → b ≡ false
+      selected : (b : Bool) → elim b [ true ↦ Err (MissingRegion line) | false ↦ Ok tt ] ≡ Ok tt → b ≡ false
       selected true x = let z : ◌≡◌ {A = ℕ} 0 1 = cc in absurd (omega arith)
       selected false x = refl
 
-      fits : (b : Bool) → elim b [ true ↦ Pass | false ↦ Stop (NoSpace line 0) ] ≡ Pass → b ≡ true
+      fits : (b : Bool) → elim b [ true ↦ Ok tt | false ↦ Err (NoSpace line 0) ] ≡ Ok tt → b ≡ true
       fits true x = refl
       fits false x = let z : ◌≡◌ {A = ℕ} 0 1 = cc in absurd (omega arith)
 
   module _ (made : Line) (inside : numbers.counts.data_len ≤ length lent.region_data) where
     verdict_appends : (v : Verdict) → line_stop token_list line numbers lent made ≡ v → Appends numbers.place.region numbers.counts lent (accept_or token_list line numbers lent made v)
-    verdict_appends (Stop r) e = refuse_appends numbers.place.region numbers.counts lent made.index r inside
-    verdict_appends Pass e =
+    verdict_appends (Err r) e = refuse_appends numbers.place.region numbers.counts lent made.index r inside
+    verdict_appends (Ok tt) e =
         let t = room_told made.pairs (line_room token_list line numbers lent made e) in
         let l = words_length made.pairs in
         record {
@@ -103,8 +102,8 @@ module _ (job : Job) (c : Call) (inside : c.numbers.counts.data_len ≤ length c
   meaning_appends Neither = refuse_appends c.numbers.place.region c.numbers.counts c.lent c.numbers.place.position (UnknownInstruction (mnemonic_location c.mnemonic)) inside
 
   list_appends : (v : Verdict) → Appends c.numbers.place.region c.numbers.counts c.lent (list_outcome job c v)
-  list_appends (Stop r) = refuse_appends c.numbers.place.region c.numbers.counts c.lent c.numbers.place.position r inside
-  list_appends Pass = meaning_appends (meaning c.descriptors (mnemonic_name c.mnemonic))
+  list_appends (Err r) = refuse_appends c.numbers.place.region c.numbers.counts c.lent c.numbers.place.position r inside
+  list_appends (Ok tt) = meaning_appends (meaning c.descriptors (mnemonic_name c.mnemonic))
 
   -- of every call
   pub appends : Appends c.numbers.place.region c.numbers.counts c.lent (emit_outcome job c)

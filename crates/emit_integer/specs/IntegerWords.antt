@@ -1,11 +1,9 @@
 -- The words of each encoding of general registers, from its operands in the line's order (emit.rs). Assumes nothing.
-use Rattle.std.specs.Prelude.{ℕ, ◌%◌, List, [], ◌∷◌, ◌++◌}
-use Rattle.std.proofs.Math.Option.{Option, none, some}
+use Rattle.std.specs.Prelude.{ℕ, ◌%◌, List, [], ◌∷◌, ◌++◌, Option, None, Some}
 use Rattle.registers.specs.Numbers.{register_number}
 use Rattle.registers.specs.declared.RegisterSlot.{RegisterSlot}
 use Rattle.instructions.specs.declared.Opcode.{Opcode}
 use Rattle.instructions.specs.declared.Opcode.TheVariants.{Func}
-use Rattle.instructions.specs.declared.Alternative.{Alternative}
 use Rattle.address_label.specs.declared.AddressLabel.{AddressLabel}
 use Rattle.pending.specs.declared.InstructionLabelKind.TheVariants.{Branch, Jump}
 use Rattle.operand.specs.declared.InstructionValue.{InstructionValue}
@@ -31,8 +29,8 @@ module _ (op : Opcode) where
 
   -- with a third operand the operation is on the last two, and mflo moves its result into the first
   abbrev pub inputs_pairs : (first second : RegisterSlot) → Option InstructionValue → List InstructionPair
-  inputs_pairs first second none = plain (inputs_word op (register_number first) (register_number second)) ∷ []
-  inputs_pairs first second (some value) =
+  inputs_pairs first second None = plain (inputs_word op (register_number first) (register_number second)) ∷ []
+  inputs_pairs first second (Some value) =
       value_pairs value ++ plain (inputs_word op (register_number second) (value_number value)) ∷ plain (destination_word (Func 18) (register_number first)) ∷ []
 
   -- the constant's low byte: "shift amounts over 31 spill into rd"
@@ -43,7 +41,7 @@ module _ (op : Opcode) where
   abbrev pub branch_zero_pairs : RegisterSlot → AddressLabel → List InstructionPair
   branch_zero_pairs source label = waiting (source_word op (register_number source)) Branch label ∷ []
 
-  abbrev pub immediate_line_pairs : Alternative → (temp source : RegisterSlot) → ℕ → List InstructionPair
+  abbrev pub immediate_line_pairs : Option Opcode → (temp source : RegisterSlot) → ℕ → List InstructionPair
   immediate_line_pairs alt temp source constant = immediate_pairs op alt (register_number temp) (register_number source) constant
 
   -- the constant's low half

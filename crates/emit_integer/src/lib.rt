@@ -6,12 +6,11 @@ ghost use Rattle.registers.specs.Numbers.{register_number};
 ghost use Rattle.operand.specs.Held.{slot_in, value_in, maybe_value_in, constant_in, label_in, offset_in};
 ghost use Rattle.emit_pairs.specs.Pairs.{EmitIs, immediate_form};
 ghost use Rattle.emit_pairs.specs.Values.{value_form, maybe_form, offset_form};
-ghost use Rattle.std.proofs.Math.Option.{some};
 ghost use Rattle.emit_integer.specs.IntegerWords.{register_pairs, register_shift_pairs, source_pairs, destination_pairs, inputs_pairs, sham_pairs, branch_zero_pairs, immediate_line_pairs, load_immediate_pairs, jump_pairs, branch_pairs, parameterless_pairs, offset_line_pairs};
 
-use emit_pairs::{EmitInstruction, ImmediateOperands, PairLabel};
+use emit_pairs::{EmitInstruction, ImmediateOperands};
 use emit_words::{ImmediateFields, RegisterFields, ShamFields};
-use instructions::{Alternative, Opcode};
+use instructions::Opcode;
 use loading::LoadForm;
 use operand::{InstructionValue, Operand};
 use operand_list::Operands;
@@ -33,7 +32,7 @@ pub fn do_register_instruction(op: Opcode, operands: Operands) -> EmitInstructio
     let fields = RegisterFields { dest, source, temp };
     let word = emit_words::register_word(op, fields);
     let emit = unpacked.emit;
-    emit.push(word, PairLabel::Nothing)
+    emit.push(word, None)
 }
 
 // The register with the shift amount comes last.
@@ -71,7 +70,7 @@ pub fn do_destination_instruction(op: Opcode, operands: Operands) -> EmitInstruc
 
 // The operation on the last two operands, and mflo into the first.
 fn inputs_into(op: Opcode, operands: Operands, value: InstructionValue) -> EmitInstruction
-    ensures { EmitIs result (inputs_pairs op (slot_in operands.first) (slot_in operands.second) (some value)) (value_form value) }
+    ensures { EmitIs result (inputs_pairs op (slot_in operands.first) (slot_in operands.second) (Some value)) (value_form value) }
 {
     let first = operands.first;
     let second = operands.second;
@@ -82,8 +81,8 @@ fn inputs_into(op: Opcode, operands: Operands, value: InstructionValue) -> EmitI
     let dest = operand::slot_in(first);
     let mflo = emit_words::destination_word(Opcode::Func(18), dest);
     let emit = unpacked.emit;
-    emit.push(word, PairLabel::Nothing)
-        .push(mflo, PairLabel::Nothing)
+    emit.push(word, None)
+        .push(mflo, None)
 }
 
 pub fn do_inputs_instruction(op: Opcode, operands: Operands) -> EmitInstruction
@@ -136,7 +135,7 @@ pub fn do_branch_zero_instruction(op: Opcode, operands: Operands) -> EmitInstruc
     emit_pairs::with_label(word, InstructionLabelKind::Branch, label)
 }
 
-pub fn do_immediate_instruction(op: Opcode, alt: Alternative, operands: Operands) -> EmitInstruction
+pub fn do_immediate_instruction(op: Opcode, alt: Option<Opcode>, operands: Operands) -> EmitInstruction
     ensures { EmitIs result (immediate_line_pairs op alt (slot_in operands.first) (slot_in operands.second) (constant_in operands.third))
         (immediate_form alt (constant_in operands.third)) }
 {
@@ -218,5 +217,5 @@ pub fn do_offset_instruction(op: Opcode, operands: Operands) -> EmitInstruction
     };
     let word = emit_words::immediate_word(op, fields);
     let emit = parts.emit;
-    emit.push(word, PairLabel::Nothing)
+    emit.push(word, None)
 }

@@ -1,10 +1,9 @@
 -- Laws of a made line: its index, its pcs, and its outcome by what its checks say. Assumes nothing.
-use Rattle.std.specs.Prelude.{◌≡◌, ℕ, zero, suc, ◌+◌, ◌*◌, ◌^◌, ◌<◌, ◌≤◌, List, length, refl}
+use Rattle.std.specs.Prelude.{◌≡◌, ℕ, zero, suc, ◌+◌, ◌*◌, ◌^◌, ◌<◌, ◌≤◌, List, length, refl, Err, Ok}
 use Rattle.std.proofs.Common.{arith}
 use Rattle.std.proofs.Math.Path.{ap}
 use Rattle.record.specs.declared.Location.{Location}
 use Rattle.refusal.specs.declared.Refusal.{Refusal}
-use Rattle.refusal.specs.declared.Verdict.TheVariants.{Pass, Stop}
 use Rattle.cursor.specs.declared.Cursor.{Cursor}
 use Rattle.cursor.proofs.CursorsLaws.{place_least, place_end}
 use Rattle.cursor.specs.Reads.{Placed}
@@ -41,10 +40,10 @@ outcome_same position form hl hp hb hd hq hk = rw (hl, hp, hb, hd, hq, hk)
 
 -- the outcome by the verdict
 module _ (token_list : List ℕ) (line : Location) (numbers : LineNumbers) (lent : Lent) (made : Line) where
-  pub line_stopped : {r : Refusal} → line_stop token_list line numbers lent made ≡ Stop r → line_outcome token_list line numbers lent made ≡ refuse numbers.counts lent made.index r
+  pub line_stopped : {r : Refusal} → line_stop token_list line numbers lent made ≡ Err r → line_outcome token_list line numbers lent made ≡ refuse numbers.counts lent made.index r
   unfolding line_outcome
   line_stopped e = ap (accept_or token_list line numbers lent made) e
 
-  pub line_passed : line_stop token_list line numbers lent made ≡ Pass → line_outcome token_list line numbers lent made ≡ accept token_list line numbers lent made
+  pub line_passed : line_stop token_list line numbers lent made ≡ Ok tt → line_outcome token_list line numbers lent made ≡ accept token_list line numbers lent made
   unfolding line_outcome
   line_passed e = ap (accept_or token_list line numbers lent made) e

@@ -2,7 +2,6 @@
 #![tactic(auto)]
 
 ghost use Rattle.std.specs.Prelude.{◌≡◌};
-ghost use Rattle.refusal.specs.declared.Verdict.TheVariants.{Pass};
 ghost use Rattle.emit_outcome.specs.Call.{lent_of, outcome_of};
 ghost use Rattle.emit_outcome.specs.Room.{room_stop};
 ghost use Rattle.emit_outcome.specs.Emit.{accept, line_outcome};
@@ -13,7 +12,7 @@ use emit_dispatch::LineEmit;
 use emit_outcome::{EmitAnswer, Emitted, FillCounts, LineNumbers};
 use pending::Origin;
 use record::Location;
-use refusal::{Refusal, Verdict};
+use refusal::Refusal;
 
 pub fn refused(refusal: Refusal, position: u32, counts: FillCounts) -> Emitted
     ensures { result ≡ (record { answer = EmitAnswer.Refused refusal position; counts = counts }) }
@@ -35,7 +34,7 @@ pub fn append_line(
     made: LineEmit,
 ) -> Emitted
     requires filled { Filled tokens.now (lent_of «data».old pending.old breakpoints.old) numbers.counts × MadeGood tokens.now made }
-    requires emit_value { room_stop tokens.now line numbers (lent_of «data».old pending.old breakpoints.old) (pairs_of made.emit) ≡ Pass }
+    requires emit_value { room_stop tokens.now line numbers (lent_of «data».old pending.old breakpoints.old) (pairs_of made.emit) ≡ Ok tt }
     ensures { accept tokens.now line numbers
         (lent_of «data».old pending.old breakpoints.old) (made_line made)
         ≡ outcome_of result.answer result.counts (lent_of «data».new pending.new breakpoints.new) }
@@ -97,10 +96,10 @@ pub fn append_or_refuse(
         line,
         made,
     ) {
-        Verdict::Stop(refusal) => {
+        Err(refusal) => {
             let counts = numbers.counts;
             refused(refusal, made.cursor.index as u32, counts)
         }
-        Verdict::Pass => append_line(tokens, data, pending, breakpoints, numbers, line, made),
+        Ok(()) => append_line(tokens, data, pending, breakpoints, numbers, line, made),
     }
 }

@@ -1,12 +1,10 @@
 -- "Lent bytes and fill counts then remain as at entry": of every emit call that is refused. Assumes nothing.
-use Rattle.std.specs.Prelude.{ℕ, ◌≡◌, List}
+use Rattle.std.specs.Prelude.{ℕ, ◌≡◌, List, Err, Ok}
 use Rattle.std.proofs.Common.{arith}
 use Rattle.jobs.specs.declared.Job.{Job}
 use Rattle.record.specs.declared.Location.{Location}
 use Rattle.refusal.specs.declared.Refusal.{Refusal}
 use Rattle.refusal.specs.declared.Refusal.TheVariants.{UnknownInstruction}
-use Rattle.refusal.specs.declared.Verdict.{Verdict}
-use Rattle.refusal.specs.declared.Verdict.TheVariants.{Pass, Stop}
 use Rattle.lexer.specs.Tokens.{tokens}
 use Rattle.descriptors.specs.Mnemonics.{mnemonic_name, mnemonic_location}
 use Rattle.emit_dispatch.specs.Lines.{Line}
@@ -20,6 +18,7 @@ use Rattle.emit_outcome.specs.declared.EmitAnswer.TheVariants.{Refused}
 use Rattle.emit_outcome.specs.Call.{Lent, Call, EmitOutcome}
 use Rattle.emit_outcome.specs.Checks.{list_stop}
 use Rattle.emit_outcome.specs.Emit.{refuse, line_stop, accept_or, line_outcome, start_of, meaning_outcome, list_outcome, emit_outcome}
+use Rattle.refusal.specs.Verdicts.{Verdict}
 
 -- where an outcome answers with a refusal, it is that refusal's outcome
 abbrev pub Stays : FillCounts → Lent → EmitOutcome → Type 0
@@ -30,8 +29,8 @@ refuse_stays counts lent position s r p e = cc
 
 module _ (token_list : List ℕ) (line : Location) (numbers : LineNumbers) (lent : Lent) (made : Line) where
   verdict_stays : (v : Verdict) → Stays numbers.counts lent (accept_or token_list line numbers lent made v)
-  verdict_stays Pass = λ r p e. let z : ◌≡◌ {A = ℕ} 0 1 = cc in absurd (omega arith)
-  verdict_stays (Stop s) = refuse_stays numbers.counts lent made.index s
+  verdict_stays (Ok tt) = λ r p e. let z : ◌≡◌ {A = ℕ} 0 1 = cc in absurd (omega arith)
+  verdict_stays (Err s) = refuse_stays numbers.counts lent made.index s
 
   line_stays : Stays numbers.counts lent (line_outcome token_list line numbers lent made)
   unfolding line_outcome
@@ -47,8 +46,8 @@ module _ (job : Job) (c : Call) where
   meaning_stays Neither = refuse_stays c.numbers.counts c.lent c.numbers.place.position (UnknownInstruction (mnemonic_location c.mnemonic))
 
   list_stays : (v : Verdict) → Stays c.numbers.counts c.lent (list_outcome job c v)
-  list_stays (Stop s) = refuse_stays c.numbers.counts c.lent c.numbers.place.position s
-  list_stays Pass = meaning_stays (meaning c.descriptors (mnemonic_name c.mnemonic))
+  list_stays (Err s) = refuse_stays c.numbers.counts c.lent c.numbers.place.position s
+  list_stays (Ok tt) = meaning_stays (meaning c.descriptors (mnemonic_name c.mnemonic))
 
   -- the outcome with a refusal for its answer is that refusal's, with all that was lent as at entry
   pub refused_stays : Stays c.numbers.counts c.lent (emit_outcome job c)

@@ -1,10 +1,9 @@
 -- The checks of an emit call that read its lists and operands: 1 and 2, and 4 to 8 (document 01, 'Where the work stops'). Assumes nothing.
 use Rattle.std.specs.Prelude.{ℕ, List, true, false, eqb}
 use Rattle.record.specs.declared.Location.{Location}
-use Rattle.refusal.specs.Verdicts.{and_then, layout_verdict, name_verdict}
+use Rattle.refusal.specs.Verdicts.{and_then, layout_verdict, name_verdict, Verdict}
 use Rattle.refusal.specs.declared.Refusal.{Refusal}
 use Rattle.refusal.specs.declared.Refusal.TheVariants.{EndOfFile, ExpectedRegister, ExpectedConstant, ExpectedLabel, ExpectedRightBrace}
-use Rattle.refusal.specs.declared.Verdict.{Verdict}
 use Rattle.lexer.specs.Tokens.{token_layout}
 use Rattle.operand.specs.declared.Miss.{Miss}
 use Rattle.operand.specs.declared.Miss.TheVariants.{EndOfFile as NoToken, ExpectedRegister as NoRegister, ExpectedConstant as NoConstant, ExpectedLabel as NoLabel, ExpectedRightBrace as NoBrace}

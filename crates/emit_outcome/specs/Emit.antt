@@ -1,12 +1,10 @@
 -- A whole emit call: its answer, position, counts and every lent byte, from its inputs (document 01, 'Where the work stops'). Assumes nothing.
-use Rattle.std.specs.Prelude.{ℕ, ◌+◌, ◌*◌, List, length}
+use Rattle.std.specs.Prelude.{ℕ, ◌+◌, ◌*◌, List, length, Err, Ok}
 use Rattle.jobs.specs.declared.Job.{Job}
 use Rattle.record.specs.declared.Location.{Location}
 use Rattle.record.specs.Stores.{append}
 use Rattle.refusal.specs.declared.Refusal.{Refusal}
 use Rattle.refusal.specs.declared.Refusal.TheVariants.{UnknownInstruction, ConstantOutOfRange, ShiftOutOfRange, CodeOutOfRange, DroppedInstruction}
-use Rattle.refusal.specs.declared.Verdict.{Verdict}
-use Rattle.refusal.specs.declared.Verdict.TheVariants.{Pass, Stop}
 use Rattle.lexer.specs.Tokens.{tokens}
 use Rattle.cursor.specs.Cursors.{start_index}
 use Rattle.descriptors.specs.Mnemonics.{mnemonic_name, mnemonic_location}
@@ -27,6 +25,7 @@ use Rattle.emit_outcome.specs.declared.EmitAnswer.TheVariants.{Done, Refused}
 use Rattle.emit_outcome.specs.Call.{Lent, Call, EmitOutcome}
 use Rattle.emit_outcome.specs.Checks.{list_stop, miss_refusal}
 use Rattle.emit_outcome.specs.Room.{new_pending, new_breakpoint, room_stop}
+use Rattle.refusal.specs.Verdicts.{Verdict}
 
 -- "Lent bytes and fill counts then remain as at entry"
 abbrev pub refuse : FillCounts → Lent → ℕ → Refusal → EmitOutcome
@@ -64,15 +63,15 @@ fault_refusal line Dropped = DroppedInstruction line
 
 abbrev pub answer_stop : (token_list : List ℕ) → Location → LineNumbers → Lent → List InstructionPair → LineAnswer → Verdict
 answer_stop token_list line numbers lent pairs Made = room_stop token_list line numbers lent pairs
-answer_stop token_list line numbers lent pairs (Missed m) = Stop (miss_refusal line m)
-answer_stop token_list line numbers lent pairs (OutOfRange fault) = Stop (fault_refusal line fault)
+answer_stop token_list line numbers lent pairs (Missed m) = Err (miss_refusal line m)
+answer_stop token_list line numbers lent pairs (OutOfRange fault) = Err (fault_refusal line fault)
 
 abbrev pub line_stop : (token_list : List ℕ) → Location → LineNumbers → Lent → Line → Verdict
 line_stop token_list line numbers lent made = answer_stop token_list line numbers lent made.pairs made.answer
 
 abbrev pub accept_or : (token_list : List ℕ) → Location → LineNumbers → Lent → Line → Verdict → EmitOutcome
-accept_or token_list line numbers lent made Pass = accept token_list line numbers lent made
-accept_or token_list line numbers lent made (Stop r) = refuse numbers.counts lent made.index r
+accept_or token_list line numbers lent made (Ok tt) = accept token_list line numbers lent made
+accept_or token_list line numbers lent made (Err r) = refuse numbers.counts lent made.index r
 
 unfoldable pub line_outcome : (token_list : List ℕ) → Location → LineNumbers → Lent → Line → EmitOutcome
 unfolding room_stop append
@@ -98,8 +97,8 @@ meaning_outcome job c (Builtin p) = call_line c (pseudo_line job p (tokens c.tok
 meaning_outcome job c Neither = call_refused c (UnknownInstruction (mnemonic_location c.mnemonic))
 
 abbrev pub list_outcome : Job → Call → Verdict → EmitOutcome
-list_outcome job c (Stop r) = call_refused c r
-list_outcome job c Pass = meaning_outcome job c (meaning c.descriptors (mnemonic_name c.mnemonic))
+list_outcome job c (Err r) = call_refused c r
+list_outcome job c (Ok tt) = meaning_outcome job c (meaning c.descriptors (mnemonic_name c.mnemonic))
 
 unfoldable pub emit_outcome : Job → Call → EmitOutcome
 unfolding list_stop meaning mnemonic_name table_line pseudo_line tokens line_outcome

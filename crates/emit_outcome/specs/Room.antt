@@ -1,10 +1,8 @@
 -- The room for a line's words: checks 10 to 12 (document 01, 'Where the work stops'). Assumes nothing.
-use Rattle.std.specs.Prelude.{ℕ, zero, suc, ◌+◌, ◌*◌, ◌-◌, ◌^◌, List, Bool, true, false, ◌&&◌, length, leb, eqb}
+use Rattle.std.specs.Prelude.{ℕ, zero, suc, ◌+◌, ◌*◌, ◌-◌, ◌^◌, List, Bool, true, false, ◌&&◌, length, leb, eqb, Err, Ok}
 use Rattle.record.specs.declared.Location.{Location}
-use Rattle.refusal.specs.Verdicts.{and_then}
+use Rattle.refusal.specs.Verdicts.{and_then, Verdict}
 use Rattle.refusal.specs.declared.Refusal.TheVariants.{MissingRegion, OverwriteEdge, NoSpace}
-use Rattle.refusal.specs.declared.Verdict.{Verdict}
-use Rattle.refusal.specs.declared.Verdict.TheVariants.{Pass, Stop}
 use Rattle.emit_pairs.specs.declared.InstructionPair.{InstructionPair}
 use Rattle.breakpoints.specs.BreakpointBytes.{breakpoint_bytes}
 use Rattle.emit_bytes.specs.Appended.{word_bytes, pendings_bytes}
@@ -16,12 +14,12 @@ abbrev pub no_region : ℕ
 no_region = 65535
 
 abbrev pub region_stop : Location → ℕ → Verdict
-region_stop line region = elim (eqb region no_region) [ true ↦ Stop (MissingRegion line) | false ↦ Pass ]
+region_stop line region = elim (eqb region no_region) [ true ↦ Err (MissingRegion line) | false ↦ Ok tt ]
 
 -- "11. Region address plus data length before some word exceeds 2^32-1 (a: address, b: that length at the first such word)."
 unfoldable pub edge_stop : Location → ℕ → ℕ → ℕ → Verdict
-edge_stop line address zero size = Pass
-edge_stop line address (suc n) size = elim (leb (address + size) (2 ^ 32 - 1)) [ true ↦ edge_stop line address n (size + 4) | false ↦ Stop (OverwriteEdge line address size) ]
+edge_stop line address zero size = Ok tt
+edge_stop line address (suc n) size = elim (leb (address + size) (2 ^ 32 - 1)) [ true ↦ edge_stop line address n (size + 4) | false ↦ Err (OverwriteEdge line address size) ]
 
 -- the bytes that a line appends to the pending and the breakpoint buffer
 abbrev pub new_pending : (token_list : List ℕ) → Location → LineNumbers → List InstructionPair → List ℕ
@@ -31,7 +29,7 @@ abbrev pub new_breakpoint : Location → LineNumbers → List InstructionPair �
 new_breakpoint line numbers pairs = breakpoint_bytes line (numbers.place.address + numbers.counts.data_len) (length pairs)
 
 abbrev pub space_stop : Location → ℕ → Bool → Verdict
-space_stop line which fits = elim fits [ true ↦ Pass | false ↦ Stop (NoSpace line which) ]
+space_stop line which fits = elim fits [ true ↦ Ok tt | false ↦ Err (NoSpace line which) ]
 
 abbrev pub most_data : ℕ
 most_data = 65528

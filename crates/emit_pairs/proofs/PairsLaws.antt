@@ -1,5 +1,5 @@
 -- Laws of a line's words: none, one more, those that load a constant, and those of an immediate operand. Assumes nothing.
-use Rattle.std.specs.Prelude.{◌≡◌, refl, true, false, ℕ, ◌+◌, ◌-◌, ◌^◌, ◌%◌, ◌≤◌, ◌<◌, take, get_or, set, leb}
+use Rattle.std.specs.Prelude.{◌≡◌, refl, true, false, ℕ, ◌+◌, ◌-◌, ◌^◌, ◌%◌, ◌≤◌, ◌<◌, take, get_or, set, leb, Err, None, Ok, Option, Some}
 use Rattle.std.proofs.Math.Path.{sym, ap, subst}
 use Rattle.std.proofs.Common.{◌∙◌, add-one, arith, length-append, take-suc-set, length-take-le, lt-ltb, le-ltb}
 use mathlib.Core.List.{List, [], ◌∷◌, ◌++◌, map}
@@ -7,8 +7,6 @@ use Rattle.std.proofs.Math.ListN.{length}
 use Rattle.std.proofs.lemmas.List.{length-map}
 use Rattle.instructions.specs.declared.Opcode.{Opcode}
 use Rattle.instructions.specs.declared.Opcode.TheVariants.{Op}
-use Rattle.instructions.specs.declared.Alternative.{Alternative}
-use Rattle.instructions.specs.declared.Alternative.TheVariants.{Nothing, Some}
 use Rattle.loading.specs.declared.LoadForm.{LoadForm}
 use Rattle.loading.specs.declared.LoadForm.TheVariants.{Nothing as Unloaded}
 use Rattle.loading.specs.Load.{form_of, load_words}
@@ -21,7 +19,6 @@ use Rattle.pending.specs.declared.InstructionLabelKind.TheVariants.{Lower, Upper
 use Rattle.emit_pairs.specs.declared.InstructionPair.{InstructionPair}
 use Rattle.emit_pairs.specs.declared.EmitInstruction.{EmitInstruction}
 use Rattle.emit_pairs.specs.declared.Fault.TheVariants.{Immediate}
-use Rattle.emit_pairs.specs.declared.Range.TheVariants.{Within, Outside}
 use Rattle.emit_words.specs.Words.{register_word, immediate_word}
 use Rattle.emit_pairs.specs.Pairs.{plain, waiting, EmitIs, at_number, load_pairs, label_pairs, label_form, is_immediate, immediate_range, immediate_pairs, immediate_form}
 
@@ -110,18 +107,18 @@ unfolding is_immediate
 immediate_high c h = rw (le-ltb c 32768 h)
 
 -- in range: one word, with or without an alternative
-pub pairs_taken : (op : Opcode) (alt : Alternative) (rt rs c : ℕ) {w : ℕ} → is_immediate c ≡ true → w ≡ immediate_word op rs rt (c % 65536)
+pub pairs_taken : (op : Opcode) (alt : Option Opcode) (rt rs c : ℕ) {w : ℕ} → is_immediate c ≡ true → w ≡ immediate_word op rs rt (c % 65536)
     → plain w ∷ [] ≡ immediate_pairs op alt rt rs c
 unfolding immediate_pairs
 pairs_taken op alt rt rs c e h = rw (e, h, immediate_pairs)
 
-pub range_taken : (alt : Alternative) (c : ℕ) → is_immediate c ≡ true → Within ≡ immediate_range alt c
-range_taken Nothing c e = rw (e, immediate_range)
+pub range_taken : (alt : Option Opcode) (c : ℕ) → is_immediate c ≡ true → (Ok tt) ≡ immediate_range alt c
+range_taken None c e = rw (e, immediate_range)
 range_taken (Some alt) c e = refl
 
 -- out of range: refused, or the alternative
-module _ (op : Opcode) {alt : Alternative} (rt rs c : ℕ) (e : is_immediate c ≡ false) where
-  pub pairs_refused : alt ≡ Nothing → [] ≡ immediate_pairs op alt rt rs c
+module _ (op : Opcode) {alt : (Option Opcode)} (rt rs c : ℕ) (e : is_immediate c ≡ false) where
+  pub pairs_refused : alt ≡ None → [] ≡ immediate_pairs op alt rt rs c
   unfolding immediate_pairs
   pairs_refused n = rw (e, n, immediate_pairs)
 
@@ -130,15 +127,15 @@ module _ (op : Opcode) {alt : Alternative} (rt rs c : ℕ) (e : is_immediate c �
   unfolding immediate_pairs
   pairs_alternative n h = rw (e, n, h, immediate_pairs)
 
-pub form_taken : (alt : Alternative) (c : ℕ) → is_immediate c ≡ true → Unloaded ≡ immediate_form alt c
+pub form_taken : (alt : Option Opcode) (c : ℕ) → is_immediate c ≡ true → Unloaded ≡ immediate_form alt c
 form_taken alt c e = rw (e, immediate_form)
 
-module _ {alt : Alternative} (c : ℕ) (e : is_immediate c ≡ false) where
-  pub form_refused : alt ≡ Nothing → Unloaded ≡ immediate_form alt c
+module _ {alt : (Option Opcode)} (c : ℕ) (e : is_immediate c ≡ false) where
+  pub form_refused : alt ≡ None → Unloaded ≡ immediate_form alt c
   form_refused n = rw (e, n, immediate_form)
 
   pub form_alternative : {other : Opcode} → alt ≡ Some other → form_of c ≡ immediate_form alt c
   form_alternative n = rw (e, n, immediate_form)
 
-pub range_refused : {alt : Alternative} (c : ℕ) → is_immediate c ≡ false → alt ≡ Nothing → Outside Immediate ≡ immediate_range alt c
+pub range_refused : {alt : (Option Opcode)} (c : ℕ) → is_immediate c ≡ false → alt ≡ None → Err Immediate ≡ immediate_range alt c
 range_refused c e n = rw (n, e, immediate_range)

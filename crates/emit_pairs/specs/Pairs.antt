@@ -1,9 +1,7 @@
 -- A line's words, each with the label it waits for (document 01, 'Words'). Assumes nothing.
-use Rattle.std.specs.Prelude.{ℕ, ◌-◌, ◌^◌, ◌%◌, ◌≡◌, List, [], ◌∷◌, ◌++◌, map, Bool, true, false, ◌||◌, length, take, leb, ltb}
+use Rattle.std.specs.Prelude.{ℕ, ◌-◌, ◌^◌, ◌%◌, ◌≡◌, List, [], ◌∷◌, ◌++◌, map, Bool, true, false, ◌||◌, length, take, leb, ltb, Err, None, Ok, Option, Result, Some}
 use Rattle.instructions.specs.declared.Opcode.{Opcode}
 use Rattle.instructions.specs.declared.Opcode.TheVariants.{Op}
-use Rattle.instructions.specs.declared.Alternative.{Alternative}
-use Rattle.instructions.specs.declared.Alternative.TheVariants.{Nothing, Some}
 use Rattle.loading.specs.declared.LoadForm.{LoadForm}
 use Rattle.loading.specs.declared.LoadForm.TheVariants.{Nothing as Unloaded}
 use Rattle.loading.specs.Load.{form_of, load_words}
@@ -11,20 +9,18 @@ use Rattle.address_label.specs.declared.AddressLabel.{AddressLabel}
 use Rattle.address_label.specs.declared.AddressLabel.TheVariants.{Constant, Label}
 use Rattle.pending.specs.declared.InstructionLabelKind.{InstructionLabelKind}
 use Rattle.pending.specs.declared.InstructionLabelKind.TheVariants.{Lower, Upper}
-use Rattle.emit_pairs.specs.declared.PairLabel.TheVariants.{Nothing as Unlabelled, Some as Labelled}
 use Rattle.emit_pairs.specs.declared.InstructionPair.{InstructionPair}
 use Rattle.emit_pairs.specs.declared.EmitInstruction.{EmitInstruction}
 use Rattle.emit_pairs.specs.declared.Fault.TheVariants.{Immediate}
-use Rattle.emit_pairs.specs.declared.Range.{Range}
-use Rattle.emit_pairs.specs.declared.Range.TheVariants.{Within, Outside}
 use Rattle.emit_words.specs.Words.{register_word, immediate_word}
+use Rattle.emit_pairs.specs.declared.Fault.{Fault}
 
 -- a word, and one that waits for a label
 abbrev pub plain : ℕ → InstructionPair
-plain w = record { word = w; label = Unlabelled }
+plain w = record { word = w; label = None }
 
 abbrev pub waiting : ℕ → InstructionLabelKind → AddressLabel → InstructionPair
-waiting w kind label = record { word = w; label = Labelled (record { kind = kind; label = label }) }
+waiting w kind label = record { word = w; label = Some (record { kind = kind; label = label }) }
 
 -- the pairs that an array with a count holds, and how the line's constant is loaded
 pub record EmitIs (e : EmitInstruction) (ps : List InstructionPair) (form : LoadForm) : Type 0 where
@@ -57,23 +53,23 @@ unfoldable pub is_immediate : ℕ → Bool
 is_immediate c = ltb c 32768 || leb (2 ^ 64 - 32768) c
 
 -- "9. An immediate without alternative lies outside -32,768 to 32,767"
-abbrev pub immediate_range : Alternative → ℕ → Range
-immediate_range Nothing c = elim (is_immediate c) [ true ↦ Within | false ↦ Outside Immediate ]
-immediate_range (Some alt) c = Within
+abbrev pub immediate_range : Option Opcode → ℕ → Result (Unit {0}) Fault
+immediate_range None c = elim (is_immediate c) [ true ↦ Ok tt | false ↦ Err Immediate ]
+immediate_range (Some alt) c = Ok tt
 
 -- one word, or the constant loaded into $at and the alternative's word; none where it is refused
-abbrev pub fallback_pairs : Alternative → (rt rs c : ℕ) → List InstructionPair
-fallback_pairs Nothing rt rs c = []
+abbrev pub fallback_pairs : Option Opcode → (rt rs c : ℕ) → List InstructionPair
+fallback_pairs None rt rs c = []
 fallback_pairs (Some alt) rt rs c = load_pairs c at_number ++ plain (register_word alt rt rs at_number) ∷ []
 
-unfoldable pub immediate_pairs : Opcode → Alternative → (rt rs c : ℕ) → List InstructionPair
+unfoldable pub immediate_pairs : Opcode → Option Opcode → (rt rs c : ℕ) → List InstructionPair
 unfolding is_immediate load_pairs
 immediate_pairs op alt rt rs c = elim (is_immediate c) [ true ↦ plain (immediate_word op rs rt (c % 65536)) ∷ [] | false ↦ fallback_pairs alt rt rs c ]
 
 -- in range the constant stands in the word's own immediate field; else it is loaded for the alternative
-abbrev pub fallback_form : Alternative → ℕ → LoadForm
-fallback_form Nothing c = Unloaded
+abbrev pub fallback_form : Option Opcode → ℕ → LoadForm
+fallback_form None c = Unloaded
 fallback_form (Some alt) c = form_of c
 
-abbrev pub immediate_form : Alternative → ℕ → LoadForm
+abbrev pub immediate_form : Option Opcode → ℕ → LoadForm
 immediate_form alt c = elim (is_immediate c) [ true ↦ Unloaded | false ↦ fallback_form alt c ]

@@ -1,6 +1,5 @@
 -- Operands that take words of their own: a number into a register, an offset, a label (emit.rs). Assumes nothing.
-use Rattle.std.specs.Prelude.{ℕ, ◌%◌, List, [], ◌∷◌, ◌++◌, Bool, true, false}
-use Rattle.std.proofs.Math.Option.{Option, none, some}
+use Rattle.std.specs.Prelude.{ℕ, ◌%◌, List, [], ◌∷◌, ◌++◌, Bool, true, false, Some, Option, None}
 use Rattle.registers.specs.Numbers.{register_number}
 use Rattle.registers.specs.declared.RegisterSlot.{RegisterSlot}
 use Rattle.instructions.specs.declared.Opcode.TheVariants.{Func}
@@ -16,9 +15,8 @@ use Rattle.loading.specs.declared.LoadForm.TheVariants.{Nothing as Unloaded}
 use Rattle.loading.specs.Load.{form_of}
 use Rattle.emit_words.specs.Words.{register_word}
 use Rattle.emit_pairs.specs.declared.InstructionPair.{InstructionPair}
-use Rattle.emit_pairs.specs.declared.PairLabel.{PairLabel}
-use Rattle.emit_pairs.specs.declared.PairLabel.TheVariants.{Some as Labelled}
 use Rattle.emit_pairs.specs.Pairs.{plain, at_number, load_pairs, label_pairs, label_form, is_immediate}
+use Rattle.pending.specs.declared.InstructionLabel.{InstructionLabel}
 
 -- ---- a register or a number: a number is loaded into $at (unpack_value)
 
@@ -36,8 +34,8 @@ value_form (Literal n) = form_of n
 
 -- an operand that may be missing
 abbrev pub maybe_form : Option InstructionValue → LoadForm
-maybe_form none = Unloaded
-maybe_form (some value) = value_form value
+maybe_form None = Unloaded
+maybe_form (Some value) = value_form value
 
 -- ---- an offset (make_offset_or_label): the immediate, the base register and the words before
 
@@ -83,5 +81,5 @@ offset_form (Offset label r) = base_form label
 offset_form (LabelAlone label) = label_form label
 
 -- a word that waits for a branch's destination
-abbrev pub branch_to : AddressLabel → PairLabel
-branch_to label = Labelled (record { kind = Branch; label = label })
+abbrev pub branch_to : AddressLabel → Option InstructionLabel
+branch_to label = Some (record { kind = Branch; label = label })

@@ -9,22 +9,16 @@ ghost use Rattle.emit_pairs.specs.Pairs.{EmitIs, plain, waiting, at_number, load
 
 use address_label::AddressLabel;
 use emit_words::{ImmediateFields, RegisterFields};
-use instructions::{Alternative, Opcode};
+use instructions::Opcode;
 use loading::LoadForm;
 use operand::{InstructionValue, OffsetOrLabel};
 use pending::{InstructionLabel, InstructionLabelKind};
 use registers::RegisterSlot;
 
 #[derive(Clone, Copy)]
-pub enum PairLabel {
-    Nothing,
-    Some(InstructionLabel),
-}
-
-#[derive(Clone, Copy)]
 pub struct InstructionPair {
     pub word: u32,
-    pub label: PairLabel,
+    pub label: Option<InstructionLabel>,
 }
 
 // At most five words: the first `count`; and how the line's constant is loaded.
@@ -42,13 +36,6 @@ pub enum Fault {
     ShiftAmount,
     ConditionCode,
     Dropped,
-}
-
-// Whether a line lies within what its job takes.
-#[derive(Clone, Copy)]
-pub enum Range {
-    Within,
-    Outside(Fault),
 }
 
 // rt, rs and the immediate operand.
@@ -80,7 +67,7 @@ fn starting(form: LoadForm) -> EmitInstruction
 {
     let pair = InstructionPair {
         word: 0,
-        label: PairLabel::Nothing,
+        label: None,
     };
     EmitInstruction {
         instructions: [pair; 5],
@@ -98,7 +85,7 @@ pub fn none() -> EmitInstruction
 
 impl EmitInstruction {
     // One word more.
-    pub fn push(self, word: u32, label: PairLabel) -> EmitInstruction
+    pub fn push(self, word: u32, label: Option<InstructionLabel>) -> EmitInstruction
         requires { self.count < 5 }
         ensures { EmitIs result (take self.count self.instructions ++ (record { word = word; label = label }) ∷ []) self.loaded }
     {
@@ -114,14 +101,14 @@ impl EmitInstruction {
 pub fn with(word: u32) -> EmitInstruction
     ensures { EmitIs result (plain word ∷ []) LoadForm.Nothing }
 {
-    none().push(word, PairLabel::Nothing)
+    none().push(word, None)
 }
 
 // One word that waits for a label.
 pub fn with_label(word: u32, kind: InstructionLabelKind, label: AddressLabel) -> EmitInstruction
     ensures { EmitIs result (waiting word kind label ∷ []) LoadForm.Nothing }
 {
-    none().push(word, PairLabel::Some(InstructionLabel { kind, label }))
+    none().push(word, Some(InstructionLabel { kind, label }))
 }
 
 // The words that load a constant.
@@ -131,11 +118,11 @@ pub fn load_pairs(constant: u64, into: RegisterSlot) -> EmitInstruction
     let loaded = loading::load_immediate(constant, into);
     let words = loaded.words;
     let form = loaded.form;
-    let one = starting(form).push(words[0], PairLabel::Nothing);
+    let one = starting(form).push(words[0], None);
     if loaded.count < 2 {
         return one;
     }
-    one.push(words[1], PairLabel::Nothing)
+    one.push(words[1], None)
 }
 
 // A constant's words, or lui and ori that wait for a name's halves.
@@ -166,8 +153,8 @@ pub fn make_label(label: AddressLabel, dest: RegisterSlot) -> EmitInstruction
                 label,
             };
             none()
-                .push(lui, PairLabel::Some(upper))
-                .push(ori, PairLabel::Some(lower))
+                .push(lui, Some(upper))
+                .push(ori, Some(lower))
         }
     }
 }
@@ -183,16 +170,16 @@ pub fn is_immediate(constant: u64) -> bool
 }
 
 // Refusal 9: an immediate out of range without an alternative.
-pub fn immediate_range(alt: Alternative, constant: u64) -> Range
+pub fn immediate_range(alt: Option<Opcode>, constant: u64) -> Result<(), Fault>
     ensures { result ≡ immediate_range alt constant }
 {
     match alt {
-        Alternative::Some(_) => Range::Within,
-        Alternative::Nothing => {
+        Some(_) => Ok(()),
+        None => {
             if is_immediate(constant) {
-                Range::Within
+                Ok(())
             } else {
-                Range::Outside(Fault::Immediate)
+                Err(Fault::Immediate)
             }
         }
     }
@@ -201,7 +188,7 @@ pub fn immediate_range(alt: Alternative, constant: u64) -> Range
 // One word, or the alternative with the constant in $at; no word where neither serves.
 pub fn emit_immediate_instruction(
     op: Opcode,
-    alt: Alternative,
+    alt: Option<Opcode>,
     operands: ImmediateOperands,
 ) -> EmitInstruction
     ensures { EmitIs result (immediate_pairs op alt (register_number operands.temp) (register_number operands.source) operands.constant)
@@ -220,8 +207,8 @@ pub fn emit_immediate_instruction(
         return with(emit_words::immediate_word(op, fields));
     }
     match alt {
-        Alternative::Nothing => none(),
-        Alternative::Some(other) => {
+        None => none(),
+        Some(other) => {
             let at = RegisterSlot::AssemblerTemporary;
             let fields = RegisterFields {
                 dest: temp,
@@ -229,7 +216,7 @@ pub fn emit_immediate_instruction(
                 temp: at,
             };
             let word = emit_words::register_word(other, fields);
-            load_pairs(constant, at).push(word, PairLabel::Nothing)
+            load_pairs(constant, at).push(word, None)
         }
     }
 }
@@ -264,7 +251,7 @@ fn added(label: AddressLabel, register: RegisterSlot) -> OffsetParts
     OffsetParts {
         immediate: 0,
         register: at,
-        emit: make_label(label, at).push(add, PairLabel::Nothing),
+        emit: make_label(label, at).push(add, None),
     }
 }
 
@@ -298,10 +285,10 @@ pub fn make_offset_or_label(offset: OffsetOrLabel) -> OffsetParts
     }
 }
 
-pub fn branch_to(label: AddressLabel) -> PairLabel
+pub fn branch_to(label: AddressLabel) -> Option<InstructionLabel>
     ensures { result ≡ branch_to label }
 {
-    PairLabel::Some(InstructionLabel {
+    Some(InstructionLabel {
         kind: InstructionLabelKind::Branch,
         label,
     })

@@ -1,10 +1,9 @@
 -- The words of each pseudo-instruction, from its operands in the line's order (emit.rs). Assumes nothing.
-use Rattle.std.specs.Prelude.{ℕ, List, [], ◌∷◌, ◌++◌, Bool, true, false}
+use Rattle.std.specs.Prelude.{ℕ, List, [], ◌∷◌, ◌++◌, Bool, true, false, Some}
 use Rattle.registers.specs.Numbers.{register_number}
 use Rattle.registers.specs.declared.RegisterSlot.{RegisterSlot}
 use Rattle.instructions.specs.declared.Opcode.{Opcode}
 use Rattle.instructions.specs.declared.Opcode.TheVariants.{Op, Func}
-use Rattle.instructions.specs.declared.Alternative.TheVariants.{Some}
 use Rattle.jobs.specs.declared.Job.{Job}
 use Rattle.jobs.specs.Jobs.{abs_first_word}
 use Rattle.address_label.specs.declared.AddressLabel.{AddressLabel}

@@ -10,9 +10,9 @@ ghost use Rattle.emit_pairs.specs.Pairs.{EmitIs, label_form};
 ghost use Rattle.emit_pairs.specs.Values.{value_form};
 ghost use Rattle.emit_pseudo.specs.PseudoWords.{set_opcode, compare_word, branch_opcode, branch_custom_pairs, set_custom_pairs, sne_pairs, seq_pairs, abs_pairs, neg_pairs, move_pairs, li_pairs, la_pairs, b_pairs, nop_pairs, subi_pairs, subi_form};
 
-use emit_pairs::{EmitInstruction, ImmediateOperands, PairLabel};
+use emit_pairs::{EmitInstruction, ImmediateOperands};
 use emit_words::{ImmediateFields, RegisterFields};
-use instructions::{Alternative, Opcode};
+use instructions::Opcode;
 use jobs::Job;
 use loading::LoadForm;
 use operand_list::Operands;
@@ -52,8 +52,8 @@ pub fn do_abs_instruction(job: Job, operands: Operands) -> EmitInstruction
     let xor = emit_words::register_word(Opcode::Func(38), xor_fields);
     let sub = emit_words::register_word(Opcode::Func(35), sub_fields);
     emit_pairs::with(shift)
-        .push(xor, PairLabel::Nothing)
-        .push(sub, PairLabel::Nothing)
+        .push(xor, None)
+        .push(sub, None)
 }
 
 fn set_opcode(unsigned: bool) -> Opcode
@@ -112,7 +112,7 @@ pub fn do_branch_custom_instruction(how: Comparison, operands: Operands) -> Emit
     let label = operand::label_in(third);
     let to = emit_pairs::branch_to(label);
     let emit = unpacked.emit;
-    emit.push(compare, PairLabel::Nothing).push(branch, to)
+    emit.push(compare, None).push(branch, to)
 }
 
 // xori with 1, which turns a comparison's result over.
@@ -142,12 +142,12 @@ pub fn do_set_custom_instruction(how: Comparison, operands: Operands) -> EmitIns
     let fields = RegisterFields { dest, source, temp };
     let set = compare_word(how, fields);
     let emit = unpacked.emit;
-    let with_set = emit.push(set, PairLabel::Nothing);
+    let with_set = emit.push(set, None);
     if how.result_true {
         with_set
     } else {
         let turn = turn_word(dest);
-        with_set.push(turn, PairLabel::Nothing)
+        with_set.push(turn, None)
     }
 }
 
@@ -173,8 +173,8 @@ pub fn do_sne_instruction(operands: Operands) -> EmitInstruction
     let subu = emit_words::register_word(Opcode::Func(35), difference);
     let sltu = emit_words::register_word(Opcode::Func(41), above_zero);
     let emit = unpacked.emit;
-    emit.push(subu, PairLabel::Nothing)
-        .push(sltu, PairLabel::Nothing)
+    emit.push(subu, None)
+        .push(sltu, None)
 }
 
 pub fn do_seq_instruction(operands: Operands) -> EmitInstruction
@@ -184,7 +184,7 @@ pub fn do_seq_instruction(operands: Operands) -> EmitInstruction
     let first = operands.first;
     let dest = operand::slot_in(first);
     let turn = turn_word(dest);
-    do_sne_instruction(operands).push(turn, PairLabel::Nothing)
+    do_sne_instruction(operands).push(turn, None)
 }
 
 // neg and negu.
@@ -276,5 +276,5 @@ pub fn do_subi_instruction(opcodes: ImmediateOpcodes, operands: Operands) -> Emi
     };
     let op = opcodes.op;
     let alternative = opcodes.alternative;
-    emit_pairs::emit_immediate_instruction(op, Alternative::Some(alternative), read)
+    emit_pairs::emit_immediate_instruction(op, Some(alternative), read)
 }

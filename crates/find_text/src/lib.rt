@@ -5,23 +5,23 @@ ghost use Rattle.std.specs.Prelude.{◌≤◌, length};
 ghost use Rattle.text.specs.Text.{Put};
 ghost use Rattle.find_text.specs.FindText.{address_line, found_lines, answer_text, find_text};
 
-use label_finder::FindAnswer;
-use labels::{Address, Found};
+use labels::Found;
+use refusal::Refusal;
 
 // Room for two lines, or for a refusal.
 pub const MOST: usize = 128;
 
-fn put_address(out: &mut [u8], address: Address) -> usize
+fn put_address(out: &mut [u8], address: Option<u32>) -> usize
     requires { 128 ≤ length out.old }
     ensures { Put out.old 0 (address_line address) out.new result }
 {
     match address {
-        Address::Known(value) => {
+        Some(value) => {
             let digits_at = text::put_text(&mut *out, 0, b"found ");
             let end = text::put_hex(&mut *out, digits_at, value, 8);
             text::put_byte(out, end, b'\n')
         }
-        Address::Unknown => text::put_text(out, 0, b"none\n"),
+        None => text::put_text(out, 0, b"none\n"),
     }
 }
 
@@ -34,13 +34,13 @@ fn put_found(out: &mut [u8], found: Found) -> usize
     text::put_number_line(out, count_at, b"compared", found.compared as u64)
 }
 
-fn put_answer(out: &mut [u8], answer: FindAnswer) -> usize
+fn put_answer(out: &mut [u8], answer: Result<Found, Refusal>) -> usize
     requires { 128 ≤ length out.old }
     ensures { Put out.old 0 (answer_text answer) out.new result }
 {
     match answer {
-        FindAnswer::Found(found) => put_found(out, found),
-        FindAnswer::Refused(refusal) => text::put_refusal(out, 0, refusal::numbers(refusal)),
+        Ok(found) => put_found(out, found),
+        Err(refusal) => text::put_refusal(out, 0, refusal::numbers(refusal)),
     }
 }
 

@@ -1,6 +1,6 @@
 -- The patches of an accepted build: each has a region, a destination and a place there, and what each of them keeps they all keep.
 -- Assumes nothing.
-use Rattle.std.specs.Prelude.{ℕ, ◌+◌, ◌^◌, ◌<◌, ◌≤◌, ◌⊎◌, Bool, true, false, ◌≡◌, refl, length, eqb}
+use Rattle.std.specs.Prelude.{ℕ, ◌+◌, ◌^◌, ◌<◌, ◌≤◌, ◌⊎◌, Bool, true, false, ◌≡◌, refl, length, eqb, Ok, Some}
 use Rattle.std.proofs.Common.{arith, inl, inr, ⊎_elim, sym, ap, ◌∙◌, eqb-true}
 use mathlib.Core.List.Memᴰ
 use mathlib.Core.List.{List, [], ◌∷◌, Memᴰ}
@@ -8,8 +8,6 @@ use Rattle.std.proofs.lemmas.Bool.{eqb-false}
 use Rattle.jobs.specs.declared.Job.{Job}
 use Rattle.record.specs.Records.{places}
 use Rattle.record.proofs.OneMoreLaws.{good_each}
-use Rattle.refusal.specs.declared.Verdict.TheVariants.{Pass}
-use Rattle.labels.specs.declared.Address.TheVariants.{Known}
 use Rattle.labels.specs.Labels.{Table}
 use Rattle.regions.specs.Regions.{region_count, region_place, region_at}
 use Rattle.pending.specs.Pendings.{pending_ok, pending_at}
@@ -33,7 +31,7 @@ Keeps labels regions pending P = (q : ℕ) (d : List ℕ) → In pending q → K
 abbrev Among : (pending ps : List ℕ) → Type 0
 Among pending ps = (q : ℕ) → Memᴰ q ps → In pending q
 
-module _ (job : Job) (labels : Table) (entry regions pending : List ℕ) (pass : build_verdict job labels entry regions pending ≡ Pass) where
+module _ (job : Job) (labels : Table) (entry regions pending : List ℕ) (pass : build_verdict job labels entry regions pending ≡ Ok tt) where
   accepted : Accepted job labels entry regions pending
   accepted = accepted_is job labels entry regions pending pass
 
@@ -51,8 +49,8 @@ module _ (job : Job) (labels : Table) (entry regions pending : List ℕ) (pass :
       reached job labels pending (region_for regions (pending_at pending p)) (pending_at pending p)
       (each_pass (patch_verdict job labels regions pending) (patch_order regions pending) accepted.patches_pass p (in_turn p m))
 
-  pub known : (p : ℕ) → In pending p → destination labels pending (pending_at pending p).label ≡ Known (destination_at labels pending p)
-  known p m = let r = reaches p m in r.known ∙ ap Known (sym (ap (address_or 0) r.known))
+  pub known : (p : ℕ) → In pending p → destination labels pending (pending_at pending p).label ≡ Some (destination_at labels pending p)
+  known p m = let r = reaches p m in r.known ∙ ap Some (sym (ap (address_or 0) r.known))
 
   pub dest_lt : (p : ℕ) → In pending p → destination_at labels pending p < 2 ^ 32
   dest_lt p m = destination_lt labels pending (pending_at pending p).label (destination_at labels pending p) (known p m)

@@ -3,7 +3,7 @@ use Prim.Native.Nat.{ℕ, zero, suc, ◌+◌, ◌-◌, ◌*◌, ◌/◌, ◌%◌
 use Rattle.std.proofs.Common.{arith, add-zero, inl, inr, sym, ap, ◌∙◌, pow_pos, shr-shr, ltb-true, ltb-false}
 use Rattle.std.proofs.Math.Nat.{mod-lt}
 use mathlib.Core.List.{List}
-use Rattle.std.specs.Prelude.{◌⊎◌, Bool, true, false, ◌≡◌, refl, length, ltb}
+use Rattle.std.specs.Prelude.{◌⊎◌, Bool, true, false, ◌≡◌, refl, length, ltb, Ok}
 use Rattle.std.proofs.Math.Logic.{⊎_elim}
 use Rattle.std.proofs.Math.Pow.{field, mod-mod-pow}
 use Rattle.jobs.specs.declared.Job.{Job}
@@ -11,7 +11,6 @@ use Rattle.field.specs.Field.{get_field, set_field}
 use Rattle.field.proofs.FieldLaws.{get_set_above}
 use Rattle.record.specs.Bytes.{byte_at, le32}
 use Rattle.record.specs.Stores.{le32_bytes, append}
-use Rattle.refusal.specs.declared.Verdict.TheVariants.{Pass}
 use Rattle.labels.specs.Labels.{Table}
 use Rattle.patch.specs.Patches.{field_width, write_pending}
 use Rattle.patch.proofs.PatchesLaws.{value_fits}
@@ -88,7 +87,7 @@ module _ (d : List ℕ) (slot width v : ℕ) (room : slot + 4 ≤ length d) (fit
       go (inr k) (inl x) = absurd (omega (arith, k.0))
       go (inr k) (inr x) = rw k.0 at (inside (i - slot) k.1 (omega (arith, k.0)))
 
-module _ (job : Job) (labels : Table) (entry regions pending : List ℕ) (pass : build_verdict job labels entry regions pending ≡ Pass) where
+module _ (job : Job) (labels : Table) (entry regions pending : List ℕ) (pass : build_verdict job labels entry regions pending ≡ Ok tt) where
   -- each bit outside every field is as at entry
   pub bits_same : Bytes regions → (i j : ℕ) → j < 8 → OutsideFields regions pending i j → bit_at (patched_regions labels regions pending) i j ≡ bit_at regions i j
   unfolding write_pending

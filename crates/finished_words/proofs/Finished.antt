@@ -1,9 +1,8 @@
 -- Every finished word, of whole builds: whatever the label table, the regions, the entry record and the pending list, in whatever order.
 -- Assumes nothing.
-use Rattle.std.specs.Prelude.{ℕ, ◌<◌, ◌≡◌, List, length}
+use Rattle.std.specs.Prelude.{ℕ, ◌<◌, ◌≡◌, List, length, Ok}
 use Rattle.jobs.specs.declared.Job.{Job}
 use Rattle.record.specs.Bytes.{byte_at}
-use Rattle.refusal.specs.declared.Verdict.TheVariants.{Pass}
 use Rattle.labels.specs.Labels.{Table}
 use Rattle.build_outcome.specs.Build.{build_verdict, build_outcome}
 use Rattle.build_outcome.proofs.BuildLaws.{outcome_accepted}
@@ -24,7 +23,7 @@ pub record Finished (labels : Table) (regions pending exit : List ℕ) : Type 0 
   pub words_are : Apart pending → words_in exit regions pending ≡ finished_words labels regions pending
 
 -- "An accepted build is one to which no refusal is due"
-pub finished : (job : Job) (labels : Table) (entry regions pending : List ℕ) → build_verdict job labels entry regions pending ≡ Pass
+pub finished : (job : Job) (labels : Table) (entry regions pending : List ℕ) → build_verdict job labels entry regions pending ≡ Ok tt
     → Finished labels regions pending (build_outcome job labels entry regions pending).regions
 finished job labels entry regions pending pass =
     rw (outcome_accepted job labels entry regions pending pass).1

@@ -1,5 +1,5 @@
 -- What the patches of an accepted build leave: each byte that is no patch's, and the word of each patch that overlaps no other. Assumes nothing.
-use Rattle.std.specs.Prelude.{ℕ, ◌+◌, ◌<◌, ◌≤◌, ◌⊎◌, Bool, true, false, ◌≡◌, eqb}
+use Rattle.std.specs.Prelude.{ℕ, ◌+◌, ◌<◌, ◌≤◌, ◌⊎◌, Bool, true, false, ◌≡◌, eqb, Ok}
 use Rattle.std.proofs.Common.{arith, inl, inr, ⊎_elim, ap, ap₂, ◌∙◌, eqb-true}
 use mathlib.Core.List.{List, [], ◌∷◌, map, Memᴰ}
 use Rattle.std.proofs.Math.Path.{refl}
@@ -7,7 +7,6 @@ use Rattle.std.proofs.lemmas.Bool.{eqb-false}
 use Rattle.jobs.specs.declared.Job.{Job}
 use Rattle.record.specs.Bytes.{byte_at, le32}
 use Rattle.record.specs.Records.{places}
-use Rattle.refusal.specs.declared.Verdict.TheVariants.{Pass}
 use Rattle.labels.specs.Labels.{Table}
 use Rattle.patch.specs.Patches.{write_pending}
 use Rattle.patch.proofs.WordLaws.{byte_out, read_same, read_other}
@@ -23,7 +22,7 @@ pub map_same : {A : Type 0} {f g : ℕ → A} (ps : List ℕ) → ((p : ℕ) →
 map_same [] h = refl
 map_same {A} (p ∷ ps) h = ap₂ (λ (x : A) (xs : List A). x ∷ xs) (h p (Memᴰ.head refl)) (map_same ps (λ q m. h q (Memᴰ.tail m)))
 
-module _ (job : Job) (labels : Table) (entry regions pending : List ℕ) (pass : build_verdict job labels entry regions pending ≡ Pass) where
+module _ (job : Job) (labels : Table) (entry regions pending : List ℕ) (pass : build_verdict job labels entry regions pending ≡ Ok tt) where
   pub bytes_same : (i : ℕ) → OutsidePatches regions pending i → byte_at (patched_regions labels regions pending) i ≡ byte_at regions i
   unfolding write_pending
   bytes_same i out =

@@ -1,11 +1,10 @@
 -- What computes on the lists of the instance: its build is accepted, its patches are apart, its words at entry and at exit. Assumes nothing.
-use Rattle.std.specs.Prelude.{ℕ, suc, ◌+◌, ◌*◌, [], ◌∷◌, Bool, true, false, ◌||◌, ◌≡◌, refl, leb, ltb, eqb}
+use Rattle.std.specs.Prelude.{ℕ, suc, ◌+◌, ◌*◌, [], ◌∷◌, Bool, true, false, ◌||◌, ◌≡◌, refl, leb, ltb, eqb, Ok}
 use Rattle.jobs.specs.declared.Job.TheVariants.{Commit}
 use Rattle.field.specs.Field.{get_field}
 use Rattle.record.specs.Bytes.{all, same_bytes}
 use Rattle.record.specs.Records.{places_f, places_from, places, first_bad, first_bad_of, within_limit}
 use Rattle.refusal.specs.Verdicts.{first_stop}
-use Rattle.refusal.specs.declared.Verdict.TheVariants.{Pass}
 use Rattle.names.specs.Names.{first_where, first_later}
 use Rattle.labels.specs.Labels.{label_ok, label_layout, resolve, table_of}
 use Rattle.regions.specs.Regions.{region_ok, region_records, region_layout}
@@ -42,7 +41,7 @@ bit_clear i j p = leb (suc (8 * i + j)) (8 * slot_at regions pending p) || leb (
 
 -- ---- by computation: byte 12 begins the word between the first branch and the jump, and bit 4 of byte 11 is in the branch's opcode
 pub record Evaluated : Type 0 where
-  pub accepted : build_verdict Commit (table_of labels₁) entry regions pending ≡ Pass
+  pub accepted : build_verdict Commit (table_of labels₁) entry regions pending ≡ Ok tt
   pub bytes_fit : all (λ (b : ℕ). ltb b 256) regions ≡ true
   pub cleared : all (λ (p : ℕ). all (clear p) (places pending)) (places pending) ≡ true
   pub byte_clear_lem : all (byte_clear 12) (places pending) ≡ true

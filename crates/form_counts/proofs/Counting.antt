@@ -1,5 +1,5 @@
 -- The closed form is the count, for every range; and what follows for counts. Assumes nothing.
-use Rattle.std.specs.Prelude.{ℕ, zero, suc, ◌+◌, ◌-◌, ◌^◌, ◌<◌, ◌≤◌, ◌≡◌, refl, length}
+use Rattle.std.specs.Prelude.{ℕ, zero, suc, ◌+◌, ◌-◌, ◌^◌, ◌<◌, ◌≤◌, ◌≡◌, refl, length, Err, Ok}
 use native.Mathlib.Omega.{arith}
 use Rattle.std.proofs.Common.{sym, ◌∙◌, le-leb}
 use Rattle.std.proofs.Math.Path.{ap}
@@ -10,7 +10,6 @@ use Rattle.loading.specs.declared.LoadForm.TheVariants.{Nothing, Addiu, Ori, Lui
 use Rattle.loading.specs.Load.{form_of}
 use Rattle.loading.proofs.LoadLaws.{words_by, load_length}
 use Rattle.form_counts.specs.declared.FormCounts.{FormCounts}
-use Rattle.form_counts.specs.declared.CountAnswer.TheVariants.{Counted, Refused}
 use Rattle.form_counts.specs.FormCounts.{with_one, counted, count_forms}
 use Rattle.form_counts.specs.Below.{addiu_below, ori_below, lui_below, below, between}
 use Rattle.form_counts.proofs.BelowLaws.{same, plus, grown, less_is}
@@ -20,18 +19,18 @@ pub closed_form : (start n : ℕ) → start + n ≤ 2 ^ 32 → counted start n �
 closed_form start n h = let e = less_is (below start) (counted start n) (grown n start h) in sym (same e.0 e.1 e.2 e.3)
 
 module _ (start end : ℕ) where
-  pub count_is : start ≤ end → end < 2 ^ 32 → count_forms start end ≡ Counted (between (below start) (below (end + 1)))
+  pub count_is : start ≤ end → end < 2 ^ 32 → count_forms start end ≡ Ok (between (below start) (below (end + 1)))
   unfolding count_forms
   count_is h k =
       let e : start + (end + 1 - start) ≡ end + 1 = omega arith in
-      rw (le-leb start end h, count_forms) (ap Counted (closed_form start (end + 1 - start) (omega arith) ∙ ap (λ (n : ℕ). between (below start) (below n)) e))
+      rw (le-leb start end h, count_forms) (ap Ok (closed_form start (end + 1 - start) (omega arith) ∙ ap (λ (n : ℕ). between (below start) (below n)) e))
 
-  pub count_refused : end < start → count_forms start end ≡ Refused StartPastEnd
+  pub count_refused : end < start → count_forms start end ≡ Err StartPastEnd
   unfolding count_forms
   count_refused h = rw (lt-leb start end h, count_forms)
 
 -- "The full range gives addiu 65,536, ori 32,768, lui 65,535, both halves 4,294,803,457."
-pub full_range : count_forms 0 0xffffffff ≡ Counted (record { addiu = 65536; ori = 32768; lui = 65535; both = 4294803457 })
+pub full_range : count_forms 0 0xffffffff ≡ Ok (record { addiu = 65536; ori = 32768; lui = 65535; both = 4294803457 })
 unfolding below addiu_below ori_below lui_below
 full_range = count_is 0 0xffffffff (omega arith) (omega arith)
 

@@ -1,12 +1,11 @@
 -- How many constants of a range load by each form (document 02, P14). Assumes nothing.
-use Rattle.std.specs.Prelude.{ℕ, zero, suc, ◌+◌, ◌-◌, true, false, leb}
+use Rattle.std.specs.Prelude.{ℕ, zero, suc, ◌+◌, ◌-◌, true, false, leb, Err, Ok, Result}
 use Rattle.refusal.specs.declared.Refusal.TheVariants.{StartPastEnd}
 use Rattle.loading.specs.declared.LoadForm.{LoadForm}
 use Rattle.loading.specs.declared.LoadForm.TheVariants.{Nothing, Addiu, Ori, Lui, BothHalves}
 use Rattle.loading.specs.Load.{form_of}
 use Rattle.form_counts.specs.declared.FormCounts.{FormCounts}
-use Rattle.form_counts.specs.declared.CountAnswer.{CountAnswer}
-use Rattle.form_counts.specs.declared.CountAnswer.TheVariants.{Counted, Refused}
+use Rattle.refusal.specs.declared.Refusal.{Refusal}
 
 abbrev pub no_constants : FormCounts
 no_constants = record { addiu = 0; ori = 0; lui = 0; both = 0 }
@@ -26,6 +25,6 @@ counted start zero = no_constants
 counted start (suc n) = with_one (form_of start) (counted (start + 1) n)
 
 -- "For an inclusive range of unsigned 32-bit constants"; "30, the range's start exceeds its end"
-unfoldable pub count_forms : (start end : ℕ) → CountAnswer
+unfoldable pub count_forms : (start end : ℕ) → Result FormCounts Refusal
 unfolding counted
-count_forms start end = elim (leb start end) [ true ↦ Counted (counted start (end + 1 - start)) | false ↦ Refused StartPastEnd ]
+count_forms start end = elim (leb start end) [ true ↦ Ok (counted start (end + 1 - start)) | false ↦ Err StartPastEnd ]

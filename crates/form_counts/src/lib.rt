@@ -15,12 +15,6 @@ pub struct FormCounts {
     pub both: u64,
 }
 
-#[derive(Clone, Copy)]
-pub enum CountAnswer {
-    Counted(FormCounts),
-    Refused(Refusal),
-}
-
 fn least(a: u64, b: u64) -> u64
     ensures { result ≡ min a b }
 {
@@ -64,13 +58,13 @@ fn less(to: FormCounts, from: FormCounts) -> FormCounts
 }
 
 // The constants from `start` to `end`, both counted.
-pub fn count_forms(start: u32, end: u32) -> CountAnswer
+pub fn count_forms(start: u32, end: u32) -> Result<FormCounts, Refusal>
     ensures { result ≡ count_forms start end }
 {
     if end < start {
-        return CountAnswer::Refused(Refusal::StartPastEnd);
+        return Err(Refusal::StartPastEnd);
     }
     let from = count_below(start as u64);
     let to = count_below(end as u64 + 1);
-    CountAnswer::Counted(less(to, from))
+    Ok(less(to, from))
 }

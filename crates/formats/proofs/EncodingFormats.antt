@@ -1,8 +1,7 @@
 -- The formats of the words of an encoding's own instructions, from the operands of its line in order: which operand stands in which field, as the
 -- manual describes the instruction that is named above each. A field that no operand fills has what the opcode's class and key put there
 -- (`base_fields`). Words that load the line's constant stand before these (LineLoads.antt). Assumes nothing.
-use Rattle.std.specs.Prelude.{ℕ, ◌+◌, ◌*◌, ◌/◌, ◌%◌, ◌^◌, Bool, true, false, List, [], ◌∷◌, ◌++◌}
-use Rattle.std.proofs.Math.Option.{Option, none, some}
+use Rattle.std.specs.Prelude.{ℕ, ◌+◌, ◌*◌, ◌/◌, ◌%◌, ◌^◌, Bool, true, false, List, [], ◌∷◌, ◌++◌, None, Some, Option}
 use Rattle.std.specs.Int.Bits.{bit_or}
 use Rattle.registers.specs.Numbers.{register_number as number, fp_register_number as fp_number}
 use Rattle.registers.specs.declared.RegisterSlot.TheVariants.{AssemblerTemporary}
@@ -10,8 +9,6 @@ use Rattle.instructions.specs.declared.Opcode.{Opcode}
 use Rattle.jobs.specs.declared.Job.{Job}
 use Rattle.jobs.specs.declared.Format.{Format as Fmt}
 use Rattle.jobs.specs.Jobs.{size_code, format_of, source_opcode}
-use Rattle.instructions.specs.declared.Alternative.{Alternative}
-use Rattle.instructions.specs.declared.Alternative.TheVariants.{Nothing, Some}
 use Rattle.instructions.specs.declared.Encoding.{Encoding}
 use Rattle.instructions.specs.declared.Encoding.TheVariants.{Register, RegisterShift, Source, Destination, Inputs, Sham, SpecialBranch, Immediate, LoadImmediate, Jump, Branch, BranchZero, Parameterless, Offset, FPOffset, FP3Register, FP2Register, FPMove, FPCond, FPCrossMove, FPBranch}
 use Rattle.word.specs.Layout.{base_fields}
@@ -71,12 +68,12 @@ name_formats rt = immediate 15 0 rt 0 ∷ immediate 13 rt rt 0 ∷ []
 
 -- MULT rs, rt; with three operands it is of the last two, and MFLO rd of the first
 abbrev pub inputs_formats : Opcode → (first second : ℕ) → Option InstructionValue → List Format
-inputs_formats op first second none = in_register op first second 0 0 ∷ []
-inputs_formats op first second (some value) = in_register op second (value_in value) 0 0 ∷ register 0 0 0 first 0 18 ∷ []
+inputs_formats op first second None = in_register op first second 0 0 ∷ []
+inputs_formats op first second (Some value) = in_register op second (value_in value) 0 0 ∷ register 0 0 0 first 0 18 ∷ []
 
 -- ADDI rt, rs, immediate; out of range the alternative, ADD rd, rs, $at
-abbrev pub immediate_formats : Opcode → Alternative → (rt rs c : ℕ) → List Format
-immediate_formats op Nothing rt rs c = in_immediate op rs rt (c % 65536) ∷ []
+abbrev pub immediate_formats : Opcode → Option Opcode → (rt rs c : ℕ) → List Format
+immediate_formats op None rt rs c = in_immediate op rs rt (c % 65536) ∷ []
 immediate_formats op (Some alt) rt rs c = elim (is_immediate c) [ true ↦ in_immediate op rs rt (c % 65536) ∷ [] | false ↦ in_register alt rs $at rt 0 ∷ [] ]
 
 -- ADD $at, $at, base, then LW rt, 0($at)

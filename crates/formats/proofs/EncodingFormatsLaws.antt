@@ -1,8 +1,7 @@
 -- The words of each encoding load its constant, and then have its formats. Assumes nothing.
-use Rattle.std.specs.Prelude.{ℕ, ◌%◌, ◌<◌, ◌≡◌, Bool, [], ◌∷◌, ◌++◌}
+use Rattle.std.specs.Prelude.{ℕ, ◌%◌, ◌<◌, ◌≡◌, Bool, [], ◌∷◌, ◌++◌, Err, None, Ok, Some, Option}
 use Rattle.std.proofs.Math.Bool.{true, false}
 use Rattle.std.proofs.Common.{append_assoc, arith, lit<}
-use Rattle.std.proofs.Math.Option.{Option, none, some}
 use Rattle.jobs.specs.declared.Job.{Job}
 use Rattle.jobs.specs.Jobs.{format_of, source_opcode}
 use Rattle.registers.specs.Numbers.{register_number as number, fp_register_number as fp_number}
@@ -11,8 +10,6 @@ use Rattle.registers.specs.declared.RegisterSlot.{RegisterSlot}
 use Rattle.registers.specs.declared.RegisterSlot.TheVariants.{AssemblerTemporary}
 use Rattle.instructions.specs.declared.Opcode.{Opcode}
 use Rattle.instructions.specs.declared.Opcode.TheVariants.{Func}
-use Rattle.instructions.specs.declared.Alternative.{Alternative}
-use Rattle.instructions.specs.declared.Alternative.TheVariants.{Nothing, Some}
 use Rattle.instructions.specs.declared.Encoding.{Encoding}
 use Rattle.instructions.specs.declared.Encoding.TheVariants.{Register, RegisterShift, Source, Destination, Inputs, Sham, SpecialBranch, Immediate, LoadImmediate, Jump, Branch, BranchZero, Parameterless, Offset, FPOffset, FP3Register, FP2Register, FPMove, FPCond, FPCrossMove, FPBranch}
 use Rattle.address_label.specs.declared.AddressLabel.TheVariants.{Constant, Label}
@@ -23,7 +20,6 @@ use Rattle.operand.specs.declared.OffsetOrLabel.TheVariants.{Label as Address, O
 use Rattle.operand_list.specs.OperandLists.{AskedAll}
 use Rattle.emit_words.specs.Words.{destination_word, inputs_word, register_word, immediate_word}
 use Rattle.emit_pairs.specs.declared.Fault.TheVariants.{Immediate as ImmediateFault}
-use Rattle.emit_pairs.specs.declared.Range.TheVariants.{Within, Outside}
 use Rattle.emit_pairs.specs.Pairs.{plain, waiting, load_pairs, label_pairs, is_immediate, immediate_range, immediate_pairs}
 use Rattle.emit_pairs.specs.Values.{constant_pairs}
 use Rattle.emit_integer.specs.IntegerWords.{inputs_pairs, offset_line_pairs}
@@ -42,8 +38,8 @@ use Rattle.formats.proofs.LineFormatsLaws.{one, alone, same_pairs, loaded_then, 
 
 module _ (op : Opcode) where
   inputs_words : (a b : RegisterSlot) (v : Option InstructionValue) → LoadThen (maybe_loads v) (inputs_formats op (number a) (number b) v) (words_of (inputs_pairs op a b v))
-  inputs_words a b none = alone (one (inputs_register op (number a) (number b) (register_lt a) (register_lt b)))
-  inputs_words a b (some v) =
+  inputs_words a b None = alone (one (inputs_register op (number a) (number b) (register_lt a) (register_lt b)))
+  inputs_words a b (Some v) =
       value_then v (λ n. in_register op (number b) n 0 0 ∷ register 0 0 0 (number a) 0 18 ∷ [])
       (λ n. plain (inputs_word op (number b) n) ∷ plain (destination_word (Func 18) (number a)) ∷ [])
       (λ n h. first (inputs_register op (number b) n (register_lt b) h) (one (destination_register (Func 18) (number a) (register_lt a))))
@@ -54,20 +50,20 @@ module _ (op : Opcode) where
     taken = immediate_immediate op rs rt hs ht (c % 65536) (omega arith)
 
     taken_or_loaded : (alt : Opcode) (b : Bool)
-        → LoadThen (elim b [ true ↦ none | false ↦ into_at c ]) (elim b [ true ↦ in_immediate op rs rt (c % 65536) ∷ [] | false ↦ in_register alt rs $at rt 0 ∷ [] ])
+        → LoadThen (elim b [ true ↦ None | false ↦ into_at c ]) (elim b [ true ↦ in_immediate op rs rt (c % 65536) ∷ [] | false ↦ in_register alt rs $at rt 0 ∷ [] ])
         (words_of (elim b [ true ↦ plain (immediate_word op rs rt (c % 65536)) ∷ [] | false ↦ load_pairs c $at ++ plain (register_word alt rt rs $at) ∷ [] ]))
     taken_or_loaded alt true = alone (one taken)
     taken_or_loaded alt false = loaded_then c AssemblerTemporary (plain (register_word alt rt rs $at) ∷ []) (one (register_register alt rs $at hs (lit< tt) rt ht))
 
-    taken_alone : (b : Bool) → elim b [ true ↦ Within | false ↦ Outside ImmediateFault ] ≡ Within
-        → LoadThen (elim b [ true ↦ none | false ↦ into_at c ]) (in_immediate op rs rt (c % 65536) ∷ [])
+    taken_alone : (b : Bool) → elim b [ true ↦ Ok tt | false ↦ Err ImmediateFault ] ≡ Ok tt
+        → LoadThen (elim b [ true ↦ None | false ↦ into_at c ]) (in_immediate op rs rt (c % 65536) ∷ [])
         (words_of (elim b [ true ↦ plain (immediate_word op rs rt (c % 65536)) ∷ [] | false ↦ [] ]))
     taken_alone true e = alone (one taken)
     taken_alone false e = let z : ◌≡◌ {A = ℕ} 0 1 = cc in absurd (omega arith)
 
-    pub immediate_words : (alt : Alternative) → immediate_range alt c ≡ Within → LoadThen (immediate_loads c) (immediate_formats op alt rt rs c) (words_of (immediate_pairs op alt rt rs c))
+    pub immediate_words : (alt : Option Opcode) → immediate_range alt c ≡ Ok tt → LoadThen (immediate_loads c) (immediate_formats op alt rt rs c) (words_of (immediate_pairs op alt rt rs c))
     unfolding immediate_pairs
-    immediate_words Nothing e = taken_alone (is_immediate c) e
+    immediate_words None e = taken_alone (is_immediate c) e
     immediate_words (Some alt) e = taken_or_loaded alt (is_immediate c)
 
   -- an address: the base added to $at, and the instruction through $at
@@ -79,7 +75,7 @@ module _ (op : Opcode) where
     added base = first (register_register (Func 32) $at (number base) (lit< tt) (register_lt base) $at (lit< tt)) (one through_at)
 
     based : (c : ℕ) (base : RegisterSlot) (b : Bool)
-        → LoadThen (elim b [ true ↦ none | false ↦ into_at c ]) (elim b [ true ↦ in_immediate op (number base) rt (c % 65536) ∷ [] | false ↦ added_formats op rt (number base) ])
+        → LoadThen (elim b [ true ↦ None | false ↦ into_at c ]) (elim b [ true ↦ in_immediate op (number base) rt (c % 65536) ∷ [] | false ↦ added_formats op rt (number base) ])
         (words_of (constant_pairs b c base
         ++ plain (immediate_word op (elim b [ true ↦ number base | false ↦ $at ]) rt (elim b [ true ↦ c % 65536 | false ↦ 0 ])) ∷ []))
     unfolding label_pairs
@@ -98,7 +94,7 @@ module _ (op : Opcode) where
 
 -- ---- all encodings
 
-pub encoding_words : (job : Job) (e : Encoding) (op : Opcode) (x : AskedAll (encoding_wants e)) → encoding_range job e op x ≡ Within
+pub encoding_words : (job : Job) (e : Encoding) (op : Opcode) (x : AskedAll (encoding_wants e)) → encoding_range job e op x ≡ Ok tt
     → LoadThen (encoding_loads e x) (encoding_formats job e op x) (words_of (encoding_pairs job e op x))
 encoding_words job Register op x h =
     value_then x.2 (λ n. in_register op (number x.1) n (number x.0) 0 ∷ []) (λ n. plain (register_word op (number x.0) (number x.1) n) ∷ [])

@@ -1,12 +1,11 @@
 -- Every emitted word: "proved against the MIPS32 field layouts". Each word of an accepted line has the manual's format with the numbers of the
 -- operands that were read, whatever the encoding, its opcode, the pseudo-instruction and the operands. Assumes nothing.
-use Rattle.std.specs.Prelude.{ℕ, ◌≡◌, refl, List, [], ◌∷◌}
+use Rattle.std.specs.Prelude.{ℕ, ◌≡◌, refl, List, [], ◌∷◌, Ok, Result, Some}
 use Rattle.std.proofs.Common.{subst, arith}
 use Rattle.jobs.specs.declared.Job.{Job}
 use Rattle.jobs.specs.declared.Job.TheVariants.{Commit}
 use Rattle.registers.specs.declared.RegisterSlot.TheVariants.{Temporary0, Temporary1, Temporary2}
 use Rattle.instructions.specs.declared.Opcode.TheVariants.{Op, Func}
-use Rattle.instructions.specs.declared.Alternative.TheVariants.{Some}
 use Rattle.instructions.specs.declared.Encoding.TheVariants.{RegisterShift, Immediate}
 use Rattle.loading.specs.Load.{is_small, form_of}
 use Rattle.lexer.specs.declared.Token.{Token}
@@ -16,8 +15,6 @@ use Rattle.operand.specs.Answers.{Answer, Got, Missed}
 use Rattle.operand_list.specs.OperandLists.{AskedAll, read_operands}
 use Rattle.emit_pairs.specs.declared.InstructionPair.{InstructionPair}
 use Rattle.emit_pairs.specs.Pairs.{is_immediate}
-use Rattle.emit_pairs.specs.declared.Range.{Range}
-use Rattle.emit_pairs.specs.declared.Range.TheVariants.{Within}
 use Rattle.emit_dispatch.specs.declared.LineAnswer.TheVariants.{Made}
 use Rattle.emit_dispatch.specs.Wants.{encoding_wants, pseudo_wants}
 use Rattle.loading.specs.declared.LoadForm.{LoadForm}
@@ -29,9 +26,10 @@ use Rattle.formats.proofs.LineFormats.{own_formats, line_formats, LoadThen, Line
 use Rattle.formats.proofs.LineFormatsLaws.{all_have}
 use Rattle.formats.proofs.EncodingFormatsLaws.{encoding_words}
 use Rattle.formats.proofs.PseudoFormatsLaws.{pseudo_words}
+use Rattle.emit_pairs.specs.declared.Fault.{Fault}
 
-module _ (job : Job) (o : Operation) (i : ℕ) (range : AskedAll (wants_of o) → Range) (pairs : AskedAll (wants_of o) → List InstructionPair)
-    (form : AskedAll (wants_of o) → LoadForm) (words : (x : AskedAll (wants_of o)) → range x ≡ Within → LoadThen (loads_of o x) (own_formats job o x) (words_of (pairs x))) where
+module _ (job : Job) (o : Operation) (i : ℕ) (range : AskedAll (wants_of o) → Result (Unit {0}) Fault) (pairs : AskedAll (wants_of o) → List InstructionPair)
+    (form : AskedAll (wants_of o) → LoadForm) (words : (x : AskedAll (wants_of o)) → range x ≡ Ok tt → LoadThen (loads_of o x) (own_formats job o x) (words_of (pairs x))) where
   made_words : (read : Answer (AskedAll (wants_of o))) → (line_by read i range pairs form).answer ≡ Made → LineWords job o read (words_of (line_by read i range pairs form).pairs)
   made_words (Got x) h =
       let ws = words x (within_made (range x) h) in
@@ -46,7 +44,7 @@ every_word job (encoded e op) ts i h =
     made_words job (encoded e op) read.index (encoding_range job e op) (encoding_pairs job e op) (encoding_form e) (encoding_words job e op) read.answer h
 every_word job (pseudo p) ts i h =
     let read = read_operands (pseudo_wants p) ts i in
-    made_words job (pseudo p) read.index (λ x. Within) (pseudo_pairs job p) (pseudo_form p) (λ x w. pseudo_words job p x) read.answer h
+    made_words job (pseudo p) read.index (λ x. (Ok tt)) (pseudo_pairs job p) (pseudo_form p) (λ x w. pseudo_words job p x) read.answer h
 
 -- the formats of a line whose operands are known
 known : {job : Job} {o : Operation} {x : AskedAll (wants_of o)} {ws : List ℕ} → LineWords job o (Got x) ws → InFormats ws (line_formats job o x)

@@ -1,6 +1,5 @@
 -- The formats of all words of a line: those that load its constant, and those of its own instructions. Assumes nothing.
-use Rattle.std.specs.Prelude.{ℕ, ◌≡◌, true, false, List, [], ◌∷◌, ◌++◌, eqb}
-use Rattle.std.proofs.Math.Option.{Option, none, some}
+use Rattle.std.specs.Prelude.{ℕ, ◌≡◌, true, false, List, [], ◌∷◌, ◌++◌, eqb, Option, None, Some}
 use Rattle.jobs.specs.declared.Job.{Job}
 use Rattle.registers.specs.Numbers.{register_number}
 use Rattle.loading.specs.Load.{upper_half, lower_half, is_small}
@@ -27,8 +26,8 @@ module _ (c t : ℕ) where
   load_formats = elim (is_small c) [ true ↦ immediate 9 0 t (lower_half c) ∷ [] | false ↦ lui_formats ++ ori_formats ]
 
 abbrev pub loading_formats : Option LoadedConstant → List Format
-loading_formats none = []
-loading_formats (some l) = load_formats l.constant (register_number l.register)
+loading_formats None = []
+loading_formats (Some l) = load_formats l.constant (register_number l.register)
 
 -- the line's own instructions
 abbrev pub own_formats : Job → (o : Operation) → AskedAll (wants_of o) → List Format

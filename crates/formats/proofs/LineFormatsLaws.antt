@@ -1,7 +1,6 @@
 -- Words that load a constant, before others or alone, and the formats of all. Assumes nothing.
-use Rattle.std.specs.Prelude.{ℕ, ◌<◌, ◌≡◌, refl, Bool, true, false, List, [], ◌∷◌, ◌++◌, map, eqb}
+use Rattle.std.specs.Prelude.{ℕ, ◌<◌, ◌≡◌, refl, Bool, true, false, List, [], ◌∷◌, ◌++◌, map, eqb, Option, None, Some}
 use Rattle.std.proofs.Common.{sym, ap, ◌∙◌, subst, append-nil, arith, lit<, eqb-true}
-use Rattle.std.proofs.Math.Option.{Option, none, some}
 use Rattle.registers.specs.Numbers.{register_number as number}
 use Rattle.registers.specs.NumberLaws.{register_lt}
 use Rattle.registers.specs.declared.RegisterSlot.{RegisterSlot}
@@ -42,7 +41,7 @@ one h = first h no_words
 
 -- ---- nothing loaded, a constant loaded, a value in a register
 
-pub alone : {ws : List ℕ} {own : List Format} → InFormats ws own → LoadThen none own ws
+pub alone : {ws : List ℕ} {own : List Format} → InFormats ws own → LoadThen None own ws
 alone {ws} h = record { rest = ws; words_are = refl; rest_has = h }
 
 module _ {own : List Format} where
@@ -103,8 +102,8 @@ load_has c t h = go (is_small c) (eqb (upper_half c) 0) (eqb (lower_half c) 0) r
         absurd (omega arith)
 
 loading_has : (l : Option LoadedConstant) → InFormats (loading_words l) (loading_formats l)
-loading_has none = no_words
-loading_has (some l) = load_has l.constant (number l.register) (register_lt l.register)
+loading_has None = no_words
+loading_has (Some l) = load_has l.constant (number l.register) (register_lt l.register)
 
 has_append : {ws vs : List ℕ} {fs gs : List Format} → InFormats ws fs → InFormats vs gs → InFormats (ws ++ vs) (fs ++ gs)
 has_append no_words k = k

@@ -1,5 +1,5 @@
 -- The words of each pseudo-instruction load its constant, and then have its formats. Assumes nothing.
-use Rattle.std.specs.Prelude.{ℕ, ◌<◌, refl, Bool, true, false, List, [], ◌∷◌, ◌++◌}
+use Rattle.std.specs.Prelude.{ℕ, ◌<◌, refl, Bool, true, false, List, [], ◌∷◌, ◌++◌, Some}
 use Rattle.std.proofs.Common.{subst, append_assoc, lit<}
 use Rattle.jobs.specs.declared.Job.{Job}
 use Rattle.jobs.specs.declared.Job.TheVariants.{Commit, Manual}
@@ -9,7 +9,6 @@ use Rattle.registers.specs.NumberLaws.{register_lt}
 use Rattle.registers.specs.declared.RegisterSlot.{RegisterSlot}
 use Rattle.registers.specs.declared.RegisterSlot.TheVariants.{Zero, AssemblerTemporary}
 use Rattle.instructions.specs.declared.Opcode.TheVariants.{Op, Func}
-use Rattle.instructions.specs.declared.Alternative.TheVariants.{Some}
 use Rattle.pseudo_names.specs.declared.Pseudo.{Pseudo}
 use Rattle.pseudo_names.specs.declared.Pseudo.TheVariants.{Nop, Abs, BranchCustom, SetCustom, Beqz, Bnez, Seq, Sne, Neg, Negu, Not, Li, La, Move, B, Subi, Subiu}
 use Rattle.address_label.specs.declared.AddressLabel.{AddressLabel}

@@ -1,7 +1,6 @@
 -- Which constant a line loads, and into which register: at most one, before the words of its own instructions. A constant that stands in an
 -- instruction's own immediate field is not loaded; nor is a name, whose halves wait for the build. Assumes nothing.
-use Rattle.std.specs.Prelude.{ℕ, true, false, List, []}
-use Rattle.std.proofs.Math.Option.{Option, none, some}
+use Rattle.std.specs.Prelude.{ℕ, true, false, List, [], Option, None, Some}
 use Rattle.registers.specs.Numbers.{register_number}
 use Rattle.registers.specs.declared.RegisterSlot.{RegisterSlot}
 use Rattle.registers.specs.declared.RegisterSlot.TheVariants.{AssemblerTemporary}
@@ -26,7 +25,7 @@ pub record LoadedConstant : Type 0 where
   pub register : RegisterSlot
 
 abbrev pub into : RegisterSlot → ℕ → Option LoadedConstant
-into r c = some (record { constant = c; register = r })
+into r c = Some (record { constant = c; register = r })
 
 abbrev pub into_at : ℕ → Option LoadedConstant
 into_at = into AssemblerTemporary
@@ -35,75 +34,75 @@ into_at = into AssemblerTemporary
 
 -- a register or a number
 abbrev pub value_loads : InstructionValue → Option LoadedConstant
-value_loads (Slot r) = none
+value_loads (Slot r) = None
 value_loads (Literal n) = into_at n
 
 -- the third operand of Inputs
 abbrev pub maybe_loads : Option InstructionValue → Option LoadedConstant
-maybe_loads none = none
-maybe_loads (some value) = value_loads value
+maybe_loads None = None
+maybe_loads (Some value) = value_loads value
 
 -- an immediate or an offset before a brace: "tested as signed 64-bit"; in range it stands in the instruction
 abbrev pub immediate_loads : ℕ → Option LoadedConstant
-immediate_loads c = elim (is_immediate c) [ true ↦ none | false ↦ into_at c ]
+immediate_loads c = elim (is_immediate c) [ true ↦ None | false ↦ into_at c ]
 
 abbrev pub label_loads : RegisterSlot → AddressLabel → Option LoadedConstant
 label_loads r (Constant c) = into r c
-label_loads r (Label name) = none
+label_loads r (Label name) = None
 
 -- an address is loaded whole ("folding `lw $t0,4` into an offset from $zero" is an error)
 abbrev pub offset_loads : OffsetOrLabel → Option LoadedConstant
 offset_loads (Address label) = label_loads AssemblerTemporary label
 offset_loads (Based (Constant c) r) = immediate_loads c
-offset_loads (Based (Label name) r) = none
+offset_loads (Based (Label name) r) = None
 
 -- ---- by line: x.0, x.1 and x.2 are its operands, left to right
 
 abbrev pub encoding_loads : (e : Encoding) → AskedAll (encoding_wants e) → Option LoadedConstant
 encoding_loads Register x = value_loads x.2
-encoding_loads RegisterShift x = none
-encoding_loads Source x = none
-encoding_loads Destination x = none
+encoding_loads RegisterShift x = None
+encoding_loads Source x = None
+encoding_loads Destination x = None
 encoding_loads Inputs x = maybe_loads x.2
-encoding_loads Sham x = none
-encoding_loads SpecialBranch x = none
+encoding_loads Sham x = None
+encoding_loads SpecialBranch x = None
 encoding_loads (Immediate alt) x = immediate_loads x.2
-encoding_loads LoadImmediate x = none
-encoding_loads Jump x = none
+encoding_loads LoadImmediate x = None
+encoding_loads Jump x = None
 encoding_loads Branch x = value_loads x.1
-encoding_loads BranchZero x = none
-encoding_loads Parameterless x = none
+encoding_loads BranchZero x = None
+encoding_loads Parameterless x = None
 encoding_loads Offset x = offset_loads x.1
 encoding_loads FPOffset x = offset_loads x.1
-encoding_loads (FP3Register fmt) x = none
-encoding_loads (FP2Register fmt) x = none
-encoding_loads (FPMove fmt flag) x = none
-encoding_loads (FPCond fmt) x = none
-encoding_loads (FPCrossMove flag) x = none
-encoding_loads (FPBranch flag) x = none
+encoding_loads (FP3Register fmt) x = None
+encoding_loads (FP2Register fmt) x = None
+encoding_loads (FPMove fmt flag) x = None
+encoding_loads (FPCond fmt) x = None
+encoding_loads (FPCrossMove flag) x = None
+encoding_loads (FPBranch flag) x = None
 
 -- "subi and subiu negate theirs first, wrapping"
 abbrev pub pseudo_loads : (p : Pseudo) → AskedAll (pseudo_wants p) → Option LoadedConstant
-pseudo_loads Nop x = none
-pseudo_loads Abs x = none
+pseudo_loads Nop x = None
+pseudo_loads Abs x = None
 pseudo_loads (BranchCustom greater result unsigned) x = value_loads x.1
 pseudo_loads (SetCustom greater result unsigned) x = value_loads x.2
-pseudo_loads Beqz x = none
-pseudo_loads Bnez x = none
+pseudo_loads Beqz x = None
+pseudo_loads Bnez x = None
 pseudo_loads Seq x = value_loads x.2
 pseudo_loads Sne x = value_loads x.2
-pseudo_loads Neg x = none
-pseudo_loads Negu x = none
-pseudo_loads Not x = none
+pseudo_loads Neg x = None
+pseudo_loads Negu x = None
+pseudo_loads Not x = None
 pseudo_loads Li x = into x.0 x.1
 pseudo_loads La x = label_loads x.0 x.1
-pseudo_loads Move x = none
-pseudo_loads B x = none
+pseudo_loads Move x = None
+pseudo_loads B x = None
 pseudo_loads Subi x = immediate_loads (with_sign true x.2)
 pseudo_loads Subiu x = immediate_loads (with_sign true x.2)
 
 -- ---- the words that load it
 
 abbrev pub loading_words : Option LoadedConstant → List ℕ
-loading_words none = []
-loading_words (some l) = load_words l.constant (register_number l.register)
+loading_words None = []
+loading_words (Some l) = load_words l.constant (register_number l.register)

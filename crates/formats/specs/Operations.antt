@@ -1,6 +1,5 @@
 -- What a mnemonic stands for: an encoding with its opcode, or a pseudo-instruction. Assumes nothing.
-use Rattle.std.specs.Prelude.{ℕ, List, map}
-use Rattle.std.proofs.Math.Option.{Option}
+use Rattle.std.specs.Prelude.{ℕ, List, map, Option}
 use Rattle.jobs.specs.declared.Job.{Job}
 use Rattle.instructions.specs.declared.Opcode.{Opcode}
 use Rattle.instructions.specs.declared.Encoding.{Encoding}

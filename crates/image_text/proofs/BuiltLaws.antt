@@ -1,37 +1,33 @@
 -- The region list that an accepted build leaves keeps its layout, and one over the limit is refused whatever it holds. Assumes nothing.
-use Rattle.std.specs.Prelude.{◌≡◌, ℕ, ◌<◌, Bool, true, false, List, length, take, nat_le, refl}
+use Rattle.std.specs.Prelude.{◌≡◌, ℕ, ◌<◌, Bool, true, false, List, length, take, nat_le, refl, Err, None, Ok}
 use Rattle.std.proofs.Common.{arith, ap, length-take, take_all, leb-true, leb-false}
 use Rattle.jobs.specs.declared.Job.{Job}
 use Rattle.record.specs.Records.{limit}
-use Rattle.record.specs.declared.Layout.TheVariants.{Good}
-use Rattle.refusal.specs.Verdicts.{and_then, layout_verdict}
+use Rattle.refusal.specs.Verdicts.{and_then, layout_verdict, Verdict}
 use Rattle.refusal.specs.declared.Refusal.{Refusal}
-use Rattle.refusal.specs.declared.Verdict.{Verdict}
-use Rattle.refusal.specs.declared.Verdict.TheVariants.{Pass, Stop}
 use Rattle.labels.specs.Labels.{label_layout, Table}
 use Rattle.address_label.specs.Entries.{entry_layout}
 use Rattle.regions.specs.Regions.{region_layout}
 use Rattle.regions.proofs.RegionsLaws.{layout_long}
-use Rattle.build_outcome.specs.declared.Built.TheVariants.{Entry}
 use Rattle.build_outcome.specs.Build.{layout_verdicts, build_verdict, outcome_by, build_outcome}
 use Rattle.build_outcome.proofs.BuildLaws.{outcome_accepted, outcome_refused}
 use Rattle.finished_words.proofs.AcceptedLaws.{finished_kept}
 use Rattle.image_text.specs.Image.{outcome_text, build_text}
 
 module _ (job : Job) (labels : Table) (entry regions pending : List ℕ) where
-  pub accepted_layout : (address : ℕ) → (build_outcome job labels entry regions pending).answer ≡ Entry address → region_layout (build_outcome job labels entry regions pending).regions ≡ Good
+  pub accepted_layout : (address : ℕ) → (build_outcome job labels entry regions pending).answer ≡ Ok address → region_layout (build_outcome job labels entry regions pending).regions ≡ None
   accepted_layout address h = go (build_verdict job labels entry regions pending) refl
     where
-      go : (v : Verdict) → build_verdict job labels entry regions pending ≡ v → region_layout (build_outcome job labels entry regions pending).regions ≡ Good
-      go Pass e = rw (outcome_accepted job labels entry regions pending e).1 (finished_kept job labels entry regions pending e).layout_good
-      go (Stop r) e = cc (outcome_refused job labels entry regions pending r e).0
+      go : (v : Verdict) → build_verdict job labels entry regions pending ≡ v → region_layout (build_outcome job labels entry regions pending).regions ≡ None
+      go (Ok tt) e = rw (outcome_accepted job labels entry regions pending e).1 (finished_kept job labels entry regions pending e).layout_good
+      go (Err r) e = cc (outcome_refused job labels entry regions pending r e).0
 
 -- what was refused does not show what follows
-stopped : (a b v w : Verdict) (r : Refusal) (address : ℕ) (d₁ r₁ d₂ r₂ : List ℕ) → let o₁ = outcome_by (and_then (and_then a (and_then b (Stop r))) v) address d₁ r₁ in
-    let o₂ = outcome_by (and_then (and_then a (and_then b (Stop r))) w) address d₂ r₂ in outcome_text o₁.answer o₁.regions ≡ outcome_text o₂.answer o₂.regions
-stopped Pass Pass v w r address d₁ r₁ d₂ r₂ = refl
-stopped Pass (Stop b) v w r address d₁ r₁ d₂ r₂ = refl
-stopped (Stop a) b v w r address d₁ r₁ d₂ r₂ = refl
+stopped : (a b v w : Verdict) (r : Refusal) (address : ℕ) (d₁ r₁ d₂ r₂ : List ℕ) → let o₁ = outcome_by (and_then (and_then a (and_then b (Err r))) v) address d₁ r₁ in
+    let o₂ = outcome_by (and_then (and_then a (and_then b (Err r))) w) address d₂ r₂ in outcome_text o₁.answer o₁.regions ≡ outcome_text o₂.answer o₂.regions
+stopped (Ok tt) (Ok tt) v w r address d₁ r₁ d₂ r₂ = refl
+stopped (Ok tt) (Err b) v w r address d₁ r₁ d₂ r₂ = refl
+stopped (Err a) b v w r address d₁ r₁ d₂ r₂ = refl
 
 module _ (job : Job) (labels entry pending : List ℕ) where
   long_text : (r s : List ℕ) → limit < length r → limit < length s → build_text job labels entry r pending ≡ build_text job labels entry s pending

@@ -1,11 +1,10 @@
 -- How long an image's text is at most: six times as long as its region list, and the entry's line. Assumes nothing.
-use Rattle.std.specs.Prelude.{◌≡◌, ℕ, ◌+◌, ◌-◌, ◌*◌, ◌≤◌, List, [], ◌∷◌, ◌++◌, map, length}
+use Rattle.std.specs.Prelude.{◌≡◌, ℕ, ◌+◌, ◌-◌, ◌*◌, ◌≤◌, List, [], ◌∷◌, ◌++◌, map, length, None}
 use Rattle.std.proofs.Common.{arith, ⊎_elim, sym, length-append, length-take}
 use mathlib.Core.List.{flatten}
 use Rattle.record.specs.Bytes.{part}
 use Rattle.record.specs.Records.{body_len, next, places, places_from, first_bad}
 use Rattle.record.proofs.RecordsLaws.{places_all, places_cons, first_good}
-use Rattle.record.specs.declared.Layout.TheVariants.{Good}
 use Rattle.regions.specs.Regions.{region_ok, region_layout}
 use Rattle.regions.proofs.RegionsLaws.{RegionIs, region_is, region_good}
 use Rattle.reading.specs.Reading.{ImageRegion, image_region, image_of}
@@ -44,7 +43,7 @@ one_most s at number i =
     let b : length (part s (at + 8) (body_len s at - 4)) ≤ body_len s at - 4 = simp length-take (omega arith) in
     omega (arith, region_most number (image_region s at))
 
-all_most : (s : List ℕ) (at : ℕ) (ps : List ℕ) (number : ℕ) → places_from s at ≡ ps → first_bad (region_ok s) ps ≡ Good → at ≤ length s
+all_most : (s : List ℕ) (at : ℕ) (ps : List ℕ) (number : ℕ) → places_from s at ≡ ps → first_bad (region_ok s) ps ≡ None → at ≤ length s
     → length (regions_text number (map (image_region s) ps)) + 6 * at ≤ 6 * length s
 unfolding regions_text
 all_most s at [] number e g h = omega arith
@@ -59,7 +58,7 @@ all_most s at (p ∷ ps) number e g h =
     (λ w. let z : ◌≡◌ {A = ℕ} 0 1 = cc i.whole_at in absurd (omega arith))
     c.2
 
-pub image_most : (s : List ℕ) (entry : ℕ) → region_layout s ≡ Good → length (image_text entry (image_of s)) ≤ 393231
+pub image_most : (s : List ℕ) (entry : ℕ) → region_layout s ≡ None → length (image_text entry (image_of s)) ≤ 393231
 unfolding image_of
 image_most s entry g =
     let r = region_good s g in

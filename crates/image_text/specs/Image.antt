@@ -1,5 +1,5 @@
 -- What `finish` prints (document 01, `finish`), in each sort of job (document 02, P5). Assumes nothing.
-use Rattle.std.specs.Prelude.{ℕ, ◌+◌, List, [], ◌∷◌, ◌++◌, map}
+use Rattle.std.specs.Prelude.{ℕ, ◌+◌, List, [], ◌∷◌, ◌++◌, map, Err, Ok, Result}
 use mathlib.Core.List.{flatten}
 use Rattle.io.specs.Digits.{last_digits}
 use Rattle.jobs.specs.declared.Job.{Job}
@@ -7,13 +7,12 @@ use Rattle.jobs.specs.declared.Job.TheVariants.{Commit}
 use Rattle.pseudo_names.specs.PseudoNames.{bytes_of}
 use Rattle.labels.specs.Labels.{table_of}
 use Rattle.refusal.specs.Numbers.{numbered}
-use Rattle.build_outcome.specs.declared.Built.{Built}
-use Rattle.build_outcome.specs.declared.Built.TheVariants.{Entry, Refused}
 use Rattle.build_outcome.specs.Build.{build_outcome}
 use Rattle.reading.specs.Reading.{ImageRegion, Image, image_of}
 use Rattle.reading.specs.Rows.{Row, rows}
 use Rattle.input.specs.Input.{list_of}
 use Rattle.text.specs.Text.{field, word_text, refused_line}
+use Rattle.refusal.specs.declared.Refusal.{Refusal}
 
 -- "Entry, address, pc and word have eight lower-case hexadecimal digits each"
 abbrev pub eight : ℕ → List ℕ
@@ -48,9 +47,9 @@ abbrev pub image_text : (entry : ℕ) → Image → List ℕ
 image_text entry image = entry_line entry ++ regions_text 0 image
 
 -- "A refusal prints alone"
-abbrev pub outcome_text : Built → (regions : List ℕ) → List ℕ
-outcome_text (Entry entry) regions = image_text entry (image_of regions)
-outcome_text (Refused r) regions = refused_line (numbered r)
+abbrev pub outcome_text : Result ℕ Refusal → (regions : List ℕ) → List ℕ
+outcome_text (Ok entry) regions = image_text entry (image_of regions)
+outcome_text (Err r) regions = refused_line (numbered r)
 
 abbrev pub build_text : Job → (labels entry regions pending : List ℕ) → List ℕ
 build_text job labels entry regions pending = let o = build_outcome job (table_of labels) entry regions pending in outcome_text o.answer o.regions

@@ -7,9 +7,7 @@ ghost use Rattle.reading.specs.Reading.{image_region, image_of};
 ghost use Rattle.text.specs.Text.{Put};
 ghost use Rattle.image_text.specs.Image.{data_lines, region_text, regions_text, build_text, finish_text_by, finish_text};
 
-use build_outcome::Built;
 use jobs::Job;
-use record::Layout;
 
 mod lines;
 
@@ -35,7 +33,7 @@ fn put_data(out: &mut [u8], at: usize, address: u32, data: &[u8]) -> usize
 
 // The region of that number.
 fn put_region(out: &mut [u8], at: usize, regions: &[u8], number: usize) -> usize
-    requires regions_value { region_layout regions.now ≡ Layout.Good }
+    requires regions_value { region_layout regions.now ≡ None }
     requires number_bound { number < region_count regions.now }
     requires number_in_bounds { at + length (region_text number (image_region regions.now (region_place regions.now number))) ≤ length out.old }
     ensures { Put out.old at
@@ -50,7 +48,7 @@ fn put_region(out: &mut [u8], at: usize, regions: &[u8], number: usize) -> usize
 }
 
 fn put_regions(out: &mut [u8], at: usize, regions: &[u8]) -> usize
-    requires regions_value { region_layout regions.now ≡ Layout.Good }
+    requires regions_value { region_layout regions.now ≡ None }
     requires regions_in_bounds { at + length (regions_text 0 (image_of regions.now)) ≤ length out.old }
     ensures { Put out.old at (regions_text 0 (image_of regions.now)) out.new result }
 {
@@ -78,8 +76,8 @@ fn put_build(
         (build_text job labels.now entry.now regions.old pending.now) out.new result }
 {
     match binary_builder::build_for(job, labels, entry, &mut *regions, pending) {
-        Built::Refused(refusal) => text::put_refusal(out, 0, refusal::numbers(refusal)),
-        Built::Entry(address) => {
+        Err(refusal) => text::put_refusal(out, 0, refusal::numbers(refusal)),
+        Ok(address) => {
             let at = lines::put_entry(&mut *out, 0, address);
             put_regions(out, at, &*regions)
         }

@@ -1,15 +1,12 @@
 -- The check of a whole index: what is read so far is seen and its bytes are those read; where the bytes are the index's, each record passes. Assumes nothing.
-use Rattle.std.specs.Prelude.{ℕ, zero, suc, ◌+◌, ◌≤◌, ◌<◌, List, [], ◌∷◌, ◌++◌, Bool, true, false, ◌≡◌, refl, length, take, drop, get_or, eqb}
+use Rattle.std.specs.Prelude.{ℕ, zero, suc, ◌+◌, ◌≤◌, ◌<◌, List, [], ◌∷◌, ◌++◌, Bool, true, false, ◌≡◌, refl, length, take, drop, get_or, eqb, None, Option}
 use Rattle.std.proofs.Common.{arith, add-one, append_assoc, sym, ap, ap₂, ◌∙◌, length-take-le, drop-cons, eqb-true, eq-eqb, ne_eqb}
 use mathlib.Core.List.Memᴰ
-use Rattle.std.proofs.Math.Option.{Option}
 use Rattle.std.proofs.Math.Seq.{drop-length}
 use Rattle.std.proofs.lemmas.Bool.{eqb-false}
 use Rattle.record.specs.Bytes.{byte_at, same_bytes}
 use Rattle.record.proofs.BytesLaws.{same_eq, eq_same}
 use Rattle.record.specs.Records.{next, places, first_bad}
-use Rattle.record.specs.declared.Layout.TheVariants.{Good}
-use Rattle.name_order.specs.declared.Ordered.TheVariants.{Less}
 use Rattle.address_label.proofs.AddressLabelsLaws.{at_constant, at_named}
 use Rattle.pending.specs.Pendings.{label_of, pending_ok}
 use Rattle.label_uses.specs.Uses.{UseKey, Use, use_order, uses_of}
@@ -24,6 +21,7 @@ use Rattle.label_uses.proofs.CheckedLaws.{AllBefore, before_none, before_next, s
 use Rattle.use_adding.specs.Adding.{UseAt}
 use Rattle.index_check.specs.Checks.{RecordIn, RecordFine, names_in}
 use Rattle.index_check.proofs.NumbersLaws.{seen_rightly, rightly_seen}
+use Rattle.std.specs.declared.cmp.Ordering.TheVariants.{Less}
 
 -- ---- the answer
 pub same_no : (a b : List ℕ) → (a ≡ b → ⊥) → false ≡ same_bytes a b
@@ -107,7 +105,7 @@ module _ (labels pending s : List ℕ) (fill at last sum : ℕ) (c : Checked lab
         right = r.right;
       }
 
-  module _ (lb : AllBytes labels) (pb : AllBytes pending) (g : first_bad (pending_ok 16 pending) (places pending) ≡ Good) (pl : length pending ≤ 65536) (sl : length s ≤ 65536) (fl : fill ≤ length s) where
+  module _ (lb : AllBytes labels) (pb : AllBytes pending) (g : first_bad (pending_ok 16 pending) (places pending) ≡ None) (pl : length pending ≤ 65536) (sl : length s ≤ 65536) (fl : fill ≤ length s) where
     place_is : length (uses_bytes l) ≡ at
     place_is = ap length c.bytes ∙ length-take-le at s (omega (arith, c.within))
 

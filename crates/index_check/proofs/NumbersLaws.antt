@@ -4,8 +4,7 @@ use native.Mathlib.Omega.{arith}
 use mathlib.Core.List.Memᴰ
 use mathlib.Core.List.{List, [], ◌∷◌, Memᴰ}
 use Rattle.std.proofs.Math.Logic.{⊎_elim}
-use Rattle.std.proofs.Math.Option.{some}
-use Rattle.std.specs.Prelude.{◌≡◌, length}
+use Rattle.std.specs.Prelude.{◌≡◌, length, Some}
 use Rattle.std.proofs.Math.Path.{refl, ap}
 use Rattle.std.proofs.Common.{◌∙◌, subst}
 use Rattle.record.specs.Bytes.{le16}
@@ -23,7 +22,7 @@ module _ (labels pending : List ℕ) (key : UseKey) (s : List ℕ) where
   pub record OneRight (i least : ℕ) : Type 0 where
     pub above : least ≤ le16 s i
     pub below : le16 s i < length (places pending)
-    pub named : key_at labels pending (le16 s i) ≡ some key
+    pub named : key_at labels pending (le16 s i) ≡ Some key
 
   pub numbers_end : (left i least : ℕ) → left ≤ 0 → NumbersFrom labels pending key s left i least
   numbers_end zero i least h = none_left
@@ -43,12 +42,12 @@ module _ (labels pending : List ℕ) (key : UseKey) (s : List ℕ) where
 
   -- ---- beside what an index asks
   abbrev Right : List ℕ → Type 0
-  Right ns = (n : ℕ) → Memᴰ n ns → (n < length (places pending)) × (key_at labels pending n ≡ some key)
+  Right ns = (n : ℕ) → Memᴰ n ns → (n < length (places pending)) × (key_at labels pending n ≡ Some key)
 
   pub record Rightly (ns : List ℕ) (least : ℕ) : Type 0 where
     pub rising : NumbersRise ns
     pub from_least : (n : ℕ) → Memᴰ n ns → least ≤ n
-    pub right : (n : ℕ) → Memᴰ n ns → (n < length (places pending)) × (key_at labels pending n ≡ some key)
+    pub right : (n : ℕ) → Memᴰ n ns → (n < length (places pending)) × (key_at labels pending n ≡ Some key)
 
   rise_cons : (n : ℕ) (ns : List ℕ) → NumbersRise ns → ((m : ℕ) → Memᴰ m ns → n + 1 ≤ m) → NumbersRise (n ∷ ns)
   rise_cons n [] r h = last

@@ -1,20 +1,16 @@
 -- What the check of a handed-in index looks at: each record, its key behind the last one's, and its numbers. Assumes nothing.
-use Rattle.std.specs.Prelude.{ℕ, zero, suc, ◌+◌, ◌≤◌, ◌<◌, List, [], ◌∷◌, Bool, true, false, ◌≡◌, length, eqb}
-use Rattle.std.proofs.Math.Option.{some}
+use Rattle.std.specs.Prelude.{ℕ, zero, suc, ◌+◌, ◌≤◌, ◌<◌, List, [], ◌∷◌, Bool, true, false, ◌≡◌, length, eqb, None, Option, Some}
 use Rattle.record.specs.Bytes.{byte_at, le16, part, same_bytes}
 use Rattle.record.specs.Records.{next, places, first_bad}
-use Rattle.record.specs.declared.Layout.TheVariants.{Good}
 use Rattle.names.specs.Owners.{has_owned_name}
 use Rattle.name_index.specs.Index.{IndexOf}
-use Rattle.name_order.specs.declared.Ordered.TheVariants.{Less}
 use Rattle.address_label.specs.declared.AddressLabel.{AddressLabel}
 use Rattle.address_label.specs.declared.AddressLabel.TheVariants.{Constant, Label}
 use Rattle.pending.specs.Pendings.{pending_ok}
 use Rattle.label_uses.specs.Uses.{UseKey, use_order}
 use Rattle.label_uses.specs.ReadUse.{count_at, key_read, RecordOk}
 use Rattle.label_uses.specs.Says.{key_at}
-use Rattle.index_check.specs.declared.NameSource.{NameSource}
-use Rattle.index_check.specs.declared.NameSource.TheVariants.{Of, Other}
+use Rattle.std.specs.declared.cmp.Ordering.TheVariants.{Less}
 
 -- a test says whether something holds
 abbrev pub Tells : Bool → Type 0 → Type 0
@@ -28,9 +24,9 @@ pub record RecordIn (s : List ℕ) (fill at : ℕ) : Type 0 where
   pub counted : 0 < count_at s at
 
 -- the source of a label's name, if it is that name
-abbrev pub source_in : (pending name : List ℕ) → AddressLabel → NameSource
-source_in pending name (Constant value) = Other
-source_in pending name (Label l) = elim (same_bytes (part pending l.name_at l.name_len) name) [ true ↦ Of l.location.source | false ↦ Other ]
+abbrev pub source_in : (pending name : List ℕ) → AddressLabel → Option ℕ
+source_in pending name (Constant value) = None
+source_in pending name (Label l) = elim (same_bytes (part pending l.name_at l.name_len) name) [ true ↦ Some l.location.source | false ↦ None ]
 
 -- where something was looked up, a name of that source has the key
 abbrev pub StandsFrom : Bool → UseKey → UseKey → Type 0
@@ -40,15 +36,15 @@ StandsFrom false a b = Unit {0}
 -- numbers of two bytes from place i on, as many as are left: each at least one more than the one before it, and that of a pending with the key
 pub data NumbersFrom (labels pending : List ℕ) (key : UseKey) (s : List ℕ) : (left i least : ℕ) → Type 0 where
   none_left : {i least : ℕ} → NumbersFrom labels pending key s zero i least
-  one_right : {left i least : ℕ} → least ≤ le16 s i → le16 s i < length (places pending) → key_at labels pending (le16 s i) ≡ some key
+  one_right : {left i least : ℕ} → least ≤ le16 s i → le16 s i < length (places pending) → key_at labels pending (le16 s i) ≡ Some key
       → NumbersFrom labels pending key s left (i + 2) (le16 s i + 1) → NumbersFrom labels pending key s (suc left) i least
 
 -- labels that have names, with an index of them, and pendings that keep their layout, with their places
 pub record Lists (labels order pending ps : List ℕ) : Type 0 where
-  pub labels_named : first_bad (has_owned_name 4 labels) (places labels) ≡ Good
+  pub labels_named : first_bad (has_owned_name 4 labels) (places labels) ≡ None
   pub ordered : IndexOf 4 labels order
   pub few : length order < 65536
-  pub kept : first_bad (pending_ok 16 pending) (places pending) ≡ Good
+  pub kept : first_bad (pending_ok 16 pending) (places pending) ≡ None
   pub places_are : ps ≡ places pending
 
 -- the record at `at`, behind the one at `last` if it is not the first

@@ -6,7 +6,6 @@ ghost use Rattle.record.specs.Bytes.{same_bytes};
 ghost use Rattle.record.specs.Records.{places, first_bad, limit};
 ghost use Rattle.names.specs.Owners.{has_owned_name};
 ghost use Rattle.name_index.specs.Index.{IndexOf};
-ghost use Rattle.name_order.specs.declared.Ordered.TheVariants.{Less};
 ghost use Rattle.labels.specs.Labels.{label_layout, label_repeat};
 ghost use Rattle.pending.specs.Pendings.{label_of, pending_ok};
 ghost use Rattle.pending.specs.Pendings.{PendingIs};
@@ -18,9 +17,7 @@ ghost use Rattle.index_check.specs.Checks.{Tells, RecordIn, source_in, StandsFro
 
 use address_label::AddressLabel;
 use label_uses::Standing;
-use name_order::Ordered;
-use names::Repeat;
-use record::Layout;
+use std::cmp::Ordering;
 
 // The most pendings of a list: one has 36 bytes at least.
 const MOST_PENDINGS: usize = 1820;
@@ -31,15 +28,8 @@ const USE: usize = 39;
 // What is found of an index and its labels.
 #[derive(Clone, Copy)]
 pub struct UsesChecked {
-    pub layout: Layout,
-    pub repeat: Repeat,
-}
-
-// The source of a name that was asked for, or that a pending has no such name.
-#[derive(Clone, Copy)]
-enum NameSource {
-    Of(u32),
-    Other,
+    pub layout: Option<usize>,
+    pub repeat: Option<usize>,
 }
 
 // The source whose standing was looked up last, if there is one.
@@ -106,9 +96,9 @@ fn key_rises(index: &[u8], last: usize, at: usize) -> bool
 {
     let standing = standing_at(index, last);
     match use_adding::order_at(index, at, name_at(index, last), standing) {
-        Ordered::Less => true,
-        Ordered::Same => false,
-        Ordered::More => false,
+        Ordering::Less => true,
+        Ordering::Equal => false,
+        Ordering::Greater => false,
     }
 }
 
@@ -124,20 +114,20 @@ fn key_follows(index: &[u8], last: usize, at: usize) -> bool
 }
 
 // The source of the name of the pending at `at`, if it is that name.
-fn source_of(pending: &[u8], at: usize, name: &[u8]) -> NameSource
+fn source_of(pending: &[u8], at: usize, name: &[u8]) -> Option<u32>
     requires { PendingIs pending.now at }
     ensures { result ≡ source_in pending.now name.now (label_of pending.now at) }
 {
     let waits = pending::read_pending(pending, at);
     let label = waits.label;
     match label {
-        AddressLabel::Constant(_) => NameSource::Other,
+        AddressLabel::Constant(_) => None,
         AddressLabel::Label(l) => {
             let location = l.location;
             if record::same(address_label::name_of(pending, label), name) {
-                NameSource::Of(location.source)
+                Some(location.source)
             } else {
-                NameSource::Other
+                None
             }
         }
     }
@@ -145,15 +135,15 @@ fn source_of(pending: &[u8], at: usize, name: &[u8]) -> NameSource
 
 // Whether a name of a source stands for that, by an index of the labels.
 fn stands_for(labels: &[u8], order: &[u16], source: u32, name: &[u8], standing: Standing) -> bool
-    requires labels_value { first_bad (has_owned_name 4 labels.now) (places labels.now) ≡ Layout.Good }
+    requires labels_value { first_bad (has_owned_name 4 labels.now) (places labels.now) ≡ None }
     requires index_of { IndexOf 4 labels.now order.now × (length order.now < 65536) }
     ensures { Tells result (key_for labels.now source name.now ≡ key_with name.now standing) }
 {
     let met = use_adding::standing_of(labels, order, source, name);
     match use_adding::order_standing(met, standing.known, standing.owner) {
-        Ordered::Less => false,
-        Ordered::Same => true,
-        Ordered::More => false,
+        Ordering::Less => false,
+        Ordering::Equal => true,
+        Ordering::Greater => false,
     }
 }
 
@@ -166,7 +156,7 @@ fn still_stands(
     name: &[u8],
     standing: Standing,
 ) -> bool
-    requires labels_value { first_bad (has_owned_name 4 labels.now) (places labels.now) ≡ Layout.Good }
+    requires labels_value { first_bad (has_owned_name 4 labels.now) (places labels.now) ≡ None }
     requires index_of { IndexOf 4 labels.now order.now × (length order.now < 65536) }
     requires stands_from { StandsFrom last.some (key_for labels.now last.source name.now) (key_with name.now standing) }
     ensures { Tells result (key_for labels.now source name.now ≡ key_with name.now standing) }
@@ -210,10 +200,10 @@ fn numbers_right(
             return false;
         }
         match source_of(pending, record::widened(places[n]), name) {
-            NameSource::Other => {
+            None => {
                 return false;
             }
-            NameSource::Of(source) => {
+            Some(source) => {
                 if !still_stands(last, labels, order, source, name, standing) {
                     return false;
                 }
@@ -253,7 +243,7 @@ fn record_fine(
 
 // How many pendings name a label.
 fn count_names(pending: &[u8], places: &[u16]) -> usize
-    requires { first_bad (pending_ok 16 pending.now) places.now ≡ Layout.Good }
+    requires { first_bad (pending_ok 16 pending.now) places.now ≡ None }
     ensures { result ≡ names_in pending.now places.now }
 {
     let mut n: usize = 0;
@@ -298,33 +288,33 @@ fn is_index(
 }
 
 // Refusal 1 for an index: over the limit, a fill count over its length, or any other bytes than those of the index made afresh.
-fn check_index(index: &[u8], fill: usize, pending: &[u8], labels: &[u8], order: &[u16]) -> Layout
-    requires pending_value { first_bad (pending_ok 16 pending.now) (places pending.now) ≡ Layout.Good }
+fn check_index(index: &[u8], fill: usize, pending: &[u8], labels: &[u8], order: &[u16]) -> Option<usize>
+    requires pending_value { first_bad (pending_ok 16 pending.now) (places pending.now) ≡ None }
     requires pending_len_bound { length pending.now ≤ limit }
-    requires labels_value { first_bad (has_owned_name 4 labels.now) (places labels.now) ≡ Layout.Good }
+    requires labels_value { first_bad (has_owned_name 4 labels.now) (places labels.now) ≡ None }
     requires index_of { IndexOf 4 labels.now order.now × (length order.now < 65536) }
     ensures { result ≡ index_layout labels.now pending.now fill index.now }
 {
     if index.len() > record::LIMIT {
-        return Layout::Bad(record::LIMIT);
+        return Some(record::LIMIT);
     }
     if fill > index.len() {
-        return Layout::Bad(index.len());
+        return Some(index.len());
     }
     let mut places = [0u16; MOST_PENDINGS];
     let n = name_index::fill(pending, 0, &mut places);
     if is_index(index, fill, pending, &places[..n], labels, order) {
-        Layout::Good
+        None
     } else {
-        Layout::Bad(0)
+        Some(0)
     }
 }
 
 // What a label list and an index that are handed in are found to be: how the index is laid out, and whether a label repeats another's name. Labels
 // are not yet known to be distinct where the index is looked at: a wrong index goes before two labels of one name.
 pub fn check_uses(index: &[u8], fill: usize, pending: &[u8], labels: &[u8]) -> UsesChecked
-    requires pending_value { (first_bad (pending_ok 16 pending.now) (places pending.now) ≡ Layout.Good) × (length pending.now ≤ limit) }
-    requires labels_value { label_layout labels.now ≡ Layout.Good }
+    requires pending_value { (first_bad (pending_ok 16 pending.now) (places pending.now) ≡ None) × (length pending.now ≤ limit) }
+    requires labels_value { label_layout labels.now ≡ None }
     ensures { (result.layout ≡ index_layout labels.now pending.now fill index.now) × (result.repeat ≡ label_repeat labels.now) }
 {
     let mut order = [0u16; labels::MOST];

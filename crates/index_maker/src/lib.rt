@@ -9,43 +9,41 @@ ghost use Rattle.pending.specs.Pendings.{pending_ok};
 ghost use Rattle.label_uses.specs.UseBytes.{index_of};
 ghost use Rattle.indexed_outcome.specs.Make.{make_layouts, room_for, make_by, make_outcome, made_of};
 
-use indexed_outcome::IndexAnswer;
-use names::Repeat;
-use record::{Layout, Location};
-use refusal::{Refusal, Verdict};
+use record::Location;
+use refusal::Refusal;
 
 // Refusal 1: the first buffer that breaks its layout.
-fn check_layouts(pending: &[u8], fill: usize, labels: &[u8], index: &[u8]) -> Verdict
+fn check_layouts(pending: &[u8], fill: usize, labels: &[u8], index: &[u8]) -> Result<(), Refusal>
     ensures { result ≡ make_layouts fill pending.now labels.now index.now }
 {
-    if let Layout::Bad(place) = breakpoints::check_pending_buffer(pending, fill) {
-        return Verdict::Stop(Refusal::BadLayout(0, place as u32));
+    if let Some(place) = breakpoints::check_pending_buffer(pending, fill) {
+        return Err(Refusal::BadLayout(0, place as u32));
     }
-    if let Layout::Bad(place) = labels::first_bad_label(labels) {
-        return Verdict::Stop(Refusal::BadLayout(1, place as u32));
+    if let Some(place) = labels::first_bad_label(labels) {
+        return Err(Refusal::BadLayout(1, place as u32));
     }
     if index.len() > record::LIMIT {
-        return Verdict::Stop(Refusal::BadLayout(2, 65536));
+        return Err(Refusal::BadLayout(2, 65536));
     }
-    Verdict::Pass
+    Ok(())
 }
 
 // Refusal 17, with a location of zeros.
-fn no_space() -> IndexAnswer
-    ensures { result ≡ IndexAnswer.Refused (Refusal.NoIndexSpace (record { source = 0; index = 0 })) }
+fn no_space() -> Result<u32, Refusal>
+    ensures { result ≡ Err (Refusal.NoIndexSpace (record { source = 0; index = 0 })) }
 {
     let nowhere = Location {
         source: 0,
         index: 0,
     };
-    IndexAnswer::Refused(Refusal::NoIndexSpace(nowhere))
+    Err(Refusal::NoIndexSpace(nowhere))
 }
 
 // The index into a buffer shorter than the pending list: it is made beside it, and copied if it has room.
-fn fill_shorter(index: &mut [u8], pending: &[u8], labels: &[u8], order: &[u16]) -> IndexAnswer
-    requires pending_value { first_bad (pending_ok 16 pending.now) (places pending.now) ≡ Layout.Good }
+fn fill_shorter(index: &mut [u8], pending: &[u8], labels: &[u8], order: &[u16]) -> Result<u32, Refusal>
+    requires pending_value { first_bad (pending_ok 16 pending.now) (places pending.now) ≡ None }
     requires pending_len_bound { (length pending.now ≤ limit) × (length index.old ≤ limit) }
-    requires labels_value { first_bad (has_owned_name 4 labels.now) (places labels.now) ≡ Layout.Good }
+    requires labels_value { first_bad (has_owned_name 4 labels.now) (places labels.now) ≡ None }
     requires index_of { IndexOf 4 labels.now order.now × (length order.now < 65536) }
     ensures { make_by (room_for (index_of labels.now pending.now) index.old) (index_of labels.now pending.now) index.old
         ≡ made_of result index.new }
@@ -56,14 +54,14 @@ fn fill_shorter(index: &mut [u8], pending: &[u8], labels: &[u8], order: &[u16]) 
         return no_space();
     }
     record::put_all(index, 0, &made[..n]);
-    IndexAnswer::Made(n as u32)
+    Ok(n as u32)
 }
 
 // The index at the start of its buffer. One as long as the pending list always has room for it.
-fn fill_or_refuse(index: &mut [u8], pending: &[u8], labels: &[u8], order: &[u16]) -> IndexAnswer
-    requires pending_value { first_bad (pending_ok 16 pending.now) (places pending.now) ≡ Layout.Good }
+fn fill_or_refuse(index: &mut [u8], pending: &[u8], labels: &[u8], order: &[u16]) -> Result<u32, Refusal>
+    requires pending_value { first_bad (pending_ok 16 pending.now) (places pending.now) ≡ None }
     requires pending_len_bound { (length pending.now ≤ limit) × (length index.old ≤ limit) }
-    requires labels_value { first_bad (has_owned_name 4 labels.now) (places labels.now) ≡ Layout.Good }
+    requires labels_value { first_bad (has_owned_name 4 labels.now) (places labels.now) ≡ None }
     requires index_of { IndexOf 4 labels.now order.now × (length order.now < 65536) }
     ensures { make_by (room_for (index_of labels.now pending.now) index.old) (index_of labels.now pending.now) index.old
         ≡ made_of result index.new }
@@ -71,22 +69,22 @@ fn fill_or_refuse(index: &mut [u8], pending: &[u8], labels: &[u8], order: &[u16]
     if index.len() < pending.len() {
         return fill_shorter(index, pending, labels, order);
     }
-    IndexAnswer::Made(use_adding::fill_index(index, pending, labels, order) as u32)
+    Ok(use_adding::fill_index(index, pending, labels, order) as u32)
 }
 
 // Makes the index of the first `fill` bytes of a pending buffer by a label list, and answers its fill count. Bytes behind it stay.
-pub fn make_index(pending: &[u8], fill: u32, labels: &[u8], index: &mut [u8]) -> IndexAnswer
+pub fn make_index(pending: &[u8], fill: u32, labels: &[u8], index: &mut [u8]) -> Result<u32, Refusal>
     ensures { make_outcome fill pending.now labels.now index.old ≡ made_of result index.new }
 {
     let kept = fill as usize;
-    if let Verdict::Stop(refusal) = check_layouts(pending, kept, labels, &*index) {
-        return IndexAnswer::Refused(refusal);
+    if let Err(refusal) = check_layouts(pending, kept, labels, &*index) {
+        return Err(refusal);
     }
     let mut order = [0u16; labels::MOST];
     let mut spare = [0u16; labels::MOST];
     let n = labels::make_index(labels, &mut order, &mut spare);
-    if let Repeat::Later(place) = labels::first_repeat(labels, &order[..n]) {
-        return IndexAnswer::Refused(Refusal::DuplicateName(1, place as u32));
+    if let Some(place) = labels::first_repeat(labels, &order[..n]) {
+        return Err(Refusal::DuplicateName(1, place as u32));
     }
     fill_or_refuse(index, &pending[..kept], labels, &order[..n])
 }

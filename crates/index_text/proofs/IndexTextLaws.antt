@@ -1,15 +1,12 @@
 -- An index buffer over its limit is refused, however long it is. Assumes nothing.
-use Rattle.std.specs.Prelude.{ℕ, ◌<◌, List, Bool, true, false, ◌≡◌, refl, leb, length}
+use Rattle.std.specs.Prelude.{ℕ, ◌<◌, List, Bool, true, false, ◌≡◌, refl, leb, length, Err, None, Ok, Some}
 use Rattle.std.proofs.Common.{arith, sym, ap, ◌∙◌, length-take, take_all, leb-true, leb-false}
 use Rattle.std.proofs.lemmas.Bool.{lt-leb}
 use Rattle.record.specs.Records.{limit, within_limit}
-use Rattle.record.specs.declared.Layout.TheVariants.{Good, Bad}
 use Rattle.refusal.specs.Numbers.{numbered}
-use Rattle.refusal.specs.Verdicts.{and_then, layout_verdict}
+use Rattle.refusal.specs.Verdicts.{and_then, layout_verdict, Verdict}
 use Rattle.refusal.specs.declared.Refusal.{Refusal}
 use Rattle.refusal.specs.declared.Refusal.TheVariants.{BadLayout}
-use Rattle.refusal.specs.declared.Verdict.{Verdict}
-use Rattle.refusal.specs.declared.Verdict.TheVariants.{Pass, Stop}
 use Rattle.labels.specs.Labels.{label_layout, label_repeat}
 use Rattle.breakpoints.specs.Breakpoints.{pending_buffer_layout}
 use Rattle.input.specs.Input.{held}
@@ -18,15 +15,15 @@ use Rattle.indexed_outcome.specs.Make.{make_outcome}
 use Rattle.indexed_outcome.proofs.MakeLaws.{never, layouts_are, outcome_by}
 use Rattle.index_text.specs.IndexText.{outcome_text}
 
-over : (s : List ℕ) → limit < length s → within_limit s Good ≡ Bad limit
+over : (s : List ℕ) → limit < length s → within_limit s None ≡ Some limit
 unfolding within_limit
 over s h = rw (lt-leb (length s) limit h, within_limit)
 
 -- checks of which the last stops are not all passed
-passed_last : (a b : Verdict) (r : Refusal) → and_then a (and_then b (Stop r)) ≡ Pass → ◌≡◌ {A = ℕ} 0 1
-passed_last (Stop x) b r e = cc
-passed_last Pass (Stop x) r e = cc
-passed_last Pass Pass r e = cc
+passed_last : (a b : Verdict) (r : Refusal) → and_then a (and_then b (Err r)) ≡ Ok tt → ◌≡◌ {A = ℕ} 0 1
+passed_last (Err x) b r e = cc
+passed_last (Ok tt) (Err x) r e = cc
+passed_last (Ok tt) (Ok tt) r e = cc
 
 module _ (fill : ℕ) (pending labels : List ℕ) where
   abbrev shown : List ℕ → List ℕ
@@ -34,17 +31,17 @@ module _ (fill : ℕ) (pending labels : List ℕ) where
 
   -- what the checks before the index buffer's leave, or that it is too long
   abbrev stopped : Verdict
-  stopped = and_then (layout_verdict 0 (pending_buffer_layout fill pending)) (and_then (layout_verdict 1 (label_layout labels)) (Stop (BadLayout 2 limit)))
+  stopped = and_then (layout_verdict 0 (pending_buffer_layout fill pending)) (and_then (layout_verdict 1 (label_layout labels)) (Err (BadLayout 2 limit)))
 
-  long_shown : (s : List ℕ) → limit < length s → (r : Refusal) → stopped ≡ Stop r → shown s ≡ refused_line (numbered r)
-  long_shown s h r e = ap outcome_text (outcome_by fill pending labels s (Stop r) (label_repeat labels) (layouts_are fill pending labels s _ _ _ refl refl (over s h) ∙ e) refl)
+  long_shown : (s : List ℕ) → limit < length s → (r : Refusal) → stopped ≡ Err r → shown s ≡ refused_line (numbered r)
+  long_shown s h r e = ap outcome_text (outcome_by fill pending labels s (Err r) (label_repeat labels) (layouts_are fill pending labels s _ _ _ refl refl (over s h) ∙ e) refl)
 
   long_text : (a b : List ℕ) → limit < length a → limit < length b → shown a ≡ shown b
   long_text a b h k = go stopped refl
     where
       go : (v : Verdict) → stopped ≡ v → shown a ≡ shown b
-      go Pass e = never (passed_last (layout_verdict 0 (pending_buffer_layout fill pending)) (layout_verdict 1 (label_layout labels)) (BadLayout 2 limit) e)
-      go (Stop r) e = long_shown a h r e ∙ sym (long_shown b k r e)
+      go (Ok tt) e = never (passed_last (layout_verdict 0 (pending_buffer_layout fill pending)) (layout_verdict 1 (label_layout labels)) (BadLayout 2 limit) e)
+      go (Err r) e = long_shown a h r e ∙ sym (long_shown b k r e)
 
   -- one byte more than the limit is as good as the whole buffer
   pub held_text : (index : List ℕ) → shown (held index) ≡ shown index

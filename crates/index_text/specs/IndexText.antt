@@ -1,22 +1,21 @@
 -- What `make_index` prints (document 02, P1), in the lines that docs/DECISIONS.md gives. Assumes nothing.
-use Rattle.std.specs.Prelude.{ℕ, List, ◌++◌}
+use Rattle.std.specs.Prelude.{ℕ, List, ◌++◌, Err, Ok, Result}
 use Rattle.pseudo_names.specs.PseudoNames.{bytes_of}
 use Rattle.refusal.specs.Numbers.{numbered}
 use Rattle.input.specs.Input.{list_of, behind_lists, word_or_zero}
 use Rattle.text.specs.Text.{last_field, refused_line}
 use Rattle.bytes_line.specs.BytesLine.{bytes_line}
-use Rattle.indexed_outcome.specs.declared.IndexAnswer.{IndexAnswer}
-use Rattle.indexed_outcome.specs.declared.IndexAnswer.TheVariants.{Made, Refused}
 use Rattle.indexed_outcome.specs.Make.{MakeOutcome, make_outcome}
+use Rattle.refusal.specs.declared.Refusal.{Refusal}
 
 -- `fill` and the count, then `index` and the whole index buffer in hexadecimal
 abbrev pub made_text : (fill : ℕ) (index : List ℕ) → List ℕ
 made_text fill index = (bytes_of "fill" ++ last_field fill) ++ bytes_line (bytes_of "index ") index
 
 -- "A refusal prints alone"
-abbrev pub answer_text : IndexAnswer → List ℕ → List ℕ
-answer_text (Made fill) index = made_text fill index
-answer_text (Refused r) index = refused_line (numbered r)
+abbrev pub answer_text : Result ℕ Refusal → List ℕ → List ℕ
+answer_text (Ok fill) index = made_text fill index
+answer_text (Err r) index = refused_line (numbered r)
 
 abbrev pub outcome_text : MakeOutcome → List ℕ
 outcome_text o = answer_text o.answer o.index

@@ -6,7 +6,6 @@ ghost use Rattle.indexed_outcome.specs.Make.{make_outcome};
 ghost use Rattle.text.specs.Text.{Put};
 ghost use Rattle.index_text.specs.IndexText.{made_text, outcome_text, make_index_text};
 
-use indexed_outcome::IndexAnswer;
 
 // The fill count and the whole buffer.
 fn put_made(out: &mut [u8], fill: u32, index: &[u8]) -> usize
@@ -24,8 +23,8 @@ fn put_outcome(out: &mut [u8], pending: &[u8], fill: u32, labels: &[u8], index: 
         (outcome_text (make_outcome fill pending.now labels.now index.old)) out.new result }
 {
     match index_maker::make_index(pending, fill, labels, &mut *index) {
-        IndexAnswer::Made(count) => put_made(out, count, &*index),
-        IndexAnswer::Refused(refusal) => text::put_refusal(out, 0, refusal::numbers(refusal)),
+        Ok(count) => put_made(out, count, &*index),
+        Err(refusal) => text::put_refusal(out, 0, refusal::numbers(refusal)),
     }
 }
 

@@ -1,16 +1,11 @@
 -- Laws of the checks of the lists: the first that stops, and what is known where all pass. Assumes nothing.
-use Rattle.std.specs.Prelude.{ℕ, ◌≤◌, List, Bool, true, false, ◌≡◌, refl, length, take, ltb}
+use Rattle.std.specs.Prelude.{ℕ, ◌≤◌, List, Bool, true, false, ◌≡◌, refl, length, take, ltb, None, Ok, Option, Some}
 use Rattle.std.proofs.Common.{arith, sym, ◌∙◌, ltb-true, ltb-false}
 use Rattle.std.proofs.Math.Path.{ap, ap₂}
 use Rattle.record.specs.Bytes.{same_bytes}
 use Rattle.record.specs.Records.{places, first_bad, limit}
-use Rattle.record.specs.declared.Layout.{Layout}
-use Rattle.record.specs.declared.Layout.TheVariants.{Good, Bad}
-use Rattle.names.specs.declared.Repeat.{Repeat}
-use Rattle.refusal.specs.Verdicts.{and_then, layout_verdict, name_verdict}
+use Rattle.refusal.specs.Verdicts.{and_then, layout_verdict, name_verdict, Verdict}
 use Rattle.refusal.proofs.VerdictsLaws.{both_pass, layout_pass}
-use Rattle.refusal.specs.declared.Verdict.{Verdict}
-use Rattle.refusal.specs.declared.Verdict.TheVariants.{Pass}
 use Rattle.lexer.specs.Tokens.{token_layout}
 use Rattle.descriptors.specs.Mnemonics.{mnemonic_layout}
 use Rattle.descriptors.specs.Descriptors.{descriptor_layout, descriptor_repeat}
@@ -27,10 +22,10 @@ use Rattle.label_uses.proofs.UseOrderLaws.{never}
 use Rattle.indexed_outcome.specs.Indexed.{IndexedCall, filled_pending, indexed_stop}
 
 -- a place that a check of an index names is at most the limit
-pub index_place : (labels pending index : List ℕ) (fill p : ℕ) → index_layout labels pending fill index ≡ Bad p → p ≤ limit
+pub index_place : (labels pending index : List ℕ) (fill p : ℕ) → index_layout labels pending fill index ≡ Some p → p ≤ limit
 index_place labels pending index fill p e = go (ltb limit (length index)) refl
   where
-    by_bytes : (b : Bool) → ◌≡◌ {A = Layout} (elim b [ true ↦ Good | false ↦ Bad 0 ]) (Bad p) → p ≤ limit
+    by_bytes : (b : Bool) → ◌≡◌ {A = (Option ℕ)} (elim b [ true ↦ None | false ↦ Some 0 ]) (Some p) → p ≤ limit
     by_bytes true f = never (cc)
     by_bytes false f = let q : 0 ≡ p = cc in omega arith
 
@@ -44,8 +39,8 @@ index_place labels pending index fill p e = go (ltb limit (length index)) refl
             by_bytes (same_bytes (take fill index) (index_of labels pending)) (sym (layout_by labels pending fill index h (ltb-false (length index) fill t) refl) ∙ e)
 
 -- what the pending buffer is where the six layouts pass
-pub pending_passes : (token_list mnemonic descriptors : List ℕ) (lent : Lent) (region : ℕ) (counts : FillCounts) → layout_stop token_list mnemonic descriptors lent region counts ≡ Pass
-    → (length lent.pending ≤ limit) × (counts.pending ≤ length lent.pending) × (first_bad (pending_ok 16 (filled_pending lent counts)) (places (filled_pending lent counts)) ≡ Good)
+pub pending_passes : (token_list mnemonic descriptors : List ℕ) (lent : Lent) (region : ℕ) (counts : FillCounts) → layout_stop token_list mnemonic descriptors lent region counts ≡ Ok tt
+    → (length lent.pending ≤ limit) × (counts.pending ≤ length lent.pending) × (first_bad (pending_ok 16 (filled_pending lent counts)) (places (filled_pending lent counts)) ≡ None)
 unfolding layout_stop
 pending_passes token_list mnemonic descriptors lent region counts e =
     let t = both_pass (layout_verdict 0 (token_layout token_list)) _ e in
@@ -62,25 +57,25 @@ module _ (x : IndexedCall) where
   abbrev six : Verdict
   six = layout_stop c.token_list c.mnemonic c.descriptors c.lent c.numbers.place.region c.numbers.counts
 
-  abbrev index_layout_lem : Layout
+  abbrev index_layout_lem : Option ℕ
   index_layout_lem = index_layout x.labels (filled_pending c.lent c.numbers.counts) x.fill x.index
 
-  pub stops_are : (v : Verdict) (a b : Layout) (d e : Repeat) → six ≡ v → label_layout x.labels ≡ a → index_layout_lem ≡ b → descriptor_repeat c.descriptors ≡ d → label_repeat x.labels ≡ e
+  pub stops_are : (v : Verdict) (a b : Option ℕ) (d e : Option ℕ) → six ≡ v → label_layout x.labels ≡ a → index_layout_lem ≡ b → descriptor_repeat c.descriptors ≡ d → label_repeat x.labels ≡ e
       → indexed_stop x ≡ and_then v (and_then (layout_verdict 6 a) (and_then (layout_verdict 7 b) (and_then (name_verdict 2 d) (name_verdict 6 e))))
   unfolding indexed_stop
   stops_are v a b d e hv ha hb hd he =
-      ap₂ (λ (p : Verdict) (q : Layout). and_then p (and_then (layout_verdict 6 q) (and_then (layout_verdict 7 index_layout_lem) (and_then (name_verdict 2 (descriptor_repeat c.descriptors)) (name_verdict 6 (label_repeat x.labels)))))) hv ha
-      ∙ ap₂ (λ (p : Layout) (q : Repeat). and_then v (and_then (layout_verdict 6 a) (and_then (layout_verdict 7 p) (and_then (name_verdict 2 q) (name_verdict 6 (label_repeat x.labels)))))) hb hd
-      ∙ ap (λ (p : Repeat). and_then v (and_then (layout_verdict 6 a) (and_then (layout_verdict 7 b) (and_then (name_verdict 2 d) (name_verdict 6 p))))) he
+      ap₂ (λ (p : Verdict) (q : Option ℕ). and_then p (and_then (layout_verdict 6 q) (and_then (layout_verdict 7 index_layout_lem) (and_then (name_verdict 2 (descriptor_repeat c.descriptors)) (name_verdict 6 (label_repeat x.labels)))))) hv ha
+      ∙ ap₂ (λ (p : Option ℕ) (q : Option ℕ). and_then v (and_then (layout_verdict 6 a) (and_then (layout_verdict 7 p) (and_then (name_verdict 2 q) (name_verdict 6 (label_repeat x.labels)))))) hb hd
+      ∙ ap (λ (p : Option ℕ). and_then v (and_then (layout_verdict 6 a) (and_then (layout_verdict 7 b) (and_then (name_verdict 2 d) (name_verdict 6 p))))) he
 
   -- where all pass
   pub record AllPass : Type 0 where
-    pub six_pass : six ≡ Pass
-    pub lists_pass : list_stop c.token_list c.mnemonic c.descriptors c.lent c.numbers.place.region c.numbers.counts ≡ Pass
-    pub labels_good : label_layout x.labels ≡ Good
-    pub index_good : index_layout_lem ≡ Good
+    pub six_pass : six ≡ Ok tt
+    pub lists_pass : list_stop c.token_list c.mnemonic c.descriptors c.lent c.numbers.place.region c.numbers.counts ≡ Ok tt
+    pub labels_good : label_layout x.labels ≡ None
+    pub index_good : index_layout_lem ≡ None
 
-  pub all_pass : indexed_stop x ≡ Pass → AllPass
+  pub all_pass : indexed_stop x ≡ Ok tt → AllPass
   unfolding indexed_stop list_stop
   all_pass e =
       let l = both_pass six _ e in

@@ -1,19 +1,16 @@
 -- The uses of the pending list that an accepted line leaves are those of the list before, and then the line's. Assumes nothing.
-use Rattle.std.specs.Prelude.{ℕ, zero, suc, ◌+◌, ◌*◌, ◌^◌, ◌≤◌, ◌<◌, Bool, true, false, ◌≡◌, length, take, get_or, ltb}
+use Rattle.std.specs.Prelude.{ℕ, zero, suc, ◌+◌, ◌*◌, ◌^◌, ◌≤◌, ◌<◌, Bool, true, false, ◌≡◌, length, take, get_or, ltb, None, Option, Some}
 use Rattle.std.proofs.Common.{arith, sym, ◌∙◌, subst, length-append, length-take, get_or-take, ltb-true, ltb-false}
 use mathlib.Core.List.{List, [], ◌∷◌, ◌++◌, append_assoc, append-nil}
 use Rattle.std.proofs.Math.Path.{refl, ap, ap₂}
 use Rattle.jobs.specs.declared.Job.{Job}
 use Rattle.record.specs.Records.{places, first_bad}
-use Rattle.record.specs.declared.Layout.TheVariants.{Good}
 use Rattle.descriptors.specs.Mnemonics.{mnemonic_name}
 use Rattle.pending.specs.Pendings.{pending_ok}
 use Rattle.pending.specs.PendingBytes.{pending_bytes}
 use Rattle.pending.proofs.Written.{written_behind}
 use Rattle.pending.specs.declared.Origin.{Origin}
 use Rattle.emit_pairs.specs.declared.InstructionPair.{InstructionPair}
-use Rattle.emit_pairs.specs.declared.PairLabel.{PairLabel}
-use Rattle.emit_pairs.specs.declared.PairLabel.TheVariants.{Nothing, Some}
 use Rattle.emit_bytes.specs.Appended.{onward, pair_bytes, pendings_bytes}
 use Rattle.emit_dispatch.specs.declared.LineEmit.{LineEmit}
 use Rattle.emit_dispatch.specs.Lines.{Line}
@@ -41,20 +38,21 @@ use Rattle.line_uses.specs.LineUses.{pair_use, next_number, line_uses}
 use Rattle.use_adding.specs.Adding.{IndexIn}
 use Rattle.indexed_outcome.specs.Indexed.{filled_pending}
 use Rattle.indexed_core.specs.Steps.{new_index}
+use Rattle.pending.specs.declared.InstructionLabel.{InstructionLabel}
 
 -- ---- records written behind a list, one after the other
 abbrev Kept : List ℕ → Type 0
-Kept s = first_bad (pending_ok 16 s) (places s) ≡ Good
+Kept s = first_bad (pending_ok 16 s) (places s) ≡ None
 
 module _ (labels names : List ℕ) where
   -- one word
-  record After (old : List ℕ) (origin : Origin) (w : PairLabel) : Type 0 where
+  record After (old : List ℕ) (origin : Origin) (w : Option InstructionLabel) : Type 0 where
     keeps : Kept (old ++ pair_bytes names origin w)
     uses_are : uses_of labels (old ++ pair_bytes names origin w) ≡ pair_use labels names w (length (places old)) (uses_of labels old)
     number_is : length (places (old ++ pair_bytes names origin w)) ≡ next_number w (length (places old))
 
-  after_word : (old : List ℕ) (origin : Origin) (w : PairLabel) → Kept old → OriginFits 16 origin → origin.offset < 2 ^ 32 → PairFits names w → After old origin w
-  after_word old origin Nothing kept fits o h =
+  after_word : (old : List ℕ) (origin : Origin) (w : Option InstructionLabel) → Kept old → OriginFits 16 origin → origin.offset < 2 ^ 32 → PairFits names w → After old origin w
+  after_word old origin None kept fits o h =
       let e : old ++ [] ≡ old = append-nil old in
       record { keeps = subst Kept (sym e) kept; uses_are = ap (uses_of labels) e; number_is = ap (λ (s : List ℕ). length (places s)) e }
   after_word old origin (Some waits) kept fits o h =
@@ -66,7 +64,7 @@ module _ (labels names : List ℕ) where
         number_is = ap length w.places_are ∙ length-append (places old) (length old ∷ []);
       }
 
-  pub uses_line : (old : List ℕ) (origin : Origin) (ps : List InstructionPair) → first_bad (pending_ok 16 old) (places old) ≡ Good → OriginFits 16 origin → origin.offset + 4 * length ps ≤ 2 ^ 32 → PairsFit names ps
+  pub uses_line : (old : List ℕ) (origin : Origin) (ps : List InstructionPair) → first_bad (pending_ok 16 old) (places old) ≡ None → OriginFits 16 origin → origin.offset + 4 * length ps ≤ 2 ^ 32 → PairsFit names ps
       → uses_of labels (old ++ pendings_bytes names origin ps) ≡ line_uses labels names (length (places old)) ps (uses_of labels old)
   unfolding pendings_bytes line_uses
   uses_line old origin [] kept fits o h = ap (uses_of labels) (append-nil old)
@@ -115,7 +113,7 @@ part_bytes n s b i = go (ltb i n) refl
         past (x ∷ l) zero h = absurd (omega arith)
         past (x ∷ l) (suc j) h = past l j (omega arith)
 
-pub index_held : (labels old index : List ℕ) (fill : ℕ) → AllBytes labels → AllBytes old → index_layout labels old fill index ≡ Good → IndexIn index fill (uses_of labels old)
+pub index_held : (labels old index : List ℕ) (fill : ℕ) → AllBytes labels → AllBytes old → index_layout labels old fill index ≡ None → IndexIn index fill (uses_of labels old)
 unfolding index_of
 index_held labels old index fill lb ob g =
     let i = index_is labels old fill index g in

@@ -1,5 +1,5 @@
 -- Laws of the steps: the outcome by what the checks, the line and the index's room say. Assumes nothing.
-use Rattle.std.specs.Prelude.{ℕ, ◌≤◌, ◌<◌, List, Bool, true, false, ◌≡◌, refl, length, leb}
+use Rattle.std.specs.Prelude.{ℕ, ◌≤◌, ◌<◌, List, Bool, true, false, ◌≡◌, refl, length, leb, Err, Ok}
 use Rattle.std.proofs.Common.{sym, ap, ap₂, ◌∙◌, le-leb}
 use Rattle.std.proofs.lemmas.Bool.{lt-leb}
 use Rattle.jobs.specs.declared.Job.{Job}
@@ -7,7 +7,6 @@ use Rattle.record.specs.Stores.{append}
 use Rattle.record.specs.declared.Location.{Location}
 use Rattle.refusal.specs.declared.Refusal.TheVariants.{NoIndexSpace}
 use Rattle.refusal.specs.declared.Refusal.{Refusal}
-use Rattle.refusal.specs.declared.Verdict.TheVariants.{Pass, Stop}
 use Rattle.descriptors.specs.Mnemonics.{mnemonic_location}
 use Rattle.emit_dispatch.specs.declared.LineEmit.{LineEmit}
 use Rattle.emit_outcome.specs.Call.{Call, Lent, EmitOutcome}
@@ -37,12 +36,12 @@ module _ (token_list labels index : List ℕ) (line : Location) (numbers : LineN
   abbrev outcome : EmitOutcome → IndexedOutcome
   outcome y = with_index line numbers lent fill index new y y.answer
 
-  pub with_stopped : (r : Refusal) → line_stop token_list line numbers lent (made_line made) ≡ Stop r
+  pub with_stopped : (r : Refusal) → line_stop token_list line numbers lent (made_line made) ≡ Err r
       → with_index line numbers lent fill index (new_index labels token_list (filled_pending lent numbers.counts) (pairs_of made.emit)) (line_outcome token_list line numbers lent (made_line made)) (line_outcome token_list line numbers lent (made_line made)).answer
       ≡ kept_outcome numbers lent fill index r made.cursor.index
   with_stopped r e = ap outcome (line_stopped token_list line numbers lent (made_line made) e)
 
-  module _ (pass : line_stop token_list line numbers lent (made_line made) ≡ Pass) where
+  module _ (pass : line_stop token_list line numbers lent (made_line made) ≡ Ok tt) where
     by_room : (b : Bool) → leb (length new) (length index) ≡ b
         → outcome o ≡ elim b [ true ↦ indexed_outcome_of (Done made.cursor.index made.emit.loaded) (record { counts = (accept token_list line numbers lent (made_line made)).counts; index = length new }) (accept token_list line numbers lent (made_line made)).lent (append index 0 new) | false ↦ kept_outcome numbers lent fill index (NoIndexSpace line) made.cursor.index ]
     by_room b e = ap outcome (line_passed token_list line numbers lent (made_line made) pass) ∙ rw (e, room_outcome)
@@ -65,10 +64,10 @@ module _ (job : Job) (x : IndexedCall) where
   abbrev c : Call
   c = x.call
 
-  pub call_stopped : (r : Refusal) → indexed_stop x ≡ Stop r → indexed_outcome job x ≡ kept_outcome c.numbers c.lent x.fill x.index r c.numbers.place.position
+  pub call_stopped : (r : Refusal) → indexed_stop x ≡ Err r → indexed_outcome job x ≡ kept_outcome c.numbers c.lent x.fill x.index r c.numbers.place.position
   call_stopped r e = indexed_is job x ∙ ap (indexed_unless job x) e
 
-  module _ (pass : indexed_stop x ≡ Pass) where
+  module _ (pass : indexed_stop x ≡ Ok tt) where
     pub call_unknown : (r : Refusal) → emit_outcome job c ≡ call_refused c r → indexed_outcome job x ≡ kept_outcome c.numbers c.lent x.fill x.index r c.numbers.place.position
     call_unknown r e = passes_is job x pass ∙ ap (λ (y : EmitOutcome). indexed_by x y y.answer) e
 

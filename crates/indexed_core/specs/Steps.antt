@@ -1,8 +1,7 @@
 -- What the steps of an emit call with an index know and leave. Assumes nothing.
-use Rattle.std.specs.Prelude.{ℕ, List, true, false, ◌≡◌, length, leb}
+use Rattle.std.specs.Prelude.{ℕ, List, true, false, ◌≡◌, length, leb, None}
 use Rattle.record.specs.Records.{places, first_bad}
 use Rattle.record.specs.Stores.{append}
-use Rattle.record.specs.declared.Layout.TheVariants.{Good}
 use Rattle.record.specs.declared.Location.{Location}
 use Rattle.refusal.specs.declared.Refusal.TheVariants.{NoIndexSpace}
 use Rattle.refusal.specs.declared.Refusal.{Refusal}
@@ -30,9 +29,9 @@ new_index labels token_list old pairs = uses_bytes (line_uses labels token_list 
 pub record Ready (token_list labels index : List ℕ) (lent : Lent) (numbers : LineNumbers) (fill : ℕ) (made : LineEmit) : Type 0 where
   pub lists_filled : Filled token_list lent numbers.counts
   pub line_good : MadeGood token_list made
-  pub pending_kept : first_bad (pending_ok 16 (filled_pending lent numbers.counts)) (places (filled_pending lent numbers.counts)) ≡ Good
-  pub labels_good : label_layout labels ≡ Good
-  pub index_good : index_layout labels (filled_pending lent numbers.counts) fill index ≡ Good
+  pub pending_kept : first_bad (pending_ok 16 (filled_pending lent numbers.counts)) (places (filled_pending lent numbers.counts)) ≡ None
+  pub labels_good : label_layout labels ≡ None
+  pub index_good : index_layout labels (filled_pending lent numbers.counts) fill index ≡ None
 
 -- ---- what is left
 

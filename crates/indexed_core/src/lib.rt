@@ -2,7 +2,6 @@
 #![tactic(auto)]
 
 ghost use Rattle.std.specs.Prelude.{◌≡◌, ◌≤◌, length};
-ghost use Rattle.refusal.specs.declared.Verdict.TheVariants.{Pass};
 ghost use Rattle.emit_outcome.specs.Call.{lent_of, call_of};
 ghost use Rattle.emit_outcome.specs.Emit.{line_outcome};
 ghost use Rattle.emit_outcome.specs.Room.{room_stop};
@@ -15,9 +14,8 @@ use emit_dispatch::LineEmit;
 use emit_outcome::{EmitAnswer, FillCounts, LineNumbers, LinePlace};
 use indexed_outcome::{IndexedCounts, IndexedEmitted};
 use jobs::Job;
-use names::Repeat;
-use record::{Layout, Location};
-use refusal::{Refusal, Verdict};
+use record::Location;
+use refusal::Refusal;
 
 fn refused(refusal: Refusal, position: u32, counts: FillCounts, index: u32) -> IndexedEmitted
     ensures { result ≡ (record { answer = EmitAnswer.Refused refusal position; counts = record { counts = counts; index = index } }) }
@@ -40,13 +38,13 @@ fn check_lists(
     index: &[u8],
     counts: IndexedCounts,
     place: LinePlace,
-) -> Verdict
+) -> Result<(), Refusal>
     ensures { result ≡ indexed_stop (indexed_call_of (call_of tokens.now mnemonic.now descriptors.now
         (lent_of «data».now pending.now breakpoints.now) counts.counts place)
         labels.now index.now counts.index) }
 {
     let three = counts.counts;
-    if let Verdict::Stop(refusal) = emit_checks::check_layouts(
+    if let Err(refusal) = emit_checks::check_layouts(
         tokens,
         mnemonic,
         descriptors,
@@ -56,25 +54,25 @@ fn check_lists(
         place.region,
         three,
     ) {
-        return Verdict::Stop(refusal);
+        return Err(refusal);
     }
-    if let Layout::Bad(at) = labels::first_bad_label(labels) {
-        return Verdict::Stop(Refusal::BadLayout(6, at as u32));
+    if let Some(at) = labels::first_bad_label(labels) {
+        return Err(Refusal::BadLayout(6, at as u32));
     }
     let kept = three.pending as usize;
     let uses = index_check::check_uses(index, counts.index as usize, &pending[..kept], labels);
     let layout = uses.layout;
-    if let Layout::Bad(at) = layout {
-        return Verdict::Stop(Refusal::BadLayout(7, at as u32));
+    if let Some(at) = layout {
+        return Err(Refusal::BadLayout(7, at as u32));
     }
-    if let Repeat::Later(at) = descriptors::first_repeat(descriptors) {
-        return Verdict::Stop(Refusal::DuplicateName(2, at as u32));
+    if let Some(at) = descriptors::first_repeat(descriptors) {
+        return Err(Refusal::DuplicateName(2, at as u32));
     }
     let repeat = uses.repeat;
-    if let Repeat::Later(at) = repeat {
-        return Verdict::Stop(Refusal::DuplicateName(6, at as u32));
+    if let Some(at) = repeat {
+        return Err(Refusal::DuplicateName(6, at as u32));
     }
-    Verdict::Pass
+    Ok(())
 }
 
 // Appends a line that has room, and its uses to the index.
@@ -91,7 +89,7 @@ fn append_indexed(
     made: LineEmit,
 ) -> IndexedEmitted
     requires ready { Ready tokens.now labels.now index.old (lent_of «data».old pending.old breakpoints.old) numbers fill made }
-    requires emit_value { room_stop tokens.now line numbers (lent_of «data».old pending.old breakpoints.old) (pairs_of made.emit) ≡ Pass }
+    requires emit_value { room_stop tokens.now line numbers (lent_of «data».old pending.old breakpoints.old) (pairs_of made.emit) ≡ Ok tt }
     requires emit_in_bounds { length (new_index labels.now tokens.now (filled_pending (lent_of «data».old pending.old breakpoints.old) numbers.counts) (pairs_of made.emit)) ≤ length index.old }
     ensures { Wrote tokens.now labels.now index.old index.new line numbers
         (lent_of «data».old pending.old breakpoints.old) (lent_of «data».new pending.new breakpoints.new)
@@ -134,7 +132,7 @@ fn append_or_refuse(
         ≡ indexed_outcome_of result.answer result.counts (lent_of «data».new pending.new breakpoints.new) index.new }
 {
     let position = made.cursor.index;
-    if let Verdict::Stop(refusal) = emit_checks::check_line(
+    if let Err(refusal) = emit_checks::check_line(
         tokens,
         &*data,
         &*pending,
@@ -181,7 +179,7 @@ fn emit_named(
     fill: u32,
 ) -> IndexedEmitted
     requires { indexed_stop (indexed_call_of (call_of tokens.now mnemonic.now descriptors.now (lent_of «data».old pending.old breakpoints.old) numbers.counts numbers.place)
-        labels.now index.old fill) ≡ Pass }
+        labels.now index.old fill) ≡ Ok tt }
     ensures { indexed_outcome job (indexed_call_of (call_of tokens.now mnemonic.now descriptors.now
         (lent_of «data».old pending.old breakpoints.old) numbers.counts numbers.place) labels.now index.old fill)
         ≡ indexed_outcome_of result.answer result.counts (lent_of «data».new pending.new breakpoints.new) index.new }
@@ -231,7 +229,7 @@ pub fn do_indexed_job(
         result.answer result.counts (lent_of «data».new pending.new breakpoints.new) index.new }
 {
     let three = counts.counts;
-    if let Verdict::Stop(refusal) = check_lists(
+    if let Err(refusal) = check_lists(
         tokens,
         mnemonic,
         descriptors,

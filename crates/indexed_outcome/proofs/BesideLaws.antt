@@ -1,18 +1,12 @@
 -- Laws of a call with an index beside the same call without one, by what each of its checks says. Assumes nothing.
-use Rattle.std.specs.Prelude.{ℕ, ◌⊎◌, List, Bool, true, false, ◌≡◌, length, leb}
+use Rattle.std.specs.Prelude.{ℕ, ◌⊎◌, List, Bool, true, false, ◌≡◌, length, leb, Err, None, Ok, Option, Some}
 use Rattle.std.proofs.Common.{arith, inl, inr, sym, ap, ap₂, ◌∙◌, subst}
 use Rattle.std.proofs.Math.Path.{refl}
 use Rattle.jobs.specs.declared.Job.{Job}
 use Rattle.record.specs.Stores.{append}
-use Rattle.record.specs.declared.Layout.{Layout}
-use Rattle.record.specs.declared.Layout.TheVariants.{Good, Bad}
-use Rattle.names.specs.declared.Repeat.{Repeat}
-use Rattle.names.specs.declared.Repeat.TheVariants.{None, Later}
-use Rattle.refusal.specs.Verdicts.{and_then, layout_verdict, name_verdict}
+use Rattle.refusal.specs.Verdicts.{and_then, layout_verdict, name_verdict, Verdict}
 use Rattle.refusal.specs.declared.Refusal.{Refusal}
 use Rattle.refusal.specs.declared.Refusal.TheVariants.{BadLayout, DuplicateName, NoIndexSpace}
-use Rattle.refusal.specs.declared.Verdict.{Verdict}
-use Rattle.refusal.specs.declared.Verdict.TheVariants.{Pass, Stop}
 use Rattle.labels.specs.Labels.{label_layout, label_repeat}
 use Rattle.descriptors.specs.Descriptors.{descriptor_repeat}
 use Rattle.descriptors.specs.Mnemonics.{mnemonic_location}
@@ -30,13 +24,13 @@ use Rattle.indexed_outcome.specs.Beside.{Added, labels_bad, index_bad, labels_sh
 pub never : {A : Type 0} → ◌≡◌ {A = ℕ} 0 1 → A
 never z = absurd (omega arith)
 
-layout_stop_lem : (n : ℕ) (l : Layout) (r : Refusal) → layout_verdict n l ≡ Stop r → (place : ℕ) × (r ≡ BadLayout n place)
-layout_stop_lem n Good r e = never (cc)
-layout_stop_lem n (Bad p) r e = (p, cc)
+layout_stop_lem : (n : ℕ) (l : Option ℕ) (r : Refusal) → layout_verdict n l ≡ Err r → (place : ℕ) × (r ≡ BadLayout n place)
+layout_stop_lem n None r e = never (cc)
+layout_stop_lem n (Some p) r e = (p, cc)
 
-name_stop : (n : ℕ) (l : Repeat) (r : Refusal) → name_verdict n l ≡ Stop r → (place : ℕ) × (r ≡ DuplicateName n place)
+name_stop : (n : ℕ) (l : Option ℕ) (r : Refusal) → name_verdict n l ≡ Err r → (place : ℕ) × (r ≡ DuplicateName n place)
 name_stop n None r e = never (cc)
-name_stop n (Later p) r e = (p, cc)
+name_stop n (Some p) r e = (p, cc)
 
 module _ (job : Job) (x : IndexedCall) where
   abbrev c : Call
@@ -74,7 +68,7 @@ module _ (job : Job) (x : IndexedCall) where
   Either = SameCall job x ⊎ ((r : Refusal) × (position : ℕ) × ((indexed_outcome job x).answer ≡ Refused r position) × Added r)
 
   -- both stop for the same reason
-  stop_same : (r : Refusal) → indexed_stop x ≡ Stop r → and_then lists names_once ≡ Stop r → SameCall job x
+  stop_same : (r : Refusal) → indexed_stop x ≡ Err r → and_then lists names_once ≡ Err r → SameCall job x
   stop_same r e f =
       let i : indexed_outcome job x ≡ indexed_refuse x r c.numbers.place.position = indexed_is ∙ ap (indexed_unless job x) e in
       let o : emit_outcome job c ≡ call_refused c r = emit_is ∙ ap (list_outcome job c) f in
@@ -84,14 +78,14 @@ module _ (job : Job) (x : IndexedCall) where
         lent_is = ap (λ (y : IndexedOutcome). y.lent) i ∙ sym (ap (λ (y : EmitOutcome). y.lent) o);
       }
 
-  both_stop : (r : Refusal) → indexed_stop x ≡ Stop r → and_then lists names_once ≡ Stop r → Either
+  both_stop : (r : Refusal) → indexed_stop x ≡ Err r → and_then lists names_once ≡ Err r → Either
   both_stop r e f = inl (stop_same r e f)
 
   -- the call with an index alone stops
-  added_stop : (r : Refusal) → indexed_stop x ≡ Stop r → Added r → Either
+  added_stop : (r : Refusal) → indexed_stop x ≡ Err r → Added r → Either
   added_stop r e a = inr (r, c.numbers.place.position, ap (λ (y : IndexedOutcome). y.answer) (indexed_is ∙ ap (indexed_unless job x) e), a)
 
-  pub passes_is : indexed_stop x ≡ Pass → indexed_outcome job x ≡ indexed_by x (emit_outcome job c) (emit_outcome job c).answer
+  pub passes_is : indexed_stop x ≡ Ok tt → indexed_outcome job x ≡ indexed_by x (emit_outcome job c) (emit_outcome job c).answer
   passes_is e = indexed_is ∙ ap (indexed_unless job x) e
 
   abbrev o : EmitOutcome
@@ -108,7 +102,7 @@ module _ (job : Job) (x : IndexedCall) where
       → indexed_accept x o new answer position ≡ indexed_refuse x (NoIndexSpace (mnemonic_location c.mnemonic)) position
   accept_short answer position e = rw (e, indexed_accept)
 
-  refused_same : indexed_stop x ≡ Pass → (r : Refusal) (p : ℕ) → o.answer ≡ Refused r p → SameCall job x
+  refused_same : indexed_stop x ≡ Ok tt → (r : Refusal) (p : ℕ) → o.answer ≡ Refused r p → SameCall job x
   refused_same e r p f =
       let i : indexed_outcome job x ≡ indexed_refuse x r p = passes_is e ∙ ap (indexed_by x o) f in
       let s : o ≡ refuse c.numbers.counts c.lent p r = refused_stays job c r p f in
@@ -118,10 +112,10 @@ module _ (job : Job) (x : IndexedCall) where
         lent_is = ap (λ (y : IndexedOutcome). y.lent) i ∙ sym (ap (λ (y : EmitOutcome). y.lent) s);
       }
 
-  done_is : indexed_stop x ≡ Pass → (p : ℕ) (l : LoadForm) → o.answer ≡ Done p l → indexed_outcome job x ≡ indexed_accept x o new (Done p l) p
+  done_is : indexed_stop x ≡ Ok tt → (p : ℕ) (l : LoadForm) → o.answer ≡ Done p l → indexed_outcome job x ≡ indexed_accept x o new (Done p l) p
   done_is e p l f = passes_is e ∙ ap (indexed_by x o) f
 
-  done_same : indexed_stop x ≡ Pass → (p : ℕ) (l : LoadForm) → o.answer ≡ Done p l → leb (length new) (length x.index) ≡ true → SameCall job x
+  done_same : indexed_stop x ≡ Ok tt → (p : ℕ) (l : LoadForm) → o.answer ≡ Done p l → leb (length new) (length x.index) ≡ true → SameCall job x
   done_same e p l f b =
       let i = done_is e p l f ∙ accept_fits (Done p l) p b in
       record {
@@ -130,7 +124,7 @@ module _ (job : Job) (x : IndexedCall) where
         lent_is = ap (λ (y : IndexedOutcome). y.lent) i;
       }
 
-  passed : indexed_stop x ≡ Pass → (a : EmitAnswer) → o.answer ≡ a → Either
+  passed : indexed_stop x ≡ Ok tt → (a : EmitAnswer) → o.answer ≡ a → Either
   passed e (Refused r p) f = inl (refused_same e r p f)
   passed e (Done p l) f = go (leb (length new) (length x.index)) refl
     where
@@ -140,49 +134,49 @@ module _ (job : Job) (x : IndexedCall) where
           inr (NoIndexSpace (mnemonic_location c.mnemonic), p, ap (λ (y : IndexedOutcome). y.answer) (done_is e p l f ∙ accept_short (Done p l) p b), no_room (mnemonic_location c.mnemonic))
 
   pub beside : (a b d e f : Verdict) → lists ≡ a → labels_well ≡ b → index_well ≡ d → names_once ≡ e → labels_once ≡ f → Either
-  beside (Stop r) b d e f p q s t u =
+  beside (Err r) b d e f p q s t u =
       both_stop r (stop_is ∙ ap (λ (v : Verdict). and_then v (and_then labels_well (and_then index_well (and_then names_once labels_once)))) p) (ap (λ (v : Verdict). and_then v names_once) p)
-  beside Pass (Stop r) d e f p q s t u =
+  beside (Ok tt) (Err r) d e f p q s t u =
       let k = layout_stop_lem 6 (label_layout x.labels) r q in
       added_stop r (stop_is ∙ ap₂ (λ (v w : Verdict). and_then v (and_then w (and_then index_well (and_then names_once labels_once)))) p q) (subst Added (sym k.1) (labels_bad k.0))
-  beside Pass Pass (Stop r) e f p q s t u =
+  beside (Ok tt) (Ok tt) (Err r) e f p q s t u =
       let k = layout_stop_lem 7 (index_layout x.labels (filled_pending c.lent c.numbers.counts) x.fill x.index) r s in
       added_stop r
       (stop_is ∙ ap₂ (λ (v w : Verdict). and_then v (and_then w (and_then index_well (and_then names_once labels_once)))) p q ∙ ap (λ (v : Verdict). and_then v (and_then names_once labels_once)) s)
       (subst Added (sym k.1) (index_bad k.0))
-  beside Pass Pass Pass (Stop r) f p q s t u =
+  beside (Ok tt) (Ok tt) (Ok tt) (Err r) f p q s t u =
       both_stop r
       (stop_is ∙ ap₂ (λ (v w : Verdict). and_then v (and_then w (and_then index_well (and_then names_once labels_once)))) p q
       ∙ ap₂ (λ (v w : Verdict). and_then v (and_then w labels_once)) s t)
       (ap₂ and_then p t)
-  beside Pass Pass Pass Pass (Stop r) p q s t u =
+  beside (Ok tt) (Ok tt) (Ok tt) (Ok tt) (Err r) p q s t u =
       let k = name_stop 6 (label_repeat x.labels) r u in
       added_stop r
       (stop_is ∙ ap₂ (λ (v w : Verdict). and_then v (and_then w (and_then index_well (and_then names_once labels_once)))) p q
       ∙ ap₂ (λ (v w : Verdict). and_then v (and_then w labels_once)) s t ∙ u)
       (subst Added (sym k.1) (labels_share k.0))
-  beside Pass Pass Pass Pass Pass p q s t u =
+  beside (Ok tt) (Ok tt) (Ok tt) (Ok tt) (Ok tt) p q s t u =
       passed
       (stop_is ∙ ap₂ (λ (v w : Verdict). and_then v (and_then w (and_then index_well (and_then names_once labels_once)))) p q
       ∙ ap₂ (λ (v w : Verdict). and_then v (and_then w labels_once)) s t ∙ u)
       o.answer refl
 
   -- a list that the call without index refuses is refused first
-  pub lists_stop : (r : Refusal) → lists ≡ Stop r → SameCall job x
+  pub lists_stop : (r : Refusal) → lists ≡ Err r → SameCall job x
   lists_stop r p =
       stop_same r (stop_is ∙ ap (λ (v : Verdict). and_then v (and_then labels_well (and_then index_well (and_then names_once labels_once)))) p) (ap (λ (v : Verdict). and_then v names_once) p)
 
   -- labels and index are well, no label repeats and the new index has room: the call is as without
-  pub well_same : (a e : Verdict) → lists ≡ a → names_once ≡ e → labels_well ≡ Pass → index_well ≡ Pass → labels_once ≡ Pass → leb (length new) (length x.index) ≡ true → SameCall job x
-  well_same (Stop r) e p t q s u b = lists_stop r p
-  well_same Pass (Stop r) p t q s u b =
+  pub well_same : (a e : Verdict) → lists ≡ a → names_once ≡ e → labels_well ≡ Ok tt → index_well ≡ Ok tt → labels_once ≡ Ok tt → leb (length new) (length x.index) ≡ true → SameCall job x
+  well_same (Err r) e p t q s u b = lists_stop r p
+  well_same (Ok tt) (Err r) p t q s u b =
       stop_same r
       (stop_is ∙ ap₂ (λ (v w : Verdict). and_then v (and_then w (and_then index_well (and_then names_once labels_once)))) p q
       ∙ ap₂ (λ (v w : Verdict). and_then v (and_then w labels_once)) s t)
       (ap₂ and_then p t)
-  well_same Pass Pass p t q s u b = go o.answer refl
+  well_same (Ok tt) (Ok tt) p t q s u b = go o.answer refl
     where
-      passes : indexed_stop x ≡ Pass
+      passes : indexed_stop x ≡ Ok tt
       passes =
           stop_is ∙ ap₂ (λ (v w : Verdict). and_then v (and_then w (and_then index_well (and_then names_once labels_once)))) p q
           ∙ ap₂ (λ (v w : Verdict). and_then v (and_then w labels_once)) s t ∙ u

@@ -1,16 +1,15 @@
 -- A refused call with an index leaves its four counts and every lent byte, those of the index too. Assumes nothing.
-use Rattle.std.specs.Prelude.{ℕ, Bool, true, false, List, ◌≡◌, refl, length, leb}
+use Rattle.std.specs.Prelude.{ℕ, Bool, true, false, List, ◌≡◌, refl, length, leb, Err, Ok}
 use Rattle.std.proofs.Common.{sym, ap, ap₂, ◌∙◌}
 use Rattle.jobs.specs.declared.Job.{Job}
 use Rattle.refusal.specs.declared.Refusal.{Refusal}
-use Rattle.refusal.specs.declared.Verdict.{Verdict}
-use Rattle.refusal.specs.declared.Verdict.TheVariants.{Pass, Stop}
 use Rattle.emit_outcome.specs.declared.EmitAnswer.{EmitAnswer}
 use Rattle.emit_outcome.specs.declared.EmitAnswer.TheVariants.{Done, Refused}
 use Rattle.emit_outcome.specs.Emit.{emit_outcome}
 use Rattle.label_uses.specs.UseBytes.{index_of}
 use Rattle.indexed_outcome.specs.Indexed.{IndexedCall, IndexedOutcome, filled_pending, indexed_stop, indexed_refuse, indexed_accept, indexed_by, indexed_unless, indexed_outcome}
 use Rattle.indexed_outcome.proofs.BesideLaws.{never, indexed_is, passes_is, accept_fits, accept_short}
+use Rattle.refusal.specs.Verdicts.{Verdict}
 
 pub refused_stays : (job : Job) (x : IndexedCall) (r : Refusal) (position : ℕ) → (indexed_outcome job x).answer ≡ Refused r position → indexed_outcome job x ≡ indexed_refuse x r position
 refused_stays job x r position e = go (indexed_stop x) refl
@@ -24,8 +23,8 @@ refused_stays job x r position e = go (indexed_stop x) refl
         i ∙ ap₂ (indexed_refuse x) k l
 
     go : (v : Verdict) → indexed_stop x ≡ v → indexed_outcome job x ≡ indexed_refuse x r position
-    go (Stop r') s = same r' x.call.numbers.place.position (indexed_is job x ∙ ap (indexed_unless job x) s)
-    go Pass s = answered (emit_outcome job x.call).answer refl
+    go (Err r') s = same r' x.call.numbers.place.position (indexed_is job x ∙ ap (indexed_unless job x) s)
+    go (Ok tt) s = answered (emit_outcome job x.call).answer refl
       where
         n : List ℕ
         n = index_of x.labels (filled_pending (emit_outcome job x.call).lent (emit_outcome job x.call).counts)

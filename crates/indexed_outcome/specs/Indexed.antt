@@ -1,12 +1,10 @@
 -- A whole emit call with an index of label uses (document 02, P1). Assumes nothing.
-use Rattle.std.specs.Prelude.{ℕ, List, true, false, length, take, leb}
+use Rattle.std.specs.Prelude.{ℕ, List, true, false, length, take, leb, Err, Ok}
 use Rattle.jobs.specs.declared.Job.{Job}
 use Rattle.record.specs.Stores.{append}
-use Rattle.refusal.specs.Verdicts.{and_then, layout_verdict, name_verdict}
+use Rattle.refusal.specs.Verdicts.{and_then, layout_verdict, name_verdict, Verdict}
 use Rattle.refusal.specs.declared.Refusal.TheVariants.{NoIndexSpace}
 use Rattle.refusal.specs.declared.Refusal.{Refusal}
-use Rattle.refusal.specs.declared.Verdict.{Verdict}
-use Rattle.refusal.specs.declared.Verdict.TheVariants.{Pass, Stop}
 use Rattle.labels.specs.Labels.{label_layout, label_repeat}
 use Rattle.descriptors.specs.Descriptors.{descriptor_repeat}
 use Rattle.descriptors.specs.Mnemonics.{mnemonic_location}
@@ -69,8 +67,8 @@ indexed_by x o (Done position loaded) = indexed_accept x o (index_of x.labels (f
 indexed_by x o (Refused r position) = indexed_refuse x r position
 
 abbrev pub indexed_unless : Job → IndexedCall → Verdict → IndexedOutcome
-indexed_unless job x (Stop r) = indexed_refuse x r x.call.numbers.place.position
-indexed_unless job x Pass = let o = emit_outcome job x.call in indexed_by x o o.answer
+indexed_unless job x (Err r) = indexed_refuse x r x.call.numbers.place.position
+indexed_unless job x (Ok tt) = let o = emit_outcome job x.call in indexed_by x o o.answer
 
 unfoldable pub indexed_outcome : Job → IndexedCall → IndexedOutcome
 unfolding indexed_stop emit_outcome index_of append

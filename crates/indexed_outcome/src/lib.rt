@@ -19,9 +19,3 @@ pub struct IndexedEmitted {
     pub counts: IndexedCounts,
 }
 
-// The fill count of an index that was made, or why there is none.
-#[derive(Clone, Copy)]
-pub enum IndexAnswer {
-    Made(u32),
-    Refused(Refusal),
-}

@@ -22,13 +22,6 @@ pub enum Size {
     Word,
 }
 
-// The opcode that an immediate out of range falls back on, or none.
-#[derive(Clone, Copy)]
-pub enum Alternative {
-    Nothing,
-    Some(Opcode),
-}
-
 // How an instruction reads its operands and lays its word out.
 #[derive(Clone, Copy)]
 pub enum Encoding {
@@ -39,7 +32,7 @@ pub enum Encoding {
     Inputs,
     Sham,
     SpecialBranch,
-    Immediate(Alternative),
+    Immediate(Option<Opcode>),
     LoadImmediate,
     Jump,
     Branch,

@@ -8,48 +8,39 @@ ghost use Rattle.name_index.specs.Index.{IndexOf};
 ghost use Rattle.label_finder.specs.Find.{layout_verdicts, FindIs};
 
 use labels::Found;
-use names::Repeat;
-use record::Layout;
-use refusal::{Refusal, Verdict};
-
-// An address or none with its count, or a refusal.
-#[derive(Clone, Copy)]
-pub enum FindAnswer {
-    Found(Found),
-    Refused(Refusal),
-}
+use refusal::Refusal;
 
 // Refusal 1: the first buffer that breaks its layout.
-fn check_layouts(labels: &[u8], name: &[u8]) -> Verdict
+fn check_layouts(labels: &[u8], name: &[u8]) -> Result<(), Refusal>
     ensures { result ≡ layout_verdicts labels.now name.now }
 {
-    if let Layout::Bad(place) = labels::first_bad_label(labels) {
-        return Verdict::Stop(Refusal::BadLayout(0, place as u32));
+    if let Some(place) = labels::first_bad_label(labels) {
+        return Err(Refusal::BadLayout(0, place as u32));
     }
     if name.len() > record::LIMIT {
-        return Verdict::Stop(Refusal::BadLayout(1, record::LIMIT as u32));
+        return Err(Refusal::BadLayout(1, record::LIMIT as u32));
     }
-    Verdict::Pass
+    Ok(())
 }
 
 // Looks the name up in lists that have passed, by an index of the labels.
-fn find_indexed(labels: &[u8], index: &[u16], name: &[u8], source: u32) -> FindAnswer
-    requires name_value { layout_verdicts labels.now name.now ≡ Verdict.Pass }
+fn find_indexed(labels: &[u8], index: &[u16], name: &[u8], source: u32) -> Result<Found, Refusal>
+    requires name_value { layout_verdicts labels.now name.now ≡ Ok tt }
     requires index_of { IndexOf 4 labels.now index.now × (length index.now ≤ most_labels) }
     ensures { FindIs labels.now name.now source result }
 {
-    if let Repeat::Later(place) = labels::first_repeat(labels, index) {
-        return FindAnswer::Refused(Refusal::DuplicateName(0, place as u32));
+    if let Some(place) = labels::first_repeat(labels, index) {
+        return Err(Refusal::DuplicateName(0, place as u32));
     }
-    FindAnswer::Found(labels::get(labels, index, source, name))
+    Ok(labels::get(labels, index, source, name))
 }
 
 // The address of the label that a name of that source stands for, or none, or a refusal.
-pub fn find_label(labels: &[u8], name: &[u8], source: u32) -> FindAnswer
+pub fn find_label(labels: &[u8], name: &[u8], source: u32) -> Result<Found, Refusal>
     ensures { FindIs labels.now name.now source result }
 {
-    if let Verdict::Stop(refusal) = check_layouts(labels, name) {
-        return FindAnswer::Refused(refusal);
+    if let Err(refusal) = check_layouts(labels, name) {
+        return Err(refusal);
     }
     let mut index = [0u16; labels::MOST];
     let mut spare = [0u16; labels::MOST];

@@ -1,13 +1,10 @@
 -- The check of an index, record by record: what is read so far is seen and its bytes are those read; where the bytes are the index's, what is read so far begins its uses. Assumes nothing.
-use Rattle.std.specs.Prelude.{ℕ, ◌+◌, ◌≤◌, ◌<◌, Bool, true, false, ◌≡◌, refl, length, take, drop}
+use Rattle.std.specs.Prelude.{ℕ, ◌+◌, ◌≤◌, ◌<◌, Bool, true, false, ◌≡◌, refl, length, take, drop, None, Option, Some}
 use Rattle.std.proofs.Common.{arith, ⊎_elim, sym, ap, ap₂, ◌∙◌, subst, length-append, take-append-drop, length-take-le, take-add}
 use mathlib.Core.List.{List, [], ◌∷◌, ◌++◌, append_assoc, append-nil, Memᴰ}
-use Rattle.std.proofs.Math.Option.{Option, some}
 use Rattle.record.specs.Bytes.{byte_at}
 use Rattle.record.specs.Records.{next, body_len, kind_at, places, first_bad}
 use Rattle.record.proofs.BehindLaws.{byte_behind, le16_behind}
-use Rattle.record.specs.declared.Layout.TheVariants.{Good}
-use Rattle.name_order.specs.declared.Ordered.TheVariants.{Less}
 use Rattle.pending.specs.Pendings.{pending_ok}
 use Rattle.label_uses.specs.Uses.{UseKey, Use, use_order, uses_of}
 use Rattle.label_uses.specs.UseBytes.{flag_of, uses_bytes, index_of, use_bytes}
@@ -22,6 +19,7 @@ use Rattle.label_uses.proofs.OneMoreLaws.{AllBytes, owners_fit, numbers_fit}
 use Rattle.label_uses.specs.ReadUse.{count_at, use_read, RecordOk}
 use Rattle.label_uses.proofs.ReadUseLaws.{UseFits, body_read, next_read, count_read, use_read_lem}
 use Rattle.label_uses.proofs.CheckLaws.{record_back}
+use Rattle.std.specs.declared.cmp.Ordering.TheVariants.{Less}
 
 -- ---- a use more behind those seen
 abbrev pub AllBefore : List Use → UseKey → Type 0
@@ -58,7 +56,7 @@ module _ (key_at_lem : ℕ → Option UseKey) (total : ℕ) where
   pub record Fine (l : List Use) (u : Use) : Type 0 where
     pub after : AllBefore l u.key
     pub rising : NumbersRise u.numbers × (0 < length u.numbers)
-    pub right : (n : ℕ) → Memᴰ n u.numbers → (n < total) × (key_at_lem n ≡ some u.key)
+    pub right : (n : ℕ) → Memᴰ n u.numbers → (n < total) × (key_at_lem n ≡ Some u.key)
 
   pub seen_behind : (l : List Use) (u : Use) → Seen key_at_lem total l → Fine l u → Seen key_at_lem total (l ++ (u ∷ []))
   seen_behind l u s f = record { rises = rises_behind l u s.rises f.after; in_order = orders; sound = sounds }
@@ -73,8 +71,8 @@ module _ (key_at_lem : ℕ → Option UseKey) (total : ℕ) where
       orders : (v : Use) → Memᴰ v (l ++ (u ∷ [])) → NumbersRise v.numbers × (0 < length v.numbers)
       orders = which (λ (v : Use). NumbersRise v.numbers × (0 < length v.numbers)) s.in_order f.rising
 
-      sounds : (v : Use) → Memᴰ v (l ++ (u ∷ [])) → (n : ℕ) → Memᴰ n v.numbers → (n < total) × (key_at_lem n ≡ some v.key)
-      sounds = which (λ (v : Use). (n : ℕ) → Memᴰ n v.numbers → (n < total) × (key_at_lem n ≡ some v.key)) s.sound f.right
+      sounds : (v : Use) → Memᴰ v (l ++ (u ∷ [])) → (n : ℕ) → Memᴰ n v.numbers → (n < total) × (key_at_lem n ≡ Some v.key)
+      sounds = which (λ (v : Use). (n : ℕ) → Memᴰ n v.numbers → (n < total) × (key_at_lem n ≡ Some v.key)) s.sound f.right
 
   -- and the other way round: each use of those that say so is fine behind those before it
   pub fine_in : (us l r : List Use) (u : Use) → SaysTo key_at_lem total us → us ≡ l ++ (u ∷ r) → Fine l u
@@ -113,7 +111,7 @@ all_seen labels pending l s n =
     ap uses_bytes (says_once (key_at labels pending) (length (places pending)) l (uses_of labels pending) (counted_says (key_at labels pending) (length (places pending)) l s n) (says_all labels pending))
 
 -- ---- where it says no: had the buffer held the index, the record would have passed
-module _ (labels pending s : List ℕ) (fill : ℕ) (lb : AllBytes labels) (pb : AllBytes pending) (g : first_bad (pending_ok 16 pending) (places pending) ≡ Good)
+module _ (labels pending s : List ℕ) (fill : ℕ) (lb : AllBytes labels) (pb : AllBytes pending) (g : first_bad (pending_ok 16 pending) (places pending) ≡ None)
     (pl : length pending ≤ 65536) (sl : length s ≤ 65536) (fl : fill ≤ length s) (held : take fill s ≡ index_of labels pending) where
   uses_are : take fill s ≡ uses_bytes (uses_of labels pending)
   unfolding index_of

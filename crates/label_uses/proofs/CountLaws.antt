@@ -1,15 +1,13 @@
 -- The count: uses whose keys rise, whose numbers rise and stand under the right key, and which are as many as there are names, leave none out. Assumes nothing.
-use Rattle.std.specs.Prelude.{ℕ, zero, suc, ◌+◌, ◌<◌, ◌≤◌, Bool, ◌≡◌, length, eqb}
+use Rattle.std.specs.Prelude.{ℕ, zero, suc, ◌+◌, ◌<◌, ◌≤◌, Bool, ◌≡◌, length, eqb, Option, None, Some}
 use native.Mathlib.Omega.{arith}
 use mathlib.Core.List.Memᴰ
 use mathlib.Core.List.{List, [], ◌∷◌, Memᴰ}
 use Rattle.std.proofs.Common.{⊎_elim, sym, ◌∙◌, subst}
 use Rattle.std.proofs.Math.Bool.{true, false}
-use Rattle.std.proofs.Math.Option.{Option, none, some}
 use Rattle.std.proofs.Math.Path.{refl, ap}
 use Rattle.std.proofs.Math.Dec.{ltb}
 use borrow.Author.Tests.{ltb-true, ltb-false, eq-eqb, ne_eqb, eqb-true}
-use Rattle.name_order.specs.declared.Ordered.TheVariants.{Less}
 use Rattle.name_sort.specs.Sorting.{one, count, In}
 use Rattle.name_sort.proofs.SortingLaws.{in_cons, not_in}
 use Rattle.label_uses.specs.Uses.{UseKey, Use, use_order}
@@ -17,6 +15,7 @@ use Rattle.label_uses.proofs.UseOrderLaws.{never, use_same}
 use Rattle.label_uses.proofs.InsertLaws.{Rises, one_left}
 use Rattle.label_uses.proofs.SaysLaws.{SaysTo}
 use Rattle.label_uses.specs.Says.{NumbersRise, end, then}
+use Rattle.std.specs.declared.cmp.Ordering.TheVariants.{Less}
 
 -- ---- sums
 unfoldable pub sum_to : (ℕ → ℕ) → ℕ → ℕ
@@ -164,8 +163,8 @@ use_times (w ∷ us) u v m k =
 
 -- 1 for a name, 0 for a constant
 abbrev pub name_count : Option UseKey → ℕ
-name_count none = 0
-name_count (some key) = 1
+name_count None = 0
+name_count (Some key) = 1
 
 -- how many of the first n pendings name a label
 abbrev pub names_to : (ℕ → Option UseKey) → ℕ → ℕ
@@ -183,7 +182,7 @@ names_next key_at_lem n = refl
 pub record Seen (key_at_lem : ℕ → Option UseKey) (total : ℕ) (us : List Use) : Type 0 where
   pub rises : Rises us
   pub in_order : (u : Use) → Memᴰ u us → NumbersRise u.numbers × (0 < length u.numbers)
-  pub sound : (u : Use) → Memᴰ u us → (n : ℕ) → Memᴰ n u.numbers → (n < total) × (key_at_lem n ≡ some u.key)
+  pub sound : (u : Use) → Memᴰ u us → (n : ℕ) → Memᴰ n u.numbers → (n < total) × (key_at_lem n ≡ Some u.key)
 
 module _ (key_at_lem : ℕ → Option UseKey) (total : ℕ) where
   no_times : (us : List Use) (v : ℕ) → ((u : Use) → Memᴰ u us → Memᴰ v u.numbers → ⊥) → times_in v us ≡ 0
@@ -205,7 +204,7 @@ module _ (key_at_lem : ℕ → Option UseKey) (total : ℕ) where
           let e = (s.sound u (Memᴰ.head refl) v m).1 in
           omega (arith, numbers_once u.numbers (s.in_order u (Memᴰ.head refl)).0 v, no_times us v (λ w t k. other w t (s.sound w (Memᴰ.tail t) v k).1 e (h w t)))
         where
-          other : (w : Use) → Memᴰ w us → key_at_lem v ≡ some w.key → key_at_lem v ≡ some u.key → use_order u.key w.key ≡ Less → ⊥
+          other : (w : Use) → Memᴰ w us → key_at_lem v ≡ Some w.key → key_at_lem v ≡ Some u.key → use_order u.key w.key ≡ Less → ⊥
           other w t e f l =
               let q : w.key ≡ u.key = cc in
               let x = use_same u.key in
@@ -221,10 +220,10 @@ module _ (key_at_lem : ℕ → Option UseKey) (total : ℕ) where
   times_most us s v = go (key_at_lem v) refl
     where
       go : (x : Option UseKey) → key_at_lem v ≡ x → times_in v us ≤ name_count (key_at_lem v)
-      go none e =
+      go None e =
           let z = no_times us v (λ u m k. let f = (s.sound u m v k).1 in never (cc)) in
           omega arith
-      go (some key) e =
+      go (Some key) e =
           let z : name_count (key_at_lem v) ≡ 1 = ap name_count e in
           omega (arith, times_once us v s)
 
@@ -237,7 +236,7 @@ module _ (key_at_lem : ℕ → Option UseKey) (total : ℕ) where
           sum_agree (λ (n : ℕ). times_in n us) (λ (n : ℕ). name_count (key_at_lem n)) total (λ n h. times_most us s n)
           (sum_times us total (λ u m n k. (s.sound u m n k).0) ∙ e)
 
-      whole : (n : ℕ) → n < total → (key : UseKey) → key_at_lem n ≡ some key → (u : Use) × Memᴰ u us × (u.key ≡ key) × Memᴰ n u.numbers
+      whole : (n : ℕ) → n < total → (key : UseKey) → key_at_lem n ≡ Some key → (u : Use) × Memᴰ u us × (u.key ≡ key) × Memᴰ n u.numbers
       whole n h key f =
           let one_there : times_in n us ≡ 1 = agree n h ∙ ap name_count f in
           let r = times_in_lem us n (omega arith) in
@@ -256,8 +255,8 @@ module _ (key_at_lem : ℕ → Option UseKey) (total : ℕ) where
       least n h = go (key_at_lem n) refl
         where
           go : (x : Option UseKey) → key_at_lem n ≡ x → name_count (key_at_lem n) ≤ times_in n us
-          go none e = let z : name_count (key_at_lem n) ≡ 0 = ap name_count e in omega arith
-          go (some key) e =
+          go None e = let z : name_count (key_at_lem n) ≡ 0 = ap name_count e in omega arith
+          go (Some key) e =
               let z : name_count (key_at_lem n) ≡ 1 = ap name_count e in
               let c = s.complete n h key e in
               omega (arith, use_times us c.0 n c.1 c.3)

@@ -1,5 +1,5 @@
 -- The index is never longer than its pending list. Assumes nothing.
-use Rattle.std.specs.Prelude.{ℕ, ◌+◌, ◌≤◌, Bool, true, false, ◌≡◌, refl, length, drop, eqb}
+use Rattle.std.specs.Prelude.{ℕ, ◌+◌, ◌≤◌, Bool, true, false, ◌≡◌, refl, length, drop, eqb, None}
 use native.Mathlib.Omega.{arith}
 use mathlib.Core.List.{List, [], ◌∷◌}
 use Rattle.std.proofs.Math.Logic.{⊎_elim}
@@ -8,7 +8,6 @@ use Rattle.std.proofs.Common.{sym, ap, ◌∙◌, length-take, eqb-true}
 use Rattle.record.specs.Bytes.{byte_at, part}
 use Rattle.record.specs.Records.{next, places_from, first_bad}
 use Rattle.record.proofs.RecordsLaws.{places_cons, first_good}
-use Rattle.record.specs.declared.Layout.TheVariants.{Good}
 use Rattle.address_label.proofs.AddressLabelsLaws.{at_constant, at_named, name_ends}
 use Rattle.address_label.specs.declared.NamedLabel.{NamedLabel}
 use Rattle.address_label.specs.declared.AddressLabel.{AddressLabel}
@@ -55,7 +54,7 @@ module _ (labels pending : List ℕ) where
       let i = name_ends pending (at + 19) (next pending at) (omega arith) l e in
       omega (arith, (insert_length key n us).most)
 
-  pub fits_from : (at n : ℕ) (ps : List ℕ) (us : List Use) → places_from pending at ≡ ps → at ≤ length pending → first_bad (pending_ok 16 pending) ps ≡ Good
+  pub fits_from : (at n : ℕ) (ps : List ℕ) (us : List Use) → places_from pending at ≡ ps → at ≤ length pending → first_bad (pending_ok 16 pending) ps ≡ None
       → length (uses_bytes us) ≤ at → length (uses_bytes (uses_from labels pending n ps us)) ≤ length pending
   unfolding uses_from
   fits_from at n [] us e h g k = omega arith

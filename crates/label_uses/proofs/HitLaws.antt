@@ -1,5 +1,5 @@
 -- What a name stands for, by two lookups that need not know that no label repeats: a lookup through any index hits exactly where the scan does. The first part is for crates/name_index. Assumes nothing.
-use Rattle.std.specs.Prelude.{ℕ, zero, suc, ◌+◌, ◌≤◌, ◌<◌, Bool, ◌≡◌, length, get_or, ltb, eqb}
+use Rattle.std.specs.Prelude.{ℕ, zero, suc, ◌+◌, ◌≤◌, ◌<◌, Bool, ◌≡◌, length, get_or, ltb, eqb, None, Option, Some}
 use Rattle.std.proofs.Common.{arith, ⊎_elim, sym, ap₂, ◌∙◌, ltb-true, ltb-false, eqb-true}
 use mathlib.Core.List.{List, [], ◌∷◌}
 use Rattle.std.proofs.Math.Bool.{true, false, and-eq-true_iff}
@@ -9,12 +9,8 @@ use Rattle.record.specs.Records.{places}
 use Rattle.names.specs.Names.{first_where}
 use Rattle.names.proofs.NamesLaws.{where_hit, where_pass}
 use Rattle.names.specs.Owners.{for_all, owner_of, owned_name, is_owned, first_owned}
-use Rattle.names.specs.declared.Named.{Named}
-use Rattle.names.specs.declared.Named.TheVariants.{At, Missing}
 use Rattle.name_order.specs.Order.{Key, key_order}
 use Rattle.name_order.proofs.OrderLaws.{key_same, key_is}
-use Rattle.name_order.specs.declared.Ordered.{Ordered}
-use Rattle.name_order.specs.declared.Ordered.TheVariants.{Less, Same, More}
 use Rattle.name_sort.specs.Sorting.{In}
 use Rattle.name_sort.proofs.SortingLaws.{at_in, in_cons, not_in}
 use Rattle.name_sort.specs.Before.{key_of}
@@ -27,10 +23,12 @@ use Rattle.labels.specs.Labels.{or_else, labelled}
 use Rattle.label_uses.specs.Uses.{standing_by}
 use Rattle.label_uses.proofs.UseOrderLaws.{never}
 use Rattle.label_uses.specs.declared.Standing.{Standing}
+use Rattle.std.specs.declared.cmp.Ordering.TheVariants.{Less, Equal, Greater}
+use Rattle.std.specs.declared.cmp.Ordering.{Ordering}
 
-abbrev pub is_hit : Named → Bool
-is_hit (At p) = true
-is_hit Missing = false
+abbrev pub is_hit : Option ℕ → Bool
+is_hit (Some p) = true
+is_hit None = false
 
 -- ---- a scan
 module _ (test : ℕ → Bool) where
@@ -48,12 +46,12 @@ module _ (test : ℕ → Bool) where
           (in_cons q p ps m)
 
   -- and what it finds passes it
-  finds_it : (ps : List ℕ) (p : ℕ) → first_where test ps ≡ At p → test p ≡ true
+  finds_it : (ps : List ℕ) (p : ℕ) → first_where test ps ≡ Some p → test p ≡ true
   unfolding first_where
   finds_it [] p e = never (cc)
   finds_it (q ∷ ps) p e = go (test q) refl (finds_it ps p)
     where
-      go : (b : Bool) → test q ≡ b → (first_where test ps ≡ At p → test p ≡ true) → test p ≡ true
+      go : (b : Bool) → test q ≡ b → (first_where test ps ≡ Some p → test p ≡ true) → test p ≡ true
       go true f ih = let h = where_hit test q ps f in let i : p ≡ q = cc in ap test i ∙ f
       go false f ih = ih (sym (where_pass test q ps f) ∙ e)
 
@@ -66,14 +64,14 @@ above a b h = go (ltb a b) refl
 
 -- ---- a search in an index of records of which some may share owner and name
 module _ (skip : ℕ) (s l : List ℕ) (ix : IndexOf skip s l) (owner : ℕ) (name : List ℕ) where
-  abbrev at : ℕ → Ordered
+  abbrev at : ℕ → Ordering
   at k = standing skip s owner name (get_or l k 0)
 
   -- those of the name stand from lo on and before hi
   abbrev Between : ℕ → ℕ → Type 0
   Between lo hi = (k : ℕ) → k < length l → key_at skip s l ix k ≡ (name, owner) → (lo ≤ k) × (k < hi)
 
-  same_at : (k : ℕ) → key_at skip s l ix k ≡ (name, owner) → at k ≡ Same
+  same_at : (k : ℕ) → key_at skip s l ix k ≡ (name, owner) → at k ≡ Equal
   same_at k e = ap (λ (x : Key). key_order x (name, owner)) e ∙ key_same (name, owner)
 
   not_before : (m k : ℕ) → m < length l → k ≤ m → at m ≡ Less → key_at skip s l ix k ≡ (name, owner) → ⊥
@@ -90,7 +88,7 @@ module _ (skip : ℕ) (s l : List ℕ) (ix : IndexOf skip s l) (owner : ℕ) (na
           let w = same_at k e in
           never (cc)
 
-  not_behind : (m k : ℕ) → k < length l → m ≤ k → at m ≡ More → key_at skip s l ix k ≡ (name, owner) → ⊥
+  not_behind : (m k : ℕ) → k < length l → m ≤ k → at m ≡ Greater → key_at skip s l ix k ≡ (name, owner) → ⊥
   not_behind m k h n o e = go (ltb m k) refl
     where
       go : (b : Bool) → ltb m k ≡ b → ⊥
@@ -101,7 +99,7 @@ module _ (skip : ℕ) (s l : List ℕ) (ix : IndexOf skip s l) (owner : ℕ) (na
           (goes skip s l ix m k (ltb-true m k t) h)
       go false t =
           let q : k ≡ m = let v = ltb-false m k t in omega arith in
-          let z : at k ≡ More = ap at q ∙ o in
+          let z : at k ≡ Greater = ap at q ∙ o in
           let w = same_at k e in
           never (cc)
 
@@ -112,7 +110,7 @@ module _ (skip : ℕ) (s l : List ℕ) (ix : IndexOf skip s l) (owner : ℕ) (na
       let k = b r.0 r.1 (ap (key_of skip s) r.2 ∙ owned_key skip s owner name q t) in
       absurd (omega (arith, k)))
 
-  met : (k : ℕ) → k < length l → at k ≡ Same → is_hit (first_owned skip s owner name) ≡ true
+  met : (k : ℕ) → k < length l → at k ≡ Equal → is_hit (first_owned skip s owner name) ≡ true
   met k h e =
       no_miss (is_owned skip s owner name) (places s) (get_or l k 0) (at_list skip s l ix k h)
       (key_owned skip s owner name (get_or l k 0) (key_is (key_at skip s l ix k) (name, owner) e))
@@ -126,7 +124,7 @@ module _ (skip : ℕ) (s l : List ℕ) (ix : IndexOf skip s l) (owner : ℕ) (na
   search_hits (suc n) lo hi c a h b =
       go (ltb lo hi) refl (at (middle lo hi)) refl (search_hits n (middle lo hi + 1) hi (c + 1)) (search_hits n lo (middle lo hi) (c + 1))
     where
-      go : (t : Bool) → ltb lo hi ≡ t → (o : Ordered) → at (middle lo hi) ≡ o
+      go : (t : Bool) → ltb lo hi ≡ t → (o : Ordering) → at (middle lo hi) ≡ o
           → (hi ≤ middle lo hi + 1 + n → hi ≤ length l → Between (middle lo hi + 1) hi → searched (middle lo hi + 1) hi (c + 1) ≡ is_hit (first_owned skip s owner name))
           → (middle lo hi ≤ lo + n → middle lo hi ≤ length l → Between lo (middle lo hi) → searched lo (middle lo hi) (c + 1) ≡ is_hit (first_owned skip s owner name))
           → searched lo hi c ≡ is_hit (first_owned skip s owner name)
@@ -137,10 +135,10 @@ module _ (skip : ℕ) (s l : List ℕ) (ix : IndexOf skip s l) (owner : ℕ) (na
           let k = ltb-true lo hi t in
           ap (λ (x : Looked). is_hit x.named) (search_up (standing skip s owner name) l lo hi c k e)
           ∙ up (omega arith) h (λ i m f. (omega (arith, above (middle lo hi) i (λ q. not_before (middle lo hi) i (omega arith) q e f)), (b i m f).1))
-      go true t Same e up down =
+      go true t Equal e up down =
           let k = ltb-true lo hi t in
           ap (λ (x : Looked). is_hit x.named) (search_hit (standing skip s owner name) l lo hi c k e) ∙ sym (met (middle lo hi) (omega arith) e)
-      go true t More e up down =
+      go true t Greater e up down =
           let k = ltb-true lo hi t in
           ap (λ (x : Looked). is_hit x.named) (search_down (standing skip s owner name) l lo hi c k e)
           ∙ down (omega arith) (omega arith) (λ i m f. ((b i m f).0, above i (middle lo hi) (λ q. not_behind (middle lo hi) i m q e f)))
@@ -160,7 +158,7 @@ standing_hit source false false = record { known = false; owner = source }
 abbrev standing_of : Bool → ℕ → Standing
 standing_of known owner = record { known = known; owner = owner }
 
-owner_found : (labels : List ℕ) (owner : ℕ) (name : List ℕ) (p : ℕ) → first_owned 4 labels owner name ≡ At p → owner_of 4 labels p ≡ owner
+owner_found : (labels : List ℕ) (owner : ℕ) (name : List ℕ) (p : ℕ) → first_owned 4 labels owner name ≡ Some p → owner_of 4 labels p ≡ owner
 owner_found labels owner name p e =
     let t = finds_it (is_owned 4 labels owner name) (places labels) p e in
     eqb-true (owner_of 4 labels p) owner ((and-eq-true_iff (eqb (owner_of 4 labels p) owner) (same_bytes (owned_name 4 labels p) name)).0 t).0
@@ -169,15 +167,15 @@ pub standing_by_hits : (labels : List ℕ) (source : ℕ) (name : List ℕ)
     → standing_by labels source (labelled labels source name) ≡ standing_hit source (is_hit (first_owned 4 labels source name)) (is_hit (first_owned 4 labels for_all name))
 standing_by_hits labels source name = go (first_owned 4 labels source name) refl (first_owned 4 labels for_all name) refl
   where
-    go : (x : Named) → first_owned 4 labels source name ≡ x → (y : Named) → first_owned 4 labels for_all name ≡ y
+    go : (x : Option ℕ) → first_owned 4 labels source name ≡ x → (y : Option ℕ) → first_owned 4 labels for_all name ≡ y
         → standing_by labels source (labelled labels source name) ≡ standing_hit source (is_hit (first_owned 4 labels source name)) (is_hit (first_owned 4 labels for_all name))
-    go (At p) e y f =
-        ap₂ (λ (a b : Named). standing_by labels source (or_else a b)) e f
+    go (Some p) e y f =
+        ap₂ (λ (a b : Option ℕ). standing_by labels source (or_else a b)) e f
         ∙ ap (standing_of true) (owner_found labels source name p e)
-        ∙ sym (ap₂ (λ (a b : Named). standing_hit source (is_hit a) (is_hit b)) e f)
-    go Missing e (At p) f =
-        ap₂ (λ (a b : Named). standing_by labels source (or_else a b)) e f
+        ∙ sym (ap₂ (λ (a b : Option ℕ). standing_hit source (is_hit a) (is_hit b)) e f)
+    go None e (Some p) f =
+        ap₂ (λ (a b : Option ℕ). standing_by labels source (or_else a b)) e f
         ∙ ap (standing_of true) (owner_found labels for_all name p f)
-        ∙ sym (ap₂ (λ (a b : Named). standing_hit source (is_hit a) (is_hit b)) e f)
-    go Missing e Missing f =
-        ap₂ (λ (a b : Named). standing_by labels source (or_else a b)) e f ∙ sym (ap₂ (λ (a b : Named). standing_hit source (is_hit a) (is_hit b)) e f)
+        ∙ sym (ap₂ (λ (a b : Option ℕ). standing_hit source (is_hit a) (is_hit b)) e f)
+    go None e None f =
+        ap₂ (λ (a b : Option ℕ). standing_by labels source (or_else a b)) e f ∙ sym (ap₂ (λ (a b : Option ℕ). standing_hit source (is_hit a) (is_hit b)) e f)

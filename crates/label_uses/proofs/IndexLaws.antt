@@ -1,5 +1,5 @@
 -- What passes for an index: the bytes of the one made afresh, at a fill count within a buffer within the limit. Assumes nothing.
-use Rattle.std.specs.Prelude.{ℕ, ◌+◌, ◌≤◌, ◌<◌, List, [], Bool, true, false, ◌≡◌, length, take, drop}
+use Rattle.std.specs.Prelude.{ℕ, ◌+◌, ◌≤◌, ◌<◌, List, [], Bool, true, false, ◌≡◌, length, take, drop, None, Option, Some}
 use Rattle.std.proofs.Common.{arith, sym, ap, ◌∙◌, length-append, length-drop}
 use Rattle.std.proofs.Math.Path.{refl}
 use Rattle.record.specs.Bytes.{same_bytes}
@@ -8,8 +8,6 @@ use Rattle.record.specs.Records.{limit}
 use Rattle.record.proofs.RecordsLaws.{places_all, places_end}
 use Rattle.record.specs.Stores.{append}
 use Rattle.record.proofs.StoresLaws.{filled_append}
-use Rattle.record.specs.declared.Layout.{Layout}
-use Rattle.record.specs.declared.Layout.TheVariants.{Good, Bad}
 use Rattle.breakpoints.specs.Breakpoints.{filled_layout}
 use Rattle.breakpoints.proofs.BreakpointsLaws.{filled_kept, filled_over, filled_passed, filled_good}
 use Rattle.label_uses.specs.Uses.{uses_from, uses_of}
@@ -18,21 +16,21 @@ use Rattle.label_uses.proofs.UseOrderLaws.{never}
 use Rattle.label_uses.proofs.UseBytesLaws.{uses_none}
 
 module _ (labels pending : List ℕ) (fill : ℕ) (index : List ℕ) where
-  abbrev by_bytes : Bool → Layout
-  by_bytes b = elim b [ true ↦ Good | false ↦ Bad 0 ]
+  abbrev by_bytes : Bool → Option ℕ
+  by_bytes b = elim b [ true ↦ None | false ↦ Some 0 ]
 
   layout_is : index_layout labels pending fill index ≡ filled_layout fill index (by_bytes (same_bytes (take fill index) (index_of labels pending)))
   unfolding index_layout
   layout_is = refl
 
   -- by what is wrong with it
-  pub layout_long : limit < length index → index_layout labels pending fill index ≡ Bad limit
+  pub layout_long : limit < length index → index_layout labels pending fill index ≡ Some limit
   layout_long h = layout_is ∙ filled_passed fill index (by_bytes (same_bytes (take fill index) (index_of labels pending))) h
 
-  pub layout_over : length index ≤ limit → length index < fill → index_layout labels pending fill index ≡ Bad (length index)
+  pub layout_over : length index ≤ limit → length index < fill → index_layout labels pending fill index ≡ Some (length index)
   layout_over h k = layout_is ∙ filled_over fill index (by_bytes (same_bytes (take fill index) (index_of labels pending))) h k
 
-  pub layout_by : length index ≤ limit → fill ≤ length index → {b : Bool} → same_bytes (take fill index) (index_of labels pending) ≡ b → index_layout labels pending fill index ≡ elim b [ true ↦ Good | false ↦ Bad 0 ]
+  pub layout_by : length index ≤ limit → fill ≤ length index → {b : Bool} → same_bytes (take fill index) (index_of labels pending) ≡ b → index_layout labels pending fill index ≡ elim b [ true ↦ None | false ↦ Some 0 ]
   layout_by h k e = layout_is ∙ filled_kept fill index (by_bytes (same_bytes (take fill index) (index_of labels pending))) h k ∙ ap by_bytes e
 
   -- what an accepted index is
@@ -41,22 +39,22 @@ module _ (labels pending : List ℕ) (fill : ℕ) (index : List ℕ) where
     pub filled : fill ≤ length index
     pub bytes : take fill index ≡ index_of labels pending
 
-  pub index_is : index_layout labels pending fill index ≡ Good → IndexIs
+  pub index_is : index_layout labels pending fill index ≡ None → IndexIs
   index_is g =
       let f = filled_good fill index (by_bytes (same_bytes (take fill index) (index_of labels pending))) (sym layout_is ∙ g) in
       record { room = f.0; filled = f.1; bytes = go (same_bytes (take fill index) (index_of labels pending)) refl f.2 }
     where
-      go : (b : Bool) → same_bytes (take fill index) (index_of labels pending) ≡ b → by_bytes (same_bytes (take fill index) (index_of labels pending)) ≡ Good → take fill index ≡ index_of labels pending
+      go : (b : Bool) → same_bytes (take fill index) (index_of labels pending) ≡ b → by_bytes (same_bytes (take fill index) (index_of labels pending)) ≡ None → take fill index ≡ index_of labels pending
       go true e k = same_eq (take fill index) (index_of labels pending) e
       go false e k =
-          let z : by_bytes (same_bytes (take fill index) (index_of labels pending)) ≡ Bad 0 = ap by_bytes e in
+          let z : by_bytes (same_bytes (take fill index) (index_of labels pending)) ≡ Some 0 = ap by_bytes e in
           never (cc)
 
-  pub index_room : index_layout labels pending fill index ≡ Good → length index ≤ limit
+  pub index_room : index_layout labels pending fill index ≡ None → length index ≤ limit
   index_room g = (index_is g).room
 
   -- and the other way round
-  pub is_index : IndexIs → index_layout labels pending fill index ≡ Good
+  pub is_index : IndexIs → index_layout labels pending fill index ≡ None
   is_index i =
       let e : same_bytes (take fill index) (index_of labels pending) ≡ true = ap (λ (l : List ℕ). same_bytes l (index_of labels pending)) i.bytes ∙ eq_same (index_of labels pending) in
       layout_is ∙ filled_kept fill index (by_bytes (same_bytes (take fill index) (index_of labels pending))) i.room i.filled ∙ ap by_bytes e
@@ -73,7 +71,7 @@ written_first d bs =
 
 -- an index that was written afresh is the list's
 pub index_taken : (labels pending index : List ℕ) → length (index_of labels pending) ≤ length index → length index ≤ limit
-    → index_layout labels pending (length (index_of labels pending)) (append index 0 (index_of labels pending)) ≡ Good
+    → index_layout labels pending (length (index_of labels pending)) (append index 0 (index_of labels pending)) ≡ None
 index_taken labels pending index h l =
     let new = index_of labels pending in
     let n = written_length index new h in
@@ -84,5 +82,5 @@ pub index_none : (labels : List ℕ) → index_of labels [] ≡ []
 unfolding index_of uses_of uses_from
 index_none labels = ap (λ (ps : List ℕ). uses_bytes (uses_from labels [] 0 ps [])) (places_all [] ∙ places_end [] 0 (omega arith)) ∙ uses_none
 
-pub none_taken : (labels index : List ℕ) → length index ≤ limit → index_layout labels [] 0 index ≡ Good
+pub none_taken : (labels index : List ℕ) → length index ≤ limit → index_layout labels [] 0 index ≡ None
 none_taken labels index h = is_index labels [] 0 index (record { room = h; filled = omega arith; bytes = sym (index_none labels) })

@@ -5,11 +5,11 @@ use mathlib.Core.List.{List, [], ◌∷◌, Memᴰ}
 use Rattle.std.proofs.Common.{inl, inr, ⊎_elim, sym, ap, ◌∙◌, subst}
 use Rattle.std.proofs.Math.Path.{refl}
 use Rattle.name_order.proofs.OrderLaws.{turned}
-use Rattle.name_order.specs.declared.Ordered.{Ordered}
-use Rattle.name_order.specs.declared.Ordered.TheVariants.{Less, Same, More}
 use Rattle.label_uses.specs.Uses.{UseKey, Use, use_order, one_use, more_use, insert_use}
 use Rattle.label_uses.proofs.UseOrderLaws.{use_is, use_turned, use_trans}
 use Rattle.label_uses.specs.Says.{KeysRise, no_more, one_more, two_more}
+use Rattle.std.specs.declared.cmp.Ordering.TheVariants.{Less, Equal, Greater}
+use Rattle.std.specs.declared.cmp.Ordering.{Ordering}
 
 -- ---- keys that rise, each before all that follow it
 abbrev pub Below : UseKey → List Use → Type 0
@@ -48,11 +48,11 @@ module _ (key : UseKey) (n : ℕ) where
   unfolding insert_use
   insert_less u us e = rw (e, insert_use)
 
-  pub insert_same : (u : Use) (us : List Use) → use_order key u.key ≡ Same → insert_use key n (u ∷ us) ≡ more_use u n ∷ us
+  pub insert_same : (u : Use) (us : List Use) → use_order key u.key ≡ Equal → insert_use key n (u ∷ us) ≡ more_use u n ∷ us
   unfolding insert_use
   insert_same u us e = rw (e, insert_use)
 
-  pub insert_more : (u : Use) (us : List Use) → use_order key u.key ≡ More → insert_use key n (u ∷ us) ≡ u ∷ insert_use key n us
+  pub insert_more : (u : Use) (us : List Use) → use_order key u.key ≡ Greater → insert_use key n (u ∷ us) ≡ u ∷ insert_use key n us
   unfolding insert_use
   insert_more u us e = rw (e, insert_use)
 
@@ -76,14 +76,14 @@ module _ (key : UseKey) (n : ℕ) where
       ⊎_elim (λ (e : v ≡ one_use key n). new e) (λ t. absurd (Memᴰ.not-nil t)) (Memᴰ.cases_cons (subst (Memᴰ v) insert_none m))
   insert_stood (u ∷ us) v m = go (use_order key u.key) refl (insert_stood us v)
     where
-      go : (o : Ordered) → use_order key u.key ≡ o → (Memᴰ v (insert_use key n us) → Stood us v) → Stood (u ∷ us) v
+      go : (o : Ordering) → use_order key u.key ≡ o → (Memᴰ v (insert_use key n us) → Stood us v) → Stood (u ∷ us) v
       go Less e ih = ⊎_elim (λ (i : v ≡ one_use key n). new i) (λ t. before t) (Memᴰ.cases_cons (subst (Memᴰ v) (insert_less u us e) m))
-      go Same e ih =
+      go Equal e ih =
           ⊎_elim
           (λ (i : v ≡ more_use u n). grown u (Memᴰ.head refl) (sym (use_is key u.key e)) i)
           (λ t. before (Memᴰ.tail t))
           (Memᴰ.cases_cons (subst (Memᴰ v) (insert_same u us e) m))
-      go More e ih =
+      go Greater e ih =
           ⊎_elim
           (λ (i : v ≡ u). before (Memᴰ.head i))
           (λ t. stood_tail u us v (ih t))
@@ -100,15 +100,15 @@ module _ (key : UseKey) (n : ℕ) where
       back : (vs : List Use) → insert_use key n (w ∷ us) ≡ vs → Kept vs u → Kept (insert_use key n (w ∷ us)) u
       back vs e k = subst (λ (l : List Use). Kept l u) (sym e) k
 
-      go : (o : Ordered) → use_order key w.key ≡ o → (Memᴰ u us → Kept (insert_use key n us) u) → Kept (insert_use key n (w ∷ us)) u
+      go : (o : Ordering) → use_order key w.key ≡ o → (Memᴰ u us → Kept (insert_use key n us) u) → Kept (insert_use key n (w ∷ us)) u
       go Less e ih = back (one_use key n ∷ (w ∷ us)) (insert_less w us e) (inl (Memᴰ.tail m))
-      go Same e ih =
+      go Equal e ih =
           back (more_use w n ∷ us) (insert_same w us e)
           (⊎_elim
           (λ (i : u ≡ w). inr (ap (λ (x : Use). x.key) i ∙ sym (use_is key w.key e), Memᴰ.head (ap (λ (x : Use). more_use x n) i)))
           (λ t. inl (Memᴰ.tail t))
           (Memᴰ.cases_cons m))
-      go More e ih =
+      go Greater e ih =
           back (w ∷ insert_use key n us) (insert_more w us e)
           (⊎_elim
           (λ (i : u ≡ w). inl (Memᴰ.head i))
@@ -123,12 +123,12 @@ module _ (key : UseKey) (n : ℕ) where
   insert_has [] = subst Has (sym insert_none) (one_use key n, Memᴰ.head refl, refl, Memᴰ.head refl)
   insert_has (u ∷ us) = go (use_order key u.key) refl (insert_has us)
     where
-      go : (o : Ordered) → use_order key u.key ≡ o → Has (insert_use key n us) → Has (insert_use key n (u ∷ us))
+      go : (o : Ordering) → use_order key u.key ≡ o → Has (insert_use key n us) → Has (insert_use key n (u ∷ us))
       go Less e ih = subst Has (sym (insert_less u us e)) (one_use key n, Memᴰ.head refl, refl, Memᴰ.head refl)
-      go Same e ih =
+      go Equal e ih =
           subst Has (sym (insert_same u us e))
           (more_use u n, Memᴰ.head refl, sym (use_is key u.key e), Memᴰ.append_right u.numbers (Memᴰ.head refl))
-      go More e ih = subst Has (sym (insert_more u us e)) (ih.0, Memᴰ.tail ih.1, ih.2, ih.3)
+      go Greater e ih = subst Has (sym (insert_more u us e)) (ih.0, Memᴰ.tail ih.1, ih.2, ih.3)
 
   -- ---- keys still rise
   pub insert_below : (k : UseKey) (us : List Use) → use_order k key ≡ Less → Below k us → Below k (insert_use key n us)
@@ -143,9 +143,9 @@ module _ (key : UseKey) (n : ℕ) where
   insert_rises [] r = subst Rises (sym insert_none) (one_left (below_none key) none_left)
   insert_rises (u ∷ us) (one_left h r) = go (use_order key u.key) refl (insert_rises us r)
     where
-      go : (o : Ordered) → use_order key u.key ≡ o → Rises (insert_use key n us) → Rises (insert_use key n (u ∷ us))
+      go : (o : Ordering) → use_order key u.key ≡ o → Rises (insert_use key n us) → Rises (insert_use key n (u ∷ us))
       go Less e ih = subst Rises (sym (insert_less u us e)) (one_left (below_cons key u us e (below_trans key u.key us e h)) (one_left h r))
-      go Same e ih = subst Rises (sym (insert_same u us e)) (one_left h r)
-      go More e ih =
+      go Equal e ih = subst Rises (sym (insert_same u us e)) (one_left h r)
+      go Greater e ih =
           subst Rises (sym (insert_more u us e))
           (one_left (insert_below u.key us (use_turned key u.key ∙ ap turned e) h) ih)

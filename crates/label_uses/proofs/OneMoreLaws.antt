@@ -1,19 +1,15 @@
 -- One more pending is one more use: the key that is read from the written record is that of the names it was written from. Assumes nothing.
-use Rattle.std.specs.Prelude.{ℕ, ◌+◌, ◌-◌, ◌≤◌, ◌<◌, ◌^◌, Bool, true, false, ◌≡◌, get_or, eqb}
+use Rattle.std.specs.Prelude.{ℕ, ◌+◌, ◌-◌, ◌≤◌, ◌<◌, ◌^◌, Bool, true, false, ◌≡◌, get_or, eqb, None, Some, Option}
 use native.Mathlib.Omega.{arith}
 use mathlib.Core.List.{List, [], ◌∷◌, ◌++◌, Memᴰ}
-use Rattle.std.proofs.Math.Option.{Option, none, some}
 use Rattle.std.proofs.Math.Path.{refl, sym, ap, ap₂}
 use Rattle.std.proofs.Common.{◌∙◌, subst, eqb-true}
 use Rattle.std.proofs.Math.ListN.{length}
 use Rattle.std.proofs.lemmas.Bool.{eqb-false}
 use Rattle.record.specs.Bytes.{byte_at, le32, part}
 use Rattle.record.specs.Records.{next, places, first_bad}
-use Rattle.record.specs.declared.Layout.TheVariants.{Good}
 use Rattle.names.specs.Owners.{has_owner, owner_of}
 use Rattle.names.proofs.OwnersLaws.{with_owner, without_owner}
-use Rattle.names.specs.declared.Named.{Named}
-use Rattle.names.specs.declared.Named.TheVariants.{At, Missing}
 use Rattle.name_index.proofs.CountLaws.{count_at_least}
 use Rattle.labels.specs.Labels.{labelled}
 use Rattle.address_label.proofs.AddressLabelsLaws.{at_constant, at_named}
@@ -34,16 +30,16 @@ use Rattle.label_uses.proofs.SaysLaws.{says_all}
 
 -- ---- a label and its name's bytes give the key
 abbrev key_by : (labels : List ℕ) → AddressLabel → (name : List ℕ) → Option UseKey
-key_by labels (Constant value) name = none
-key_by labels (Label l) name = some (key_for labels l.location.source name)
+key_by labels (Constant value) name = None
+key_by labels (Label l) name = Some (key_for labels l.location.source name)
 
 key_by_lem : (labels s : List ℕ) (x : AddressLabel) → key_in labels s x ≡ key_by labels x (name_bytes s x)
 key_by_lem labels s (Constant value) = refl
 key_by_lem labels s (Label l) = refl
 
 abbrev use_by : Option UseKey → ℕ → List Use → List Use
-use_by none n us = us
-use_by (some key) n us = insert_use key n us
+use_by None n us = us
+use_by (Some key) n us = insert_use key n us
 
 use_by_lem : (labels s : List ℕ) (x : AddressLabel) (n : ℕ) (us : List Use) → use_of labels s x n us ≡ use_by (key_in labels s x) n us
 use_by_lem labels s (Constant value) n us = refl
@@ -119,24 +115,24 @@ pub key_fits : (labels : List ℕ) → AllBytes labels → (source : ℕ) (name 
 unfolding key_for
 key_fits labels b source name h = go (labelled labels source name)
   where
-    go : (x : Named) → (standing_by labels source x).owner < 2 ^ 32
-    go (At p) = owner_fits labels b p
-    go Missing = h
+    go : (x : Option ℕ) → (standing_by labels source x).owner < 2 ^ 32
+    go (Some p) = owner_fits labels b p
+    go None = h
 
 module _ (labels pending : List ℕ) (lb : AllBytes labels) (pb : AllBytes pending) where
-  pub key_in_fits : (at : ℕ) (key : UseKey) → key_in labels pending (label_of pending at) ≡ some key → key.standing.owner < 2 ^ 32
+  pub key_in_fits : (at : ℕ) (key : UseKey) → key_in labels pending (label_of pending at) ≡ Some key → key.standing.owner < 2 ^ 32
   key_in_fits at key e = go (eqb (byte_at pending (at + 19)) 0) refl
     where
       go : (t : Bool) → eqb (byte_at pending (at + 19)) 0 ≡ t → key.standing.owner < 2 ^ 32
       go true t =
           let r = at_constant pending (at + 19) (next pending at) (eqb-true (byte_at pending (at + 19)) 0 t) in
-          let z : key_in labels pending (label_of pending at) ≡ none = ap (key_in labels pending) r in
+          let z : key_in labels pending (label_of pending at) ≡ None = ap (key_in labels pending) r in
           never (cc)
       go false t =
           let r = at_named pending (at + 19) (next pending at) (eqb-false (byte_at pending (at + 19)) 0 t) in
           let source = le32 pending (at + 19 + 9) in
           let name = part pending (at + 19 + 17) (next pending at - (at + 19 + 17)) in
-          let z : key_in labels pending (label_of pending at) ≡ some (key_for labels source name) = ap (key_in labels pending) r in
+          let z : key_in labels pending (label_of pending at) ≡ Some (key_for labels source name) = ap (key_in labels pending) r in
           let k : key ≡ key_for labels source name = cc in
           subst (λ (x : UseKey). x.standing.owner < 2 ^ 32) (sym k) (key_fits labels lb source name (word_fits pending pb (at + 19 + 9)))
 
@@ -151,7 +147,7 @@ module _ (labels pending : List ℕ) (lb : AllBytes labels) (pb : AllBytes pendi
       key_in_fits (get_or (places pending) f.0 0) u.key (s.sound u m f.0 f.1).1
 
 -- a list number has two bytes
-pub numbers_fit : (labels pending : List ℕ) → first_bad (pending_ok 16 pending) (places pending) ≡ Good → length pending ≤ 65536 → (u : Use) → Memᴰ u (uses_of labels pending)
+pub numbers_fit : (labels pending : List ℕ) → first_bad (pending_ok 16 pending) (places pending) ≡ None → length pending ≤ 65536 → (u : Use) → Memᴰ u (uses_of labels pending)
     → (n : ℕ) → Memᴰ n u.numbers → n < 2 ^ 16
 numbers_fit labels pending g h u m n k =
     let c = count_at_least 36 pending (pending_ok 16 pending) (λ p e. let i = pending_is 16 pending p e in (i.whole_at, omega (arith, i.least))) g in

@@ -1,16 +1,15 @@
 -- No other list of uses says what the index says. Assumes nothing.
-use Rattle.std.specs.Prelude.{ℕ, ◌<◌, ◌≡◌, refl, length}
+use Rattle.std.specs.Prelude.{ℕ, ◌<◌, ◌≡◌, refl, length, Option}
 use Rattle.std.proofs.Common.{arith, ⊎_elim, sym, ap, ap₂, ◌∙◌, subst}
 use mathlib.Core.List.Memᴰ
 use mathlib.Core.List.{List, [], ◌∷◌, Memᴰ}
-use Rattle.std.proofs.Math.Option.{Option}
 use Rattle.name_order.proofs.OrderLaws.{turned}
-use Rattle.name_order.specs.declared.Ordered.TheVariants.{Less, More}
 use Rattle.label_uses.specs.Uses.{UseKey, Use, use_order}
 use Rattle.label_uses.proofs.UseOrderLaws.{never, use_same, use_turned}
 use Rattle.label_uses.proofs.InsertLaws.{Rises, one_left}
 use Rattle.label_uses.proofs.SaysLaws.{SaysTo}
 use Rattle.label_uses.specs.Says.{NumbersRise, then}
+use Rattle.std.specs.declared.cmp.Ordering.TheVariants.{Less, Greater}
 
 -- ---- lists that rise, by any relation that holds one way only
 data Rising {A : Type 0} (Lt : A → A → Type 0) : List A → Type 0 where
@@ -70,7 +69,7 @@ Before u v = use_order u.key v.key ≡ Less
 
 before_once : (u v : Use) → Before u v → Before v u → ⊥
 before_once u v e f =
-    let g : use_order v.key u.key ≡ More = use_turned u.key v.key ∙ ap turned e in
+    let g : use_order v.key u.key ≡ Greater = use_turned u.key v.key ∙ ap turned e in
     never (cc)
 
 rises_so : (us : List Use) → Rises us → Rising Before us

@@ -4,8 +4,7 @@ use native.Mathlib.Omega.{arith}
 use mathlib.Core.List.Memᴰ
 use mathlib.Core.List.{List, [], ◌∷◌, ◌++◌, Memᴰ}
 use Rattle.std.proofs.Common.{⊎_elim, sym, ◌∙◌, length-append, ltb-true, ltb-false}
-use Rattle.std.specs.Prelude.{Bool, true, false, ◌≡◌, refl, length, get_or, ltb}
-use Rattle.std.proofs.Math.Option.{Option, none, some}
+use Rattle.std.specs.Prelude.{Bool, true, false, ◌≡◌, refl, length, get_or, ltb, Option, None, Some}
 use Rattle.std.proofs.Math.Path.{ap, subst}
 use Rattle.record.specs.Records.{places}
 use Rattle.address_label.specs.declared.AddressLabel.{AddressLabel}
@@ -26,8 +25,8 @@ rise_behind (x ∷ (y ∷ ns)) n (then e r) h = then e (rise_behind (y ∷ ns) n
 pub record SaysTo (key_at_lem : ℕ → Option UseKey) (count : ℕ) (us : List Use) : Type 0 where
   pub rises : Rises us
   pub in_order : (u : Use) → Memᴰ u us → NumbersRise u.numbers × (0 < length u.numbers)
-  pub sound : (u : Use) → Memᴰ u us → (n : ℕ) → Memᴰ n u.numbers → (n < count) × (key_at_lem n ≡ some u.key)
-  pub complete : (n : ℕ) → n < count → (key : UseKey) → key_at_lem n ≡ some key → (u : Use) × Memᴰ u us × (u.key ≡ key) × Memᴰ n u.numbers
+  pub sound : (u : Use) → Memᴰ u us → (n : ℕ) → Memᴰ n u.numbers → (n < count) × (key_at_lem n ≡ Some u.key)
+  pub complete : (n : ℕ) → n < count → (key : UseKey) → key_at_lem n ≡ Some key → (u : Use) × Memᴰ u us × (u.key ≡ key) × Memᴰ n u.numbers
 
 module _ (key_at_lem : ℕ → Option UseKey) where
   pub says_none : SaysTo key_at_lem 0 []
@@ -40,7 +39,7 @@ module _ (key_at_lem : ℕ → Option UseKey) where
 
   module _ (count : ℕ) (us : List Use) (s : SaysTo key_at_lem count us) where
     -- a constant more
-    pub says_skip : key_at_lem count ≡ none → SaysTo key_at_lem (count + 1) us
+    pub says_skip : key_at_lem count ≡ None → SaysTo key_at_lem (count + 1) us
     says_skip e = record {
       rises = s.rises;
       in_order = s.in_order;
@@ -48,7 +47,7 @@ module _ (key_at_lem : ℕ → Option UseKey) where
       complete = whole;
     }
       where
-        whole : (n : ℕ) → n < count + 1 → (key : UseKey) → key_at_lem n ≡ some key → (u : Use) × Memᴰ u us × (u.key ≡ key) × Memᴰ n u.numbers
+        whole : (n : ℕ) → n < count + 1 → (key : UseKey) → key_at_lem n ≡ Some key → (u : Use) × Memᴰ u us × (u.key ≡ key) × Memᴰ n u.numbers
         whole n h key f = go (ltb n count) refl
           where
             go : (b : Bool) → ltb n count ≡ b → (u : Use) × Memᴰ u us × (u.key ≡ key) × Memᴰ n u.numbers
@@ -56,11 +55,11 @@ module _ (key_at_lem : ℕ → Option UseKey) where
             go false b =
                 let i = ltb-false n count b in
                 let j : n ≡ count = omega arith in
-                let g : key_at_lem count ≡ some key = ap key_at_lem (sym j) ∙ f in
+                let g : key_at_lem count ≡ Some key = ap key_at_lem (sym j) ∙ f in
                 never (cc)
 
     -- a name more
-    module _ (key : UseKey) (e : key_at_lem count ≡ some key) where
+    module _ (key : UseKey) (e : key_at_lem count ≡ Some key) where
       abbrev more : List Use
       more = insert_use key count us
 
@@ -77,13 +76,13 @@ module _ (key_at_lem : ℕ → Option UseKey) where
               subst (λ (x : Use). NumbersRise x.numbers × (0 < length x.numbers)) (sym i)
               (rise_behind u.numbers count (s.in_order u t).0 (below_count u t), omega (arith, length-append u.numbers (count ∷ [])))
 
-      sound_then : (v : Use) → Memᴰ v more → (n : ℕ) → Memᴰ n v.numbers → (n < count + 1) × (key_at_lem n ≡ some v.key)
+      sound_then : (v : Use) → Memᴰ v more → (n : ℕ) → Memᴰ n v.numbers → (n < count + 1) × (key_at_lem n ≡ Some v.key)
       sound_then v m n k = go (insert_stood key count us v m)
         where
-          here : n ≡ count → v.key ≡ key → (n < count + 1) × (key_at_lem n ≡ some v.key)
-          here i j = (omega arith, ap key_at_lem i ∙ e ∙ ap some (sym j))
+          here : n ≡ count → v.key ≡ key → (n < count + 1) × (key_at_lem n ≡ Some v.key)
+          here i j = (omega arith, ap key_at_lem i ∙ e ∙ ap Some (sym j))
 
-          go : Stood key count us v → (n < count + 1) × (key_at_lem n ≡ some v.key)
+          go : Stood key count us v → (n < count + 1) × (key_at_lem n ≡ Some v.key)
           go (before t) = let h = s.sound v t n k in (omega (arith, h.0), h.1)
           go (new i) =
               ⊎_elim (λ (j : n ≡ count). here j (ap (λ (x : Use). x.key) i)) (λ t. absurd (Memᴰ.not-nil t))
@@ -92,7 +91,7 @@ module _ (key_at_lem : ℕ → Option UseKey) where
               ⊎_elim
               (λ (l : Memᴰ n u.numbers).
               let h = s.sound u t n l in
-              (omega (arith, h.0), h.1 ∙ ap some (sym (ap (λ (x : Use). x.key) i))))
+              (omega (arith, h.0), h.1 ∙ ap Some (sym (ap (λ (x : Use). x.key) i))))
               (λ (l : Memᴰ n (count ∷ [])).
               ⊎_elim (λ (q : n ≡ count). here q (ap (λ (x : Use). x.key) i ∙ j)) (λ t. absurd (Memᴰ.not-nil t)) (Memᴰ.cases_cons l))
               (Memᴰ.append_cases u.numbers (subst (λ (x : Use). Memᴰ n x.numbers) i k))
@@ -100,7 +99,7 @@ module _ (key_at_lem : ℕ → Option UseKey) where
       abbrev Stands : ℕ → UseKey → Type 0
       Stands n k = (u : Use) × Memᴰ u more × (u.key ≡ k) × Memᴰ n u.numbers
 
-      complete_then : (n : ℕ) → n < count + 1 → (k : UseKey) → key_at_lem n ≡ some k → (u : Use) × Memᴰ u more × (u.key ≡ k) × Memᴰ n u.numbers
+      complete_then : (n : ℕ) → n < count + 1 → (k : UseKey) → key_at_lem n ≡ Some k → (u : Use) × Memᴰ u more × (u.key ≡ k) × Memᴰ n u.numbers
       complete_then n h k f = go (ltb n count) refl
         where
           go : (b : Bool) → ltb n count ≡ b → Stands n k
@@ -113,7 +112,7 @@ module _ (key_at_lem : ℕ → Option UseKey) where
           go false b =
               let i = ltb-false n count b in
               let j : n ≡ count = omega arith in
-              let g : key_at_lem count ≡ some k = ap key_at_lem (sym j) ∙ f in
+              let g : key_at_lem count ≡ Some k = ap key_at_lem (sym j) ∙ f in
               let q : key ≡ k = cc in
               let r = insert_has key count us in
               (r.0, r.1, r.2 ∙ q, subst (λ (m : ℕ). Memᴰ m r.0.numbers) (sym j) r.3)

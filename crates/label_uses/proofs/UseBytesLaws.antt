@@ -2,12 +2,12 @@
 use Rattle.std.specs.Prelude.{ℕ, ◌+◌, ◌*◌, ◌≤◌, List, [], ◌∷◌, ◌++◌, ◌≡◌, refl, length}
 use Rattle.std.proofs.Common.{arith, append_assoc, sym, ap, ◌∙◌, length-append}
 use Rattle.record.specs.Stores.{le16_bytes, le32_bytes}
-use Rattle.name_order.specs.declared.Ordered.{Ordered}
-use Rattle.name_order.specs.declared.Ordered.TheVariants.{Less, Same, More}
 use Rattle.label_uses.specs.Uses.{UseKey, Use, use_order, one_use, more_use, insert_use}
 use Rattle.label_uses.specs.Held.{Passed, none_passed, one_passed}
 use Rattle.label_uses.proofs.InsertLaws.{insert_less, insert_same, insert_more, insert_none}
 use Rattle.label_uses.specs.UseBytes.{numbers_bytes, use_body, use_bytes, uses_bytes}
+use Rattle.std.specs.declared.cmp.Ordering.TheVariants.{Less, Equal, Greater}
+use Rattle.std.specs.declared.cmp.Ordering.{Ordering}
 
 -- ---- numbers
 pub numbers_length : (ns : List ℕ) → length (numbers_bytes ns) ≡ 2 * length ns
@@ -65,22 +65,22 @@ insert_length key n [] =
     record { least = omega arith; most = omega arith }
 insert_length key n (u ∷ us) = go (use_order key u.key) refl (insert_length key n us)
   where
-    go : (o : Ordered) → use_order key u.key ≡ o → Grows key us (insert_use key n us) → Grows key (u ∷ us) (insert_use key n (u ∷ us))
+    go : (o : Ordering) → use_order key u.key ≡ o → Grows key us (insert_use key n us) → Grows key (u ∷ us) (insert_use key n (u ∷ us))
     go Less e ih =
         let f = ap (λ (vs : List Use). length (uses_bytes vs)) (insert_less key n u us e) ∙ cons_length (one_use key n) (u ∷ us) in
         record { least = omega arith; most = omega arith }
-    go Same e ih =
+    go Equal e ih =
         let f = ap (λ (vs : List Use). length (uses_bytes vs)) (insert_same key n u us e) ∙ cons_length (more_use u n) us in
         let g = cons_length u us in
         let h = length-append u.numbers (n ∷ []) in
         record { least = omega arith; most = omega arith }
-    go More e ih =
+    go Greater e ih =
         let f = ap (λ (vs : List Use). length (uses_bytes vs)) (insert_more key n u us e) ∙ cons_length u (insert_use key n us) in
         let g = cons_length u us in
         record { least = omega (arith, ih.least); most = omega (arith, ih.most) }
 
 -- ---- behind uses that all go before the key
-pub passed_behind : (key : UseKey) (l : List Use) (u : Use) → Passed key l → use_order key u.key ≡ More → Passed key (l ++ (u ∷ []))
+pub passed_behind : (key : UseKey) (l : List Use) (u : Use) → Passed key l → use_order key u.key ≡ Greater → Passed key (l ++ (u ∷ []))
 passed_behind key [] u p e = one_passed e none_passed
 passed_behind key (v ∷ l) u (one_passed f p) e = one_passed f (passed_behind key l u p e)
 

@@ -3,39 +3,39 @@ use Rattle.std.specs.Prelude.{ℕ, List, [], ◌⊎◌, Bool, true, false, ◌�
 use Rattle.std.proofs.Common.{arith, inl, inr, ⊎_elim, sym, ap, ap₂, ◌∙◌}
 use Rattle.name_order.specs.Order.{then_by, numbers, order, Key, key_order}
 use Rattle.name_order.proofs.OrderLaws.{turned, key_same, key_is, key_turned, key_trans}
-use Rattle.name_order.specs.declared.Ordered.{Ordered}
-use Rattle.name_order.specs.declared.Ordered.TheVariants.{Less, Same, More}
 use Rattle.label_uses.specs.Uses.{UseKey, known_order, use_order}
+use Rattle.std.specs.declared.cmp.Ordering.TheVariants.{Less, Equal, Greater}
+use Rattle.std.specs.declared.cmp.Ordering.{Ordering}
 
 pub never : {A : Type 0} → ◌≡◌ {A = ℕ} 0 1 → A
 never z = absurd (omega arith)
 
 -- what an order has to keep
-record Orders {A : Type 0} (by : A → A → Ordered) : Type 0 where
-  self : (a : A) → by a a ≡ Same
-  is : (a b : A) → by a b ≡ Same → a ≡ b
+record Orders {A : Type 0} (by : A → A → Ordering) : Type 0 where
+  self : (a : A) → by a a ≡ Equal
+  is : (a b : A) → by a b ≡ Equal → a ≡ b
   turns : (a b : A) → by b a ≡ turned (by a b)
   trans : (a b c : A) → by a b ≡ Less → by b c ≡ Less → by a c ≡ Less
 
-then_none : (o : Ordered) → then_by o Same ≡ o
+then_none : (o : Ordering) → then_by o Equal ≡ o
 then_none Less = refl
-then_none Same = refl
-then_none More = refl
+then_none Equal = refl
+then_none Greater = refl
 
-then_same : (o p : Ordered) → then_by o p ≡ Same → (o ≡ Same) × (p ≡ Same)
+then_same : (o p : Ordering) → then_by o p ≡ Equal → (o ≡ Equal) × (p ≡ Equal)
 then_same Less p e = never (cc)
-then_same Same p e = (refl, e)
-then_same More p e = never (cc)
+then_same Equal p e = (refl, e)
+then_same Greater p e = never (cc)
 
-then_less : (o p : Ordered) → then_by o p ≡ Less → (o ≡ Less) ⊎ ((o ≡ Same) × (p ≡ Less))
+then_less : (o p : Ordering) → then_by o p ≡ Less → (o ≡ Less) ⊎ ((o ≡ Equal) × (p ≡ Less))
 then_less Less p e = inl refl
-then_less Same p e = inr (refl, e)
-then_less More p e = never (cc)
+then_less Equal p e = inr (refl, e)
+then_less Greater p e = never (cc)
 
-then_turned : (o p : Ordered) → then_by (turned o) (turned p) ≡ turned (then_by o p)
+then_turned : (o p : Ordering) → then_by (turned o) (turned p) ≡ turned (then_by o p)
 then_turned Less p = refl
-then_turned Same p = refl
-then_turned More p = refl
+then_turned Equal p = refl
+then_turned Greater p = refl
 
 -- names, from names with owners that are all 0
 abbrev no_owner : List ℕ → Key
@@ -69,11 +69,11 @@ owners = record {
 }
 
 -- known before unknown
-known_self : (a : Bool) → known_order a a ≡ Same
+known_self : (a : Bool) → known_order a a ≡ Equal
 known_self true = refl
 known_self false = refl
 
-known_is : (a b : Bool) → known_order a b ≡ Same → a ≡ b
+known_is : (a b : Bool) → known_order a b ≡ Equal → a ≡ b
 known_is true true e = refl
 known_is true false e = never (cc)
 known_is false true e = never (cc)
@@ -96,8 +96,8 @@ flags : Orders known_order
 flags = record { self = known_self; is = known_is; turns = known_turns; trans = known_trans }
 
 -- one order and then another
-module _ {A B : Type 0} (f : A → A → Ordered) (g : B → B → Ordered) (of : Orders f) (og : Orders g) where
-  abbrev pair_order : A × B → A × B → Ordered
+module _ {A B : Type 0} (f : A → A → Ordering) (g : B → B → Ordering) (of : Orders f) (og : Orders g) where
+  abbrev pair_order : A × B → A × B → Ordering
   pair_order a b = then_by (f a.0 b.0) (g a.1 b.1)
 
   pair_trans : (a b c : A × B) → pair_order a b ≡ Less → pair_order b c ≡ Less → pair_order a c ≡ Less
@@ -105,13 +105,13 @@ module _ {A B : Type 0} (f : A → A → Ordered) (g : B → B → Ordered) (of 
       ⊎_elim
       (λ k.
       ⊎_elim
-      (λ l. ap (λ (o : Ordered). then_by o (g a.1 c.1)) (of.trans a.0 b.0 c.0 k l))
-      (λ l. ap (λ (o : Ordered). then_by o (g a.1 c.1)) (ap (f a.0) (sym (of.is b.0 c.0 l.0)) ∙ k))
+      (λ l. ap (λ (o : Ordering). then_by o (g a.1 c.1)) (of.trans a.0 b.0 c.0 k l))
+      (λ l. ap (λ (o : Ordering). then_by o (g a.1 c.1)) (ap (f a.0) (sym (of.is b.0 c.0 l.0)) ∙ k))
       (then_less (f b.0 c.0) (g b.1 c.1) h))
       (λ k.
       let i = of.is a.0 b.0 k.0 in
       ⊎_elim
-      (λ l. ap (λ (o : Ordered). then_by o (g a.1 c.1)) (ap (λ (x : A). f x c.0) i ∙ l))
+      (λ l. ap (λ (o : Ordering). then_by o (g a.1 c.1)) (ap (λ (x : A). f x c.0) i ∙ l))
       (λ l. ap₂ then_by (ap (λ (x : A). f x c.0) i ∙ l.0) (og.trans a.1 b.1 c.1 k.1 l.1))
       (then_less (f b.0 c.0) (g b.1 c.1) h))
       (then_less (f a.0 b.0) (g a.1 b.1) e)
@@ -139,10 +139,10 @@ key_of p = record { name = p.0; standing = record { known = p.1.0; owner = p.1.1
 parts : Orders (pair_order order (pair_order known_order numbers flags owners) names (pairs known_order numbers flags owners))
 parts = pairs order (pair_order known_order numbers flags owners) names (pairs known_order numbers flags owners)
 
-pub use_same : (a : UseKey) → use_order a a ≡ Same
+pub use_same : (a : UseKey) → use_order a a ≡ Equal
 use_same a = parts.self (parts_of a)
 
-pub use_is : (a b : UseKey) → use_order a b ≡ Same → a ≡ b
+pub use_is : (a b : UseKey) → use_order a b ≡ Equal → a ≡ b
 use_is a b e = ap key_of (parts.is (parts_of a) (parts_of b) e)
 
 pub use_turned : (a b : UseKey) → use_order b a ≡ turned (use_order a b)
@@ -154,5 +154,5 @@ use_trans a b c e f = parts.trans (parts_of a) (parts_of b) (parts_of c) e f
 -- keys of one name stand to each other as their standings do
 pub standings_decide : (a b : UseKey) → a.name ≡ b.name → use_order a b ≡ then_by (known_order a.standing.known b.standing.known) (numbers a.standing.owner b.standing.owner)
 standings_decide a b e =
-    ap (λ (o : Ordered). then_by o (then_by (known_order a.standing.known b.standing.known) (numbers a.standing.owner b.standing.owner)))
+    ap (λ (o : Ordering). then_by o (then_by (known_order a.standing.known b.standing.known) (numbers a.standing.owner b.standing.owner)))
     (ap (order a.name) (sym e) ∙ names.self a.name)

@@ -1,19 +1,18 @@
 -- What the uses of a pending list say, without the way in which they are made (document 02, P1). Assumes nothing.
-use Rattle.std.specs.Prelude.{ℕ, ◌<◌, ◌≡◌, length, get_or}
+use Rattle.std.specs.Prelude.{ℕ, ◌<◌, ◌≡◌, length, get_or, Option, None, Some}
 use mathlib.Core.List.{List, [], ◌∷◌, Memᴰ}
-use Rattle.std.proofs.Math.Option.{Option, none, some}
 use Rattle.record.specs.Bytes.{part}
 use Rattle.record.specs.Records.{places}
-use Rattle.name_order.specs.declared.Ordered.TheVariants.{Less}
 use Rattle.address_label.specs.declared.AddressLabel.{AddressLabel}
 use Rattle.address_label.specs.declared.AddressLabel.TheVariants.{Constant, Label}
 use Rattle.pending.specs.Pendings.{label_of}
 use Rattle.label_uses.specs.Uses.{UseKey, Use, key_for, use_order}
+use Rattle.std.specs.declared.cmp.Ordering.TheVariants.{Less}
 
 -- the key of a pending's label, if it names one
 abbrev pub key_in : (labels pending : List ℕ) → AddressLabel → Option UseKey
-key_in labels pending (Constant value) = none
-key_in labels pending (Label l) = some (key_for labels l.location.source (part pending l.name_at l.name_len))
+key_in labels pending (Constant value) = None
+key_in labels pending (Label l) = Some (key_for labels l.location.source (part pending l.name_at l.name_len))
 
 -- of pending n of the list
 abbrev pub key_at : (labels pending : List ℕ) → ℕ → Option UseKey
@@ -36,6 +35,6 @@ pub record Says (labels pending : List ℕ) (us : List Use) : Type 0 where
   pub names_rise : KeysRise us
   pub numbers_rise : (u : Use) → Memᴰ u us → NumbersRise u.numbers × (0 < length u.numbers)
   -- a number stands under the label that its pending names
-  pub right : (u : Use) → Memᴰ u us → (n : ℕ) → Memᴰ n u.numbers → (n < length (places pending)) × (key_at labels pending n ≡ some u.key)
+  pub right : (u : Use) → Memᴰ u us → (n : ℕ) → Memᴰ n u.numbers → (n < length (places pending)) × (key_at labels pending n ≡ Some u.key)
   -- and each pending that names one stands there
-  pub whole : (n : ℕ) → n < length (places pending) → (key : UseKey) → key_at labels pending n ≡ some key → (u : Use) × Memᴰ u us × (u.key ≡ key) × Memᴰ n u.numbers
+  pub whole : (n : ℕ) → n < length (places pending) → (key : UseKey) → key_at labels pending n ≡ Some key → (u : Use) × Memᴰ u us × (u.key ≡ key) × Memᴰ n u.numbers

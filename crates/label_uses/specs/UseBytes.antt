@@ -1,9 +1,7 @@
 -- The index as bytes, records of kind 39 (document 02, P1). Assumes nothing.
-use Rattle.std.specs.Prelude.{ℕ, List, [], ◌∷◌, ◌++◌, Bool, true, false, length, take}
+use Rattle.std.specs.Prelude.{ℕ, List, [], ◌∷◌, ◌++◌, Bool, true, false, length, take, None, Option, Some}
 use Rattle.record.specs.Bytes.{same_bytes}
 use Rattle.record.specs.Stores.{le16_bytes, le32_bytes, record_bytes}
-use Rattle.record.specs.declared.Layout.{Layout}
-use Rattle.record.specs.declared.Layout.TheVariants.{Good, Bad}
 use Rattle.breakpoints.specs.Breakpoints.{filled_layout}
 use Rattle.label_uses.specs.Uses.{Use, uses_of}
 
@@ -35,7 +33,7 @@ unfolding uses_bytes uses_of
 index_of labels pending = uses_bytes (uses_of labels pending)
 
 -- "One handed in that is not the earlier list's by these labels gets refusal 1 (b 0)."
-unfoldable pub index_layout : (labels pending : List ℕ) (fill : ℕ) (index : List ℕ) → Layout
+unfoldable pub index_layout : (labels pending : List ℕ) (fill : ℕ) (index : List ℕ) → Option ℕ
 unfolding filled_layout index_of
 index_layout labels pending fill index =
-    filled_layout fill index (elim (same_bytes (take fill index) (index_of labels pending)) [ true ↦ Good | false ↦ Bad 0 ])
+    filled_layout fill index (elim (same_bytes (take fill index) (index_of labels pending)) [ true ↦ None | false ↦ Some 0 ])

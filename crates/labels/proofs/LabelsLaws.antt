@@ -1,17 +1,13 @@
 -- Laws of lists of labels. Assumes nothing.
-use Rattle.std.specs.Prelude.{ℕ, ◌+◌, ◌≤◌, ◌<◌, List, Bool, true, false, ◌&&◌, ◌||◌, ◌≡◌, refl, length, leb, ltb, eqb}
+use Rattle.std.specs.Prelude.{ℕ, ◌+◌, ◌≤◌, ◌<◌, List, Bool, true, false, ◌&&◌, ◌||◌, ◌≡◌, refl, length, leb, ltb, eqb, None, Option, Some}
 use Rattle.std.proofs.Common.{arith, sym, ap, ◌∙◌, leb-true}
 use Rattle.std.proofs.Math.Bool.{and-eq-true_iff}
 use Rattle.record.specs.Bytes.{is_text, all}
 use Rattle.record.specs.Records.{body_len, kind_at, next, whole, places, first_bad, limit}
 use Rattle.record.proofs.RecordsLaws.{places_all, whole_is, layout_from, limit_kept, limit_passed, limit_good, first_limit}
-use Rattle.record.specs.declared.Layout.TheVariants.{Good, Bad}
 use Rattle.names.proofs.NamesLaws.{has_name_lem, all_named, named_ok, later_place}
 use Rattle.names.specs.Owners.{has_owner, for_all, owner_of, before_name, owned_name, has_owned_name, same_owned, is_owned, first_owned}
 use Rattle.names.proofs.OwnersLaws.{without_owner, before_least}
-use Rattle.names.specs.declared.Named.{Named}
-use Rattle.names.specs.declared.Named.TheVariants.{At, Missing}
-use Rattle.names.specs.declared.Repeat.TheVariants.{Later}
 use Rattle.labels.specs.Labels.{label_kind, label_body, label_ok, label_layout, label_repeat, or_else, labelled, address_of, resolve}
 
 -- what a label's test says, in facts
@@ -59,40 +55,40 @@ pub label_layout_lem : (s : List ℕ) → length s ≤ limit → label_layout s 
 unfolding label_layout
 label_layout_lem s h = limit_kept s (first_bad (label_ok s) (places s)) h ∙ ap (first_bad (label_ok s)) (places_all s)
 
-pub label_limit : (s : List ℕ) → limit < length s → label_layout s ≡ Bad limit
+pub label_limit : (s : List ℕ) → limit < length s → label_layout s ≡ Some limit
 unfolding label_layout
 label_limit s h = limit_passed s (first_bad (label_ok s) (places s)) h
 
 -- ---- a list of labels
-pub labels_good : (s : List ℕ) → label_layout s ≡ Good → first_bad (label_ok s) (places s) ≡ Good
+pub labels_good : (s : List ℕ) → label_layout s ≡ None → first_bad (label_ok s) (places s) ≡ None
 unfolding label_layout
 labels_good s g = (limit_good s (first_bad (label_ok s) (places s)) g).1
 
-pub labels_within : (s : List ℕ) → label_layout s ≡ Good → length s ≤ limit
+pub labels_within : (s : List ℕ) → label_layout s ≡ None → length s ≤ limit
 unfolding label_layout
 labels_within s g = (limit_good s (first_bad (label_ok s) (places s)) g).0
 
 -- the place of a label that breaks the layout, and of one that repeats another's name
-pub label_place_lem : (s : List ℕ) (p : ℕ) → label_layout s ≡ Bad p → p ≤ limit
+pub label_place_lem : (s : List ℕ) (p : ℕ) → label_layout s ≡ Some p → p ≤ limit
 unfolding label_layout
 label_place_lem s p e = first_limit (label_ok s) s p e
 
-pub repeat_place : (s : List ℕ) (p : ℕ) → label_layout s ≡ Good → label_repeat s ≡ Later p → p ≤ limit
+pub repeat_place : (s : List ℕ) (p : ℕ) → label_layout s ≡ None → label_repeat s ≡ Some p → p ≤ limit
 repeat_place s p g e = omega (arith, labels_within s g, later_place (same_owned 4 s) s p e)
 
-pub labels_named : (s : List ℕ) → label_layout s ≡ Good → first_bad (has_owned_name 4 s) (places s) ≡ Good
+pub labels_named : (s : List ℕ) → label_layout s ≡ None → first_bad (has_owned_name 4 s) (places s) ≡ None
 labels_named s g = all_named (label_ok s) (has_owned_name 4 s) (λ p e. (label_is s p e).named) (places s) (labels_good s g)
 
-pub found_label : (s : List ℕ) (source : ℕ) (name : List ℕ) (p : ℕ) → label_layout s ≡ Good → labelled s source name ≡ At p → LabelIs s p
+pub found_label : (s : List ℕ) (source : ℕ) (name : List ℕ) (p : ℕ) → label_layout s ≡ None → labelled s source name ≡ Some p → LabelIs s p
 found_label s source name p g e = go (first_owned 4 s source name) refl
   where
-    found : (owner : ℕ) → first_owned 4 s owner name ≡ At p → LabelIs s p
+    found : (owner : ℕ) → first_owned 4 s owner name ≡ Some p → LabelIs s p
     found owner f = label_is s p (named_ok (is_owned 4 s owner name) (label_ok s) (places s) p (labels_good s g) f)
 
-    go : (n : Named) → first_owned 4 s source name ≡ n → LabelIs s p
-    go (At q) f = found source (f ∙ sym (ap (λ (n : Named). or_else n (first_owned 4 s for_all name)) f) ∙ e)
-    go Missing f = found for_all (sym (ap (λ (n : Named). or_else n (first_owned 4 s for_all name)) f) ∙ e)
+    go : (n : Option ℕ) → first_owned 4 s source name ≡ n → LabelIs s p
+    go (Some q) f = found source (f ∙ sym (ap (λ (n : Option ℕ). or_else n (first_owned 4 s for_all name)) f) ∙ e)
+    go None f = found for_all (sym (ap (λ (n : Option ℕ). or_else n (first_owned 4 s for_all name)) f) ∙ e)
 
-pub resolve_is : (s : List ℕ) (source : ℕ) (name : List ℕ) (n : Named) → n ≡ labelled s source name → resolve s source name ≡ address_of s n
+pub resolve_is : (s : List ℕ) (source : ℕ) (name : List ℕ) (n : Option ℕ) → n ≡ labelled s source name → resolve s source name ≡ address_of s n
 unfolding resolve
 resolve_is s source name n e = ap (address_of s) (sym e)

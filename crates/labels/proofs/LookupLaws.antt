@@ -1,12 +1,9 @@
 -- A lookup through an index finds what the scan finds, with at most 32 comparisons of names (document 02, P13). Assumes nothing.
-use Rattle.std.specs.Prelude.{ℕ, ◌+◌, ◌≤◌, ◌<◌, List, Bool, true, false, ◌≡◌, length, get_or, ltb}
+use Rattle.std.specs.Prelude.{ℕ, ◌+◌, ◌≤◌, ◌<◌, List, Bool, true, false, ◌≡◌, length, get_or, ltb, None, Option, Some}
 use Rattle.std.proofs.Common.{arith, sym, ◌∙◌, ltb-true, ltb-false, lt-ltb, le-ltb}
 use Rattle.std.proofs.Math.Path.{refl, ap, ap₂}
 use Rattle.record.specs.Records.{places, first_bad}
-use Rattle.record.specs.declared.Layout.TheVariants.{Good}
 use Rattle.names.specs.Owners.{for_all, has_owned_name, first_owned}
-use Rattle.names.specs.declared.Named.{Named}
-use Rattle.names.specs.declared.Named.TheVariants.{At, Missing}
 use Rattle.name_index.specs.Index.{IndexOf, lookup_from, lookup, told}
 use Rattle.name_index.proofs.CountLaws.{count_at_least}
 use Rattle.name_index.proofs.Lookup.{lookup_is_scan, lookup_count, told_same, told_count, owned_at}
@@ -18,7 +15,7 @@ use Rattle.labels.proofs.LabelsLaws.{label_is, labels_good, labels_named, labels
 use Rattle.labels.specs.Lookup.{most_labels, Indexed, or_looked, or_searched, looked_for_all, looked_up}
 
 -- each label has nine bytes at least
-pub label_count : (s : List ℕ) → label_layout s ≡ Good → length (places s) ≤ most_labels
+pub label_count : (s : List ℕ) → label_layout s ≡ None → length (places s) ≤ most_labels
 label_count s g =
     let n = count_at_least 9 s (label_ok s) (λ p e. let l = label_is s p e in (l.whole_at, omega (arith, l.least))) (labels_good s g) in
     omega (arith, labels_within s g)
@@ -27,15 +24,15 @@ label_count s g =
 or_named : (own other : Looked) → (or_looked own other).named ≡ or_else own.named other.named
 or_named own other = go own.named refl
   where
-    go : (n : Named) → own.named ≡ n → (or_looked own other).named ≡ or_else own.named other.named
-    go (At p) e = rw (e, or_looked) e
-    go Missing e = rw (e, or_looked)
+    go : (n : Option ℕ) → own.named ≡ n → (or_looked own other).named ≡ or_else own.named other.named
+    go (Some p) e = rw (e, or_looked) e
+    go None e = rw (e, or_looked)
 
 -- the first finds one, or the second is made
-or_own : (own other : Looked) (p : ℕ) → own.named ≡ At p → or_looked own other ≡ own
-or_own own other p e = rw (e, or_looked) (ap (λ (n : Named). record { named = n; compared = own.compared; end = own.end }) e)
+or_own : (own other : Looked) (p : ℕ) → own.named ≡ Some p → or_looked own other ≡ own
+or_own own other p e = rw (e, or_looked) (ap (λ (n : Option ℕ). record { named = n; compared = own.compared; end = own.end }) e)
 
-or_other : (own other : Looked) → own.named ≡ Missing → or_looked own other ≡ other
+or_other : (own other : Looked) → own.named ≡ None → or_looked own other ≡ other
 or_other own other e = rw (e, or_looked)
 
 module _ (s index : List ℕ) (source : ℕ) (name : List ℕ) (own : Looked) (e : own ≡ lookup 4 s index source name) where
@@ -43,10 +40,10 @@ module _ (s index : List ℕ) (source : ℕ) (name : List ℕ) (own : Looked) (e
   unfolding looked_up
   all_is = ap (λ (l : Looked). or_looked l (looked_for_all s index l.end name l.compared)) e
 
-  pub look_own : (p : ℕ) → own.named ≡ At p → own ≡ looked_up s index source name
+  pub look_own : (p : ℕ) → own.named ≡ Some p → own ≡ looked_up s index source name
   look_own p f = sym (or_own own (looked_for_all s index own.end name own.compared) p f) ∙ all_is
 
-  pub look_other : (other : Looked) → other ≡ looked_for_all s index own.end name own.compared → own.named ≡ Missing → other ≡ looked_up s index source name
+  pub look_other : (other : Looked) → other ≡ looked_for_all s index own.end name own.compared → own.named ≡ None → other ≡ looked_up s index source name
   look_other other g f = g ∙ sym (or_other own (looked_for_all s index own.end name own.compared) f) ∙ all_is
 
 -- ---- the label for all
@@ -60,7 +57,7 @@ module _ (s index : List ℕ) (end : ℕ) (name : List ℕ) (c : ℕ) where
     unfolding looked_for_all
     searched = rw (lt-ltb end (length index) h, looked_for_all) (rw (e, q))
 
-    pub for_all_here : t.same ≡ true → record { named = At p; compared = t.compared; end = end } ≡ looked_for_all s index end name c
+    pub for_all_here : t.same ≡ true → record { named = Some p; compared = t.compared; end = end } ≡ looked_for_all s index end name c
     for_all_here f = sym (searched ∙ rw (f, or_searched))
 
     pub for_all_searched : t.same ≡ false → lookup_from 4 s index for_all name t.compared ≡ looked_for_all s index end name c
@@ -77,7 +74,7 @@ module _ (s index : List ℕ) (ix : Indexed s index) where
   few_found owner name found e = rw (e ∙ lookup_first 4 s index owner name) (few owner name 0)
 
   -- what a search in the index asks
-  pub asked : (first_bad (has_owned_name 4 s) (places s) ≡ Good) × (IndexOf 4 s index × (length index < 65536))
+  pub asked : (first_bad (has_owned_name 4 s) (places s) ≡ None) × (IndexOf 4 s index × (length index < 65536))
   asked = (labels_named s ix.layout, (ix.ordered, omega (arith, ix.few)))
 
   -- what is found for all is what the scan finds, with at most 14 comparisons more
@@ -122,6 +119,6 @@ module _ (s index : List ℕ) (ix : Indexed s index) where
         go : (own : Looked) → own ≡ lookup 4 s index source name → (or_looked own (looked_for_all s index own.end name own.compared)).compared ≤ 32
         go own e = by own.named refl
           where
-            by : (n : Named) → own.named ≡ n → (or_looked own (looked_for_all s index own.end name own.compared)).compared ≤ 32
-            by (At p) f = rw (or_own own (looked_for_all s index own.end name own.compared) p f) (omega (arith, few_found source name own e))
-            by Missing f = rw (or_other own (looked_for_all s index own.end name own.compared) f) (omega (arith, few_found source name own e, (for_all_is own.end name own.compared).1))
+            by : (n : Option ℕ) → own.named ≡ n → (or_looked own (looked_for_all s index own.end name own.compared)).compared ≤ 32
+            by (Some p) f = rw (or_own own (looked_for_all s index own.end name own.compared) p f) (omega (arith, few_found source name own e))
+            by None f = rw (or_other own (looked_for_all s index own.end name own.compared) f) (omega (arith, few_found source name own e, (for_all_is own.end name own.compared).1))

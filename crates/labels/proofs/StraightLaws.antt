@@ -1,5 +1,5 @@
 -- On a label list without owners the answers are those of document 01. Assumes nothing.
-use Rattle.std.specs.Prelude.{ℕ, ◌+◌, List, [], ◌∷◌, Bool, true, false, ◌&&◌, ◌||◌, ◌≡◌, refl, leb, ltb, eqb}
+use Rattle.std.specs.Prelude.{ℕ, ◌+◌, List, [], ◌∷◌, Bool, true, false, ◌&&◌, ◌||◌, ◌≡◌, refl, leb, ltb, eqb, None, Option, Some}
 use Rattle.std.proofs.Math.Bool.{not, or-false}
 use Rattle.std.proofs.Common.{sym, ap₂, ◌∙◌, eqb-true}
 use Rattle.std.proofs.Math.Path.{ap, fun_ext}
@@ -7,26 +7,20 @@ use Rattle.std.proofs.lemmas.Bool.{eqb-false, not-true}
 use Rattle.record.specs.Bytes.{is_text, all}
 use Rattle.record.specs.Records.{body_len, kind_at, whole, places, first_bad, within_limit}
 use Rattle.record.proofs.RecordsLaws.{first_good}
-use Rattle.record.specs.declared.Layout.{Layout}
-use Rattle.record.specs.declared.Layout.TheVariants.{Good, Bad}
 use Rattle.names.specs.Names.{name_of, first_named, first_repeat}
 use Rattle.names.specs.Owners.{has_owner, WithoutOwners, for_all, owner_of, first_owned}
 use Rattle.names.proofs.OwnersLaws.{without_owner}
 use Rattle.names.proofs.StraightLaws.{straight_all, straight_owner, straight_repeat}
-use Rattle.names.specs.declared.Named.{Named}
-use Rattle.names.specs.declared.Named.TheVariants.{At, Missing}
-use Rattle.names.specs.declared.Repeat.{Repeat}
-use Rattle.labels.specs.declared.Address.{Address}
 use Rattle.labels.specs.Labels.{label_ok, label_layout, or_else, labelled, address_of, resolve, table_of}
 use Rattle.labels.specs.Straight.{straight_ok, straight_layout, straight_address, straight_table}
 
 -- tests that agree at each place fail first at one place
-layout_agree : (ok f g : ℕ → Bool) → ((p : ℕ) → ok p ≡ true → f p ≡ g p) → (ps : List ℕ) → first_bad ok ps ≡ Good → first_bad f ps ≡ first_bad g ps
+layout_agree : (ok f g : ℕ → Bool) → ((p : ℕ) → ok p ≡ true → f p ≡ g p) → (ps : List ℕ) → first_bad ok ps ≡ None → first_bad f ps ≡ first_bad g ps
 unfolding first_bad
 layout_agree ok f g h [] k = refl
 layout_agree ok f g h (p ∷ ps) k =
     let t = first_good ok p ps k in
-    ap₂ (λ (b : Bool) (l : Layout). elim b [ true ↦ l | false ↦ Bad p ]) (h p t.0) (layout_agree ok f g h ps t.1)
+    ap₂ (λ (b : Bool) (l : Option ℕ). elim b [ true ↦ l | false ↦ Some p ]) (h p t.0) (layout_agree ok f g h ps t.1)
 
 straight_ok_lem : (s : List ℕ) (p : ℕ) → not (has_owner s p) ≡ true → label_ok s p ≡ straight_ok s p
 unfolding label_ok
@@ -41,9 +35,9 @@ straight_ok_lem s p e =
     ∙ ap (λ (b : Bool). whole s p && (b && leb 5 n && leb n 68 && all is_text (name_of 4 s p))) (or-false (eqb (kind_at s p) 34))
 
 -- the same label twice
-twice : (n : Named) → or_else n n ≡ n
-twice (At p) = refl
-twice Missing = refl
+twice : (n : Option ℕ) → or_else n n ≡ n
+twice (Some p) = refl
+twice None = refl
 
 module _ (s : List ℕ) (w : WithoutOwners s) where
   straight_layout_lem : label_layout s ≡ straight_layout s
@@ -70,14 +64,14 @@ module _ (s : List ℕ) (w : WithoutOwners s) where
   -- "With kind 34 alone, answers equal the commit's."
   pub straight : table_of s ≡ straight_table s
   straight =
-      ap₂ (λ (l : Layout) (r : Repeat). record { layout = l; repeat = r; address = resolve s }) straight_layout_lem (straight_repeat 4 s w)
-      ∙ ap (λ (a : ℕ → List ℕ → Address). record { layout = straight_layout s; repeat = first_repeat 4 s; address = a })
+      ap₂ (λ (l : Option ℕ) (r : Option ℕ). record { layout = l; repeat = r; address = resolve s }) straight_layout_lem (straight_repeat 4 s w)
+      ∙ ap (λ (a : ℕ → List ℕ → Option ℕ). record { layout = straight_layout s; repeat = first_repeat 4 s; address = a })
       (fun_ext (λ source. fun_ext (λ name. straight_address_lem source name)))
 
 -- such a list that is not empty: one label `a`
 abbrev one : List ℕ
 one = 5 ∷ 0 ∷ 34 ∷ 0 ∷ 0 ∷ 16 ∷ 0 ∷ 0 ∷ 97 ∷ []
 
-pub one_met : (WithoutOwners one) × (straight_layout one ≡ Good)
+pub one_met : (WithoutOwners one) × (straight_layout one ≡ None)
 unfolding straight_layout
 one_met = (refl, refl)

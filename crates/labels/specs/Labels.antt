@@ -1,15 +1,9 @@
 -- Label records, kinds 34 and 41 (document 01, 'Label 34, region 35, entry 38'; document 02, P6). Assumes nothing.
-use Rattle.std.specs.Prelude.{ℕ, ◌+◌, List, Bool, ◌&&◌, ◌||◌, ltb, leb, eqb}
+use Rattle.std.specs.Prelude.{ℕ, ◌+◌, List, Bool, ◌&&◌, ◌||◌, ltb, leb, eqb, None, Option, Some}
 use Rattle.record.specs.Bytes.{le32, is_text, all}
 use Rattle.record.specs.Records.{body_len, kind_at, whole, places, first_bad, within_limit}
-use Rattle.record.specs.declared.Layout.{Layout}
 use Rattle.names.specs.Names.{first_where}
 use Rattle.names.specs.Owners.{has_owner, for_all, owner_of, before_name, owned_name, first_owned, owned_repeat}
-use Rattle.names.specs.declared.Named.{Named}
-use Rattle.names.specs.declared.Named.TheVariants.{At, Missing}
-use Rattle.names.specs.declared.Repeat.{Repeat}
-use Rattle.labels.specs.declared.Address.{Address}
-use Rattle.labels.specs.declared.Address.TheVariants.{Known, Unknown}
 
 -- "a new kind 41 has a 4-byte owner after its address, a source number below 0xFFFFFFFF"
 abbrev pub label_kind : List ℕ → ℕ → Bool
@@ -24,36 +18,36 @@ unfoldable pub label_ok : List ℕ → ℕ → Bool
 label_ok s at = whole s at && label_body s at
 
 -- the layout of a list of labels
-unfoldable pub label_layout : List ℕ → Layout
+unfoldable pub label_layout : List ℕ → Option ℕ
 unfolding label_ok first_bad places within_limit
 label_layout s = within_limit s (first_bad (label_ok s) (places s))
 
 -- refusal 2: "Two labels of one name get refusal 2 only with the same owner or none."
-abbrev pub label_repeat : List ℕ → Repeat
+abbrev pub label_repeat : List ℕ → Option ℕ
 label_repeat s = owned_repeat 4 s
 
 -- "A name resolves first to the label whose owner equals the source in the name's location, then to the one for all."
-abbrev pub or_else : Named → Named → Named
-or_else (At p) other = At p
-or_else Missing other = other
+abbrev pub or_else : Option ℕ → Option ℕ → Option ℕ
+or_else (Some p) other = Some p
+or_else None other = other
 
-abbrev pub labelled : List ℕ → (source : ℕ) → (name : List ℕ) → Named
+abbrev pub labelled : List ℕ → (source : ℕ) → (name : List ℕ) → Option ℕ
 labelled s source name = or_else (first_owned 4 s source name) (first_owned 4 s for_all name)
 
-abbrev pub address_of : List ℕ → Named → Address
-address_of s (At p) = Known (le32 s (p + 4))
-address_of s Missing = Unknown
+abbrev pub address_of : List ℕ → Option ℕ → Option ℕ
+address_of s (Some p) = Some (le32 s (p + 4))
+address_of s None = None
 
-unfoldable pub resolve : List ℕ → (source : ℕ) → (name : List ℕ) → Address
+unfoldable pub resolve : List ℕ → (source : ℕ) → (name : List ℕ) → Option ℕ
 unfolding first_where places
 resolve s source name = address_of s (labelled s source name)
 
 -- ---- what a build asks of its label list
 
 pub record Table : Type 0 where
-  pub layout : Layout
-  pub repeat : Repeat
-  pub address : (source : ℕ) → (name : List ℕ) → Address
+  pub layout : Option ℕ
+  pub repeat : Option ℕ
+  pub address : (source : ℕ) → (name : List ℕ) → Option ℕ
 
 abbrev pub table_of : List ℕ → Table
 table_of s = record { layout = label_layout s; repeat = label_repeat s; address = resolve s }

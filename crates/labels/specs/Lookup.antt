@@ -1,9 +1,6 @@
 -- A lookup of labels through an ordered index (document 02, P13). Assumes nothing.
-use Rattle.std.specs.Prelude.{ℕ, ◌≤◌, List, ◌≡◌, true, false, length, get_or, ltb}
-use Rattle.record.specs.declared.Layout.TheVariants.{Good}
+use Rattle.std.specs.Prelude.{ℕ, ◌≤◌, List, ◌≡◌, true, false, length, get_or, ltb, None, Some}
 use Rattle.names.specs.Owners.{for_all}
-use Rattle.names.specs.declared.Named.TheVariants.{At, Missing}
-use Rattle.names.specs.declared.Repeat.TheVariants.{None}
 use Rattle.name_index.specs.Index.{IndexOf, lookup_from, lookup, told}
 use Rattle.name_index.specs.declared.Looked.{Looked}
 use Rattle.name_index.specs.declared.Told.{Told}
@@ -15,20 +12,20 @@ most_labels = 7281
 
 -- a list of labels that is not refused, and an index of it
 pub record Indexed (s index : List ℕ) : Type 0 where
-  pub layout : label_layout s ≡ Good
+  pub layout : label_layout s ≡ None
   pub distinct : label_repeat s ≡ None
   pub ordered : IndexOf 4 s index
   pub few : length index ≤ most_labels
 
 -- a second lookup where the first finds nothing
 abbrev pub or_looked : Looked → Looked → Looked
-or_looked own other = elim own.named [ At p ↦ own | Missing ↦ other ]
+or_looked own other = elim own.named [ Some p ↦ own | None ↦ other ]
 
 -- The label for all of a name whose label for a source is not there, after c comparisons of names. The search for that one ended before the labels
 -- of the name with a greater owner, and 0xFFFFFFFF is the greatest: where no other owner has the name, the label for all stands there. The name of
 -- a record that has another owner is not compared.
 abbrev pub or_searched : Told → (place end : ℕ) → (ℕ → Looked) → Looked
-or_searched t place end other = elim t.same [ true ↦ record { named = At place; compared = t.compared; end = end } | false ↦ other t.compared ]
+or_searched t place end other = elim t.same [ true ↦ record { named = Some place; compared = t.compared; end = end } | false ↦ other t.compared ]
 
 unfoldable pub looked_for_all : (s index : List ℕ) (end : ℕ) (name : List ℕ) (c : ℕ) → Looked
 unfolding lookup_from

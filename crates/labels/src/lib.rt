@@ -8,20 +8,11 @@ ghost use Rattle.labels.specs.Lookup.{most_labels, Indexed, looked_for_all, look
 ghost use Rattle.name_index.specs.Index.{IndexOf};
 
 use name_index::Looked;
-use names::{Named, Repeat};
-use record::Layout;
-
-// What a name stands for.
-#[derive(Clone, Copy)]
-pub enum Address {
-    Known(u32),
-    Unknown,
-}
 
 // An address, and how many names were compared to find it.
 #[derive(Clone, Copy)]
 pub struct Found {
-    pub address: Address,
+    pub address: Option<u32>,
     pub compared: u32,
 }
 
@@ -64,25 +55,25 @@ fn label_ok(labels: &[u8], at: usize) -> bool
 }
 
 // The place of the first record that is no label, or the limit.
-pub fn first_bad_label(labels: &[u8]) -> Layout
+pub fn first_bad_label(labels: &[u8]) -> Option<usize>
     ensures { result ≡ label_layout labels.now }
 {
     if labels.len() > record::LIMIT {
-        return Layout::Bad(record::LIMIT);
+        return Some(record::LIMIT);
     }
     let mut at: usize = 0;
     while at < labels.len() {
         if !label_ok(labels, at) {
-            return Layout::Bad(at);
+            return Some(at);
         }
         at = record::next(labels, at);
     }
-    Layout::Good
+    None
 }
 
 // Makes the index of a list of labels, and answers their count; `spare` is scratch.
 pub fn make_index(labels: &[u8], index: &mut [u16], spare: &mut [u16]) -> usize
-    requires labels_value { label_layout labels.now ≡ Layout.Good }
+    requires labels_value { label_layout labels.now ≡ None }
     requires most_labels_in_bounds { (most_labels ≤ length index.old) × (most_labels ≤ length spare.old) }
     ensures { (result ≤ most_labels) × IndexOf 4 labels.now (take result index.new) }
 {
@@ -90,8 +81,8 @@ pub fn make_index(labels: &[u8], index: &mut [u16], spare: &mut [u16]) -> usize
 }
 
 // The first label that shares its name and owner with an earlier one, by an index of the list.
-pub fn first_repeat(labels: &[u8], index: &[u16]) -> Repeat
-    requires labels_value { label_layout labels.now ≡ Layout.Good }
+pub fn first_repeat(labels: &[u8], index: &[u16]) -> Option<usize>
+    requires labels_value { label_layout labels.now ≡ None }
     requires index_of { IndexOf 4 labels.now index.now }
     ensures { result ≡ label_repeat labels.now }
 {
@@ -110,7 +101,7 @@ fn look_for_all(labels: &[u8], index: &[u16], end: usize, name: &[u8], before: u
     let told = name_index::is_owned(labels, 4, names::FOR_ALL, name, place, before);
     if told.same {
         return Looked {
-            named: Named::At(place),
+            named: Some(place),
             compared: told.compared,
             end,
         };
@@ -126,8 +117,8 @@ pub fn look_up(labels: &[u8], index: &[u16], source: u32, name: &[u8]) -> Looked
     let own = name_index::find(labels, 4, index, source, name);
     let named = own.named;
     match named {
-        Named::At(_) => own,
-        Named::Missing => look_for_all(labels, index, own.end, name, own.compared),
+        Some(_) => own,
+        None => look_for_all(labels, index, own.end, name, own.compared),
     }
 }
 
@@ -139,12 +130,12 @@ pub fn get(labels: &[u8], index: &[u16], source: u32, name: &[u8]) -> Found
     let looked = look_up(labels, index, source, name);
     let named = looked.named;
     match named {
-        Named::At(at) => Found {
-            address: Address::Known(record::word_at(labels, at + 4)),
+        Some(at) => Found {
+            address: Some(record::word_at(labels, at + 4)),
             compared: looked.compared,
         },
-        Named::Missing => Found {
-            address: Address::Unknown,
+        None => Found {
+            address: None,
             compared: looked.compared,
         },
     }

@@ -1,5 +1,5 @@
 -- What a token's test says, in facts, and what a list of tokens that keeps its layout holds. Assumes nothing.
-use Rattle.std.specs.Prelude.{ℕ, ◌+◌, ◌≤◌, ◌<◌, min, List, Bool, true, false, ◌&&◌, ◌≡◌, refl, length, get_or, leb, eqb}
+use Rattle.std.specs.Prelude.{ℕ, ◌+◌, ◌≤◌, ◌<◌, min, List, Bool, true, false, ◌&&◌, ◌≡◌, refl, length, get_or, leb, eqb, None, Some}
 use Rattle.std.proofs.Common.{arith, sym, ap, ◌∙◌, lit≤}
 use Rattle.std.proofs.Math.Bool.{and-eq-true_iff}
 use Rattle.std.proofs.Math.ListN.{get_or-eq_default}
@@ -7,7 +7,6 @@ use borrow.Author.Tests.{leb-true, leb-false, eqb-true}
 use Rattle.record.specs.Bytes.{byte_at}
 use Rattle.record.specs.Records.{body_len, kind_at, whole, places, first_bad, limit}
 use Rattle.record.proofs.RecordsLaws.{layout_from, whole_is, places_all, limit_kept, limit_passed, limit_good}
-use Rattle.record.specs.declared.Layout.TheVariants.{Good, Bad}
 use Rattle.lexer.specs.declared.Payload.{Payload}
 use Rattle.lexer.specs.declared.Payload.TheVariants.{Slot, Number, Unknown}
 use Rattle.lexer.specs.Tokens.{TokenIs, payload_len, payloads, payload_of, payload_ok, token_ok, token_layout}
@@ -81,10 +80,10 @@ pub token_kept : (s : List ℕ) → length s ≤ limit → token_layout s ≡ la
 unfolding token_layout
 token_kept s h = limit_kept s (first_bad (token_ok s) (places s)) h ∙ ap (first_bad (token_ok s)) (places_all s)
 
-pub token_passed : (s : List ℕ) → limit < length s → token_layout s ≡ Bad limit
+pub token_passed : (s : List ℕ) → limit < length s → token_layout s ≡ Some limit
 unfolding token_layout
 token_passed s h = limit_passed s (first_bad (token_ok s) (places s)) h
 
-pub token_good : (s : List ℕ) → token_layout s ≡ Good → (length s ≤ limit) × (first_bad (token_ok s) (places s) ≡ Good)
+pub token_good : (s : List ℕ) → token_layout s ≡ None → (length s ≤ limit) × (first_bad (token_ok s) (places s) ≡ None)
 unfolding token_layout
 token_good s g = limit_good s (first_bad (token_ok s) (places s)) g

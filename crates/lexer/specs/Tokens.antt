@@ -1,10 +1,9 @@
 -- Token records, kinds 0 to 15 (document 01, 'Tokens'). Assumes nothing.
-use Rattle.std.specs.Prelude.{ℕ, ◌+◌, ◌-◌, ◌≤◌, List, [], ◌∷◌, map, Bool, true, false, ◌&&◌, ◌≡◌, length, get_or, leb, eqb}
+use Rattle.std.specs.Prelude.{ℕ, ◌+◌, ◌-◌, ◌≤◌, List, [], ◌∷◌, map, Bool, true, false, ◌&&◌, ◌≡◌, length, get_or, leb, eqb, Option}
 use Rattle.std.specs.Float.Ieee.{of_bits}
 use Rattle.std.specs.Float.{binary64}
 use Rattle.record.specs.Bytes.{byte_at, le64, location_at, part, is_text, all}
 use Rattle.record.specs.Records.{body_len, kind_at, next, whole, places, first_bad, within_limit}
-use Rattle.record.specs.declared.Layout.{Layout}
 use Rattle.registers.specs.Slots.{register_of, fp_register_of}
 use Rattle.lexer.specs.declared.Payload.{Payload}
 use Rattle.lexer.specs.declared.Payload.TheVariants.{Text, Slot, Number, Name, Nothing, Unknown}
@@ -53,7 +52,7 @@ pub record TokenIs (s : List ℕ) (at : ℕ) : Type 0 where
   pub slot : (3 ≤ kind_at s at) → (kind_at s at ≤ 4) → 9 ≤ body_len s at
   pub number : (5 ≤ kind_at s at) → (kind_at s at ≤ 6) → 16 ≤ body_len s at
 
-unfoldable pub token_layout : List ℕ → Layout
+unfoldable pub token_layout : List ℕ → Option ℕ
 unfolding token_ok first_bad places within_limit
 token_layout s = within_limit s (first_bad (token_ok s) (places s))
 

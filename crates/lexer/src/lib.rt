@@ -9,7 +9,7 @@ ghost use Rattle.record.specs.Records.{body_len, kind_at, next};
 ghost use Rattle.lexer.specs.Tokens.{payload_of, payload_ok, token_ok, TokenIs, token_layout, token_at, strip};
 ghost use Rattle.lexer.specs.Views.{as_register, as_fp_register, as_integer, as_symbol};
 
-use record::{Layout, Location};
+use record::Location;
 use registers::{FPRegisterSlot, RegisterSlot};
 
 // The kinds of tokens, numbered as StrippedKind has them.
@@ -87,30 +87,6 @@ pub enum Payload {
     Name,
     Nothing,
     Unknown,
-}
-
-#[derive(Clone, Copy)]
-pub enum MaybeRegister {
-    Some(RegisterSlot),
-    Nothing,
-}
-
-#[derive(Clone, Copy)]
-pub enum MaybeFPRegister {
-    Some(FPRegisterSlot),
-    Nothing,
-}
-
-#[derive(Clone, Copy)]
-pub enum MaybeInteger {
-    Some(u64),
-    Nothing,
-}
-
-#[derive(Clone, Copy)]
-pub enum MaybeText {
-    Some(Text),
-    Nothing,
 }
 
 // The float of any bits. A NaN's pattern gives the NaN, of which the machine knows one.
@@ -199,20 +175,20 @@ fn token_ok(list: &[u8], at: usize) -> bool
 }
 
 // The place of the first record that is no token, or the limit.
-pub fn first_bad_token(list: &[u8]) -> Layout
+pub fn first_bad_token(list: &[u8]) -> Option<usize>
     ensures { result ≡ token_layout list.now }
 {
     if list.len() > record::LIMIT {
-        return Layout::Bad(record::LIMIT);
+        return Some(record::LIMIT);
     }
     let mut at: usize = 0;
     while at < list.len() {
         if !token_ok(list, at) {
-            return Layout::Bad(at);
+            return Some(at);
         }
         at = record::next(list, at);
     }
-    Layout::Good
+    None
 }
 
 // The token at `at`, of a list that keeps its layout.
@@ -271,94 +247,94 @@ pub fn strip(kind: TokenKind) -> u8
     }
 }
 
-pub fn as_register(kind: TokenKind) -> MaybeRegister
+pub fn as_register(kind: TokenKind) -> Option<RegisterSlot>
     ensures { result ≡ as_register kind }
 {
     match kind {
-        TokenKind::Comment(_) => MaybeRegister::Nothing,
-        TokenKind::Directive(_) => MaybeRegister::Nothing,
-        TokenKind::Parameter(_) => MaybeRegister::Nothing,
-        TokenKind::Register(x) => MaybeRegister::Some(x),
-        TokenKind::FPRegister(_) => MaybeRegister::Nothing,
-        TokenKind::IntegerLiteral(_) => MaybeRegister::Nothing,
-        TokenKind::FloatLiteral(_) => MaybeRegister::Nothing,
-        TokenKind::StringLiteral(_) => MaybeRegister::Nothing,
-        TokenKind::Symbol(_) => MaybeRegister::Nothing,
-        TokenKind::Plus => MaybeRegister::Nothing,
-        TokenKind::Minus => MaybeRegister::Nothing,
-        TokenKind::Comma => MaybeRegister::Nothing,
-        TokenKind::Colon => MaybeRegister::Nothing,
-        TokenKind::NewLine => MaybeRegister::Nothing,
-        TokenKind::LeftBrace => MaybeRegister::Nothing,
-        TokenKind::RightBrace => MaybeRegister::Nothing,
+        TokenKind::Comment(_) => None,
+        TokenKind::Directive(_) => None,
+        TokenKind::Parameter(_) => None,
+        TokenKind::Register(x) => Some(x),
+        TokenKind::FPRegister(_) => None,
+        TokenKind::IntegerLiteral(_) => None,
+        TokenKind::FloatLiteral(_) => None,
+        TokenKind::StringLiteral(_) => None,
+        TokenKind::Symbol(_) => None,
+        TokenKind::Plus => None,
+        TokenKind::Minus => None,
+        TokenKind::Comma => None,
+        TokenKind::Colon => None,
+        TokenKind::NewLine => None,
+        TokenKind::LeftBrace => None,
+        TokenKind::RightBrace => None,
     }
 }
 
-pub fn as_fp_register(kind: TokenKind) -> MaybeFPRegister
+pub fn as_fp_register(kind: TokenKind) -> Option<FPRegisterSlot>
     ensures { result ≡ as_fp_register kind }
 {
     match kind {
-        TokenKind::Comment(_) => MaybeFPRegister::Nothing,
-        TokenKind::Directive(_) => MaybeFPRegister::Nothing,
-        TokenKind::Parameter(_) => MaybeFPRegister::Nothing,
-        TokenKind::Register(_) => MaybeFPRegister::Nothing,
-        TokenKind::FPRegister(x) => MaybeFPRegister::Some(x),
-        TokenKind::IntegerLiteral(_) => MaybeFPRegister::Nothing,
-        TokenKind::FloatLiteral(_) => MaybeFPRegister::Nothing,
-        TokenKind::StringLiteral(_) => MaybeFPRegister::Nothing,
-        TokenKind::Symbol(_) => MaybeFPRegister::Nothing,
-        TokenKind::Plus => MaybeFPRegister::Nothing,
-        TokenKind::Minus => MaybeFPRegister::Nothing,
-        TokenKind::Comma => MaybeFPRegister::Nothing,
-        TokenKind::Colon => MaybeFPRegister::Nothing,
-        TokenKind::NewLine => MaybeFPRegister::Nothing,
-        TokenKind::LeftBrace => MaybeFPRegister::Nothing,
-        TokenKind::RightBrace => MaybeFPRegister::Nothing,
+        TokenKind::Comment(_) => None,
+        TokenKind::Directive(_) => None,
+        TokenKind::Parameter(_) => None,
+        TokenKind::Register(_) => None,
+        TokenKind::FPRegister(x) => Some(x),
+        TokenKind::IntegerLiteral(_) => None,
+        TokenKind::FloatLiteral(_) => None,
+        TokenKind::StringLiteral(_) => None,
+        TokenKind::Symbol(_) => None,
+        TokenKind::Plus => None,
+        TokenKind::Minus => None,
+        TokenKind::Comma => None,
+        TokenKind::Colon => None,
+        TokenKind::NewLine => None,
+        TokenKind::LeftBrace => None,
+        TokenKind::RightBrace => None,
     }
 }
 
-pub fn as_integer(kind: TokenKind) -> MaybeInteger
+pub fn as_integer(kind: TokenKind) -> Option<u64>
     ensures { result ≡ as_integer kind }
 {
     match kind {
-        TokenKind::Comment(_) => MaybeInteger::Nothing,
-        TokenKind::Directive(_) => MaybeInteger::Nothing,
-        TokenKind::Parameter(_) => MaybeInteger::Nothing,
-        TokenKind::Register(_) => MaybeInteger::Nothing,
-        TokenKind::FPRegister(_) => MaybeInteger::Nothing,
-        TokenKind::IntegerLiteral(x) => MaybeInteger::Some(x),
-        TokenKind::FloatLiteral(_) => MaybeInteger::Nothing,
-        TokenKind::StringLiteral(_) => MaybeInteger::Nothing,
-        TokenKind::Symbol(_) => MaybeInteger::Nothing,
-        TokenKind::Plus => MaybeInteger::Nothing,
-        TokenKind::Minus => MaybeInteger::Nothing,
-        TokenKind::Comma => MaybeInteger::Nothing,
-        TokenKind::Colon => MaybeInteger::Nothing,
-        TokenKind::NewLine => MaybeInteger::Nothing,
-        TokenKind::LeftBrace => MaybeInteger::Nothing,
-        TokenKind::RightBrace => MaybeInteger::Nothing,
+        TokenKind::Comment(_) => None,
+        TokenKind::Directive(_) => None,
+        TokenKind::Parameter(_) => None,
+        TokenKind::Register(_) => None,
+        TokenKind::FPRegister(_) => None,
+        TokenKind::IntegerLiteral(x) => Some(x),
+        TokenKind::FloatLiteral(_) => None,
+        TokenKind::StringLiteral(_) => None,
+        TokenKind::Symbol(_) => None,
+        TokenKind::Plus => None,
+        TokenKind::Minus => None,
+        TokenKind::Comma => None,
+        TokenKind::Colon => None,
+        TokenKind::NewLine => None,
+        TokenKind::LeftBrace => None,
+        TokenKind::RightBrace => None,
     }
 }
 
-pub fn as_symbol(kind: TokenKind) -> MaybeText
+pub fn as_symbol(kind: TokenKind) -> Option<Text>
     ensures { result ≡ as_symbol kind }
 {
     match kind {
-        TokenKind::Comment(_) => MaybeText::Nothing,
-        TokenKind::Directive(_) => MaybeText::Nothing,
-        TokenKind::Parameter(_) => MaybeText::Nothing,
-        TokenKind::Register(_) => MaybeText::Nothing,
-        TokenKind::FPRegister(_) => MaybeText::Nothing,
-        TokenKind::IntegerLiteral(_) => MaybeText::Nothing,
-        TokenKind::FloatLiteral(_) => MaybeText::Nothing,
-        TokenKind::StringLiteral(_) => MaybeText::Nothing,
-        TokenKind::Symbol(x) => MaybeText::Some(x),
-        TokenKind::Plus => MaybeText::Nothing,
-        TokenKind::Minus => MaybeText::Nothing,
-        TokenKind::Comma => MaybeText::Nothing,
-        TokenKind::Colon => MaybeText::Nothing,
-        TokenKind::NewLine => MaybeText::Nothing,
-        TokenKind::LeftBrace => MaybeText::Nothing,
-        TokenKind::RightBrace => MaybeText::Nothing,
+        TokenKind::Comment(_) => None,
+        TokenKind::Directive(_) => None,
+        TokenKind::Parameter(_) => None,
+        TokenKind::Register(_) => None,
+        TokenKind::FPRegister(_) => None,
+        TokenKind::IntegerLiteral(_) => None,
+        TokenKind::FloatLiteral(_) => None,
+        TokenKind::StringLiteral(_) => None,
+        TokenKind::Symbol(x) => Some(x),
+        TokenKind::Plus => None,
+        TokenKind::Minus => None,
+        TokenKind::Comma => None,
+        TokenKind::Colon => None,
+        TokenKind::NewLine => None,
+        TokenKind::LeftBrace => None,
+        TokenKind::RightBrace => None,
     }
 }

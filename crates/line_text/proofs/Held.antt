@@ -1,11 +1,9 @@
 -- Of a buffer that an emit call may change one byte more than the limit is as good as the whole: the checks of its lists find the same, and
 -- a longer one is refused. Assumes nothing.
-use Rattle.std.specs.Prelude.{ℕ, ◌<◌, List, Bool, true, false, ◌≡◌, refl, leb, length}
+use Rattle.std.specs.Prelude.{ℕ, ◌<◌, List, Bool, true, false, ◌≡◌, refl, leb, length, None, Option, Some}
 use Rattle.std.proofs.Common.{arith, sym, ap, ◌∙◌, length-take, take_all, leb-true, leb-false}
 use Rattle.std.proofs.lemmas.Bool.{lt-leb}
 use Rattle.record.specs.Records.{limit, within_limit}
-use Rattle.record.specs.declared.Layout.{Layout}
-use Rattle.record.specs.declared.Layout.TheVariants.{Good, Bad}
 use Rattle.breakpoints.specs.Breakpoints.{filled_layout, region_number_ok, data_buffer_layout, pending_buffer_layout, breakpoint_buffer_layout}
 use Rattle.emit_outcome.specs.declared.FillCounts.{FillCounts}
 use Rattle.emit_outcome.specs.Call.{lent_of}
@@ -13,7 +11,7 @@ use Rattle.emit_outcome.specs.Checks.{layout_stop, list_stop}
 use Rattle.input.specs.Input.{held}
 
 -- a check that finds the same of all buffers over the limit finds the same of what is held
-as_held : (check : List ℕ → Layout) → ((s : List ℕ) → limit < length s → check s ≡ Bad limit) → (s : List ℕ) → check (held s) ≡ check s
+as_held : (check : List ℕ → Option ℕ) → ((s : List ℕ) → limit < length s → check s ≡ Some limit) → (s : List ℕ) → check (held s) ≡ check s
 as_held check blind s = go (leb (length s) 65537) refl
   where
     go : (b : Bool) → leb (length s) 65537 ≡ b → check (held s) ≡ check s
@@ -22,14 +20,14 @@ as_held check blind s = go (leb (length s) 65537) refl
         let h = leb-false (length s) 65537 e in
         blind (held s) (simp length-take (omega arith)) ∙ sym (blind s (omega arith))
 
-over : (fill : ℕ) (s : List ℕ) (l : Layout) → limit < length s → filled_layout fill s l ≡ Bad limit
+over : (fill : ℕ) (s : List ℕ) (l : Option ℕ) → limit < length s → filled_layout fill s l ≡ Some limit
 unfolding filled_layout within_limit
 over fill s l h = rw (lt-leb (length s) limit h, within_limit)
 
 data_held : (region fill : ℕ) (s : List ℕ) → data_buffer_layout region fill (held s) ≡ data_buffer_layout region fill s
 unfolding data_buffer_layout
 data_held region fill s =
-    ap (λ (l : Layout). elim (region_number_ok region) [ true ↦ l | false ↦ Bad 0 ]) (as_held (λ (t : List ℕ). filled_layout fill t Good) (λ t h. over fill t Good h) s)
+    ap (λ (l : Option ℕ). elim (region_number_ok region) [ true ↦ l | false ↦ Some 0 ]) (as_held (λ (t : List ℕ). filled_layout fill t None) (λ t h. over fill t None h) s)
 
 pending_held : (fill : ℕ) (s : List ℕ) → pending_buffer_layout fill (held s) ≡ pending_buffer_layout fill s
 unfolding pending_buffer_layout

@@ -1,6 +1,6 @@
 -- What `emit_line` prints of an emit call: the refusal where there is one, the position, the fill counts, an accepted line's form, and the
 -- three buffers after the call; or that there is no such job. Assumes nothing.
-use Rattle.std.specs.Prelude.{ℕ, List, [], ◌∷◌, ◌++◌, get_or}
+use Rattle.std.specs.Prelude.{ℕ, List, [], ◌∷◌, ◌++◌, get_or, None, Option, Some}
 use Rattle.jobs.specs.declared.Job.{Job}
 use Rattle.jobs.specs.declared.Job.TheVariants.{Commit, Manual, Release6}
 use Rattle.record.specs.Bytes.{byte_at}
@@ -18,8 +18,6 @@ use Rattle.emit_outcome.specs.Emit.{emit_outcome}
 use Rattle.input.specs.Input.{word_or_zero, half_or_zero, behind_lists, list_of, held}
 use Rattle.text.specs.Text.{field, last_field, refused_line}
 use Rattle.bytes_line.specs.BytesLine.{bytes_line}
-use Rattle.line_text.specs.declared.JobAsked.{JobAsked}
-use Rattle.line_text.specs.declared.JobAsked.TheVariants.{Of, NoSuch}
 
 -- ---- the text of an outcome
 abbrev pub position_line : ℕ → List ℕ
@@ -76,17 +74,17 @@ job_text job s = call_text job s (lent_of (held (list_of 3 s)) (held (list_of 4 
 
 -- ---- the job of an input (document 02, P5 and P9)
 -- the jobs in the order of their bytes
-abbrev pub job_numbered : ℕ → JobAsked
-job_numbered n = get_or (Of Commit ∷ Of Manual ∷ Of Release6 ∷ []) n NoSuch
+abbrev pub job_numbered : ℕ → Option Job
+job_numbered n = get_or (Some Commit ∷ Some Manual ∷ Some Release6 ∷ []) n None
 
 -- the byte behind the address, 0 where it is missing
-abbrev pub job_in : List ℕ → JobAsked
+abbrev pub job_in : List ℕ → Option Job
 job_in s = job_numbered (byte_at (behind_lists 6 s) 22)
 
 -- a byte that is no job's goes before everything else
-abbrev pub asked_text : List ℕ → JobAsked → List ℕ
-asked_text s (Of job) = job_text job s
-asked_text s NoSuch = bytes_of "no such job\n"
+abbrev pub asked_text : List ℕ → Option Job → List ℕ
+asked_text s (Some job) = job_text job s
+asked_text s None = bytes_of "no such job\n"
 
 unfoldable pub line_text : List ℕ → List ℕ
 line_text s = asked_text s (job_in s)

@@ -12,13 +12,6 @@ use jobs::Job;
 
 pub mod lines;
 
-// What the byte of the job asks for.
-#[derive(Clone, Copy)]
-pub enum JobAsked {
-    Of(Job),
-    NoSuch,
-}
-
 // The numbers that stand behind the buffers.
 fn numbers_in(input: &[u8]) -> LineNumbers
     ensures { result ≡ numbers_in input.now }
@@ -109,18 +102,18 @@ fn put_job(job: Job, input: &[u8], out: &mut [u8; text::MOST]) -> usize
 }
 
 // The job of that number.
-pub fn job_numbered(number: u8) -> JobAsked
+pub fn job_numbered(number: u8) -> Option<Job>
     ensures { result ≡ job_numbered number }
 {
     match number {
-        0 => JobAsked::Of(Job::Commit),
-        1 => JobAsked::Of(Job::Manual),
-        2 => JobAsked::Of(Job::Release6),
-        _ => JobAsked::NoSuch,
+        0 => Some(Job::Commit),
+        1 => Some(Job::Manual),
+        2 => Some(Job::Release6),
+        _ => None,
     }
 }
 
-fn job_in(input: &[u8]) -> JobAsked
+fn job_in(input: &[u8]) -> Option<Job>
     ensures { result ≡ job_in input.now }
 {
     job_numbered(input::byte_or_zero(input::behind_lists(input, 6), 22))
@@ -131,7 +124,7 @@ pub fn emit_line(input: &[u8], out: &mut [u8; text::MOST]) -> usize
     ensures { Put out.old 0 (line_text input.now) out.new result }
 {
     match job_in(input) {
-        JobAsked::Of(job) => put_job(job, input, out),
-        JobAsked::NoSuch => text::put_text(out, 0, b"no such job\n"),
+        Some(job) => put_job(job, input, out),
+        None => text::put_text(out, 0, b"no such job\n"),
     }
 }

@@ -1,17 +1,13 @@
 -- Laws of the keys that uses and words have, and of how much longer an index is with one use more. Assumes nothing.
-use Rattle.std.specs.Prelude.{ℕ, ◌+◌, ◌<◌, Bool, true, false, ◌||◌, ◌≡◌, length, drop, get_or}
+use Rattle.std.specs.Prelude.{ℕ, ◌+◌, ◌<◌, Bool, true, false, ◌||◌, ◌≡◌, length, drop, get_or, None, Option, Some}
 use Rattle.std.proofs.Common.{arith, add-one, ap₂, ◌∙◌, subst, length-append, drop-cons}
 use mathlib.Core.List.{List, [], ◌∷◌, ◌++◌, Memᴰ}
 use Rattle.std.proofs.Math.Path.{refl, sym, ap}
 use Rattle.std.proofs.Math.Seq.{drop-length}
 use Rattle.record.specs.Bytes.{part}
-use Rattle.name_order.specs.declared.Ordered.{Ordered}
-use Rattle.name_order.specs.declared.Ordered.TheVariants.{Less, Same, More}
 use Rattle.address_label.specs.declared.AddressLabel.{AddressLabel}
 use Rattle.address_label.specs.declared.AddressLabel.TheVariants.{Constant, Label}
 use Rattle.emit_pairs.specs.declared.InstructionPair.{InstructionPair}
-use Rattle.emit_pairs.specs.declared.PairLabel.{PairLabel}
-use Rattle.emit_pairs.specs.declared.PairLabel.TheVariants.{Nothing, Some}
 use Rattle.label_uses.specs.Uses.{UseKey, Use, use_order, key_for, one_use, more_use, insert_use, use_of}
 use Rattle.label_uses.specs.UseBytes.{uses_bytes}
 use Rattle.label_uses.proofs.UseBytesLaws.{uses_none, cons_length}
@@ -20,6 +16,9 @@ use Rattle.use_adding.specs.Adding.{Heads, PlaceIs, stands, missing}
 use Rattle.label_uses.proofs.UseOrderLaws.{use_is}
 use Rattle.label_uses.proofs.InsertLaws.{Below, Rises, one_left, below_trans, insert_less, insert_same, insert_more, insert_none, insert_rises}
 use Rattle.line_uses.specs.LineUses.{pair_use, next_number, line_uses, is_same, same_key, has_key, label_has, pair_has, key_among, growth_of, label_growth, pair_growth}
+use Rattle.std.specs.declared.cmp.Ordering.TheVariants.{Less, Equal, Greater}
+use Rattle.std.specs.declared.cmp.Ordering.{Ordering}
+use Rattle.pending.specs.declared.InstructionLabel.{InstructionLabel}
 
 -- ---- truth values
 or_assoc : (a b c : Bool) → (a || b) || c ≡ a || (b || c)
@@ -67,14 +66,14 @@ has_insert k key n (u ∷ us) = go (use_order key u.key) refl (has_insert k key 
     swap false true = refl
     swap false false = refl
 
-    go : (o : Ordered) → use_order key u.key ≡ o → has_key k (insert_use key n us) ≡ has_key k us || same_key k key → has_key k (insert_use key n (u ∷ us)) ≡ has_key k (u ∷ us) || same_key k key
+    go : (o : Ordering) → use_order key u.key ≡ o → has_key k (insert_use key n us) ≡ has_key k us || same_key k key → has_key k (insert_use key n (u ∷ us)) ≡ has_key k (u ∷ us) || same_key k key
     go Less e ih =
         ap (has_key k) (insert_less key n u us e) ∙ has_cons k (one_use key n) (u ∷ us) ∙ swap (same_key k key) (has_key k (u ∷ us))
-    go Same e ih =
+    go Equal e ih =
         let same : key ≡ u.key = use_is key u.key e in
         ap (has_key k) (insert_same key n u us e) ∙ has_cons k (more_use u n) us
         ∙ sym (right ∙ ap (λ (x : UseKey). same_key k u.key || (has_key k us || same_key k x)) same ∙ or_twice (same_key k u.key) (has_key k us) ∙ swap (has_key k us) (same_key k u.key))
-    go More e ih =
+    go Greater e ih =
         ap (has_key k) (insert_more key n u us e) ∙ has_cons k u (insert_use key n us) ∙ ap (λ (b : Bool). same_key k u.key || b) ih ∙ sym right
 
 -- ---- how much longer
@@ -89,18 +88,18 @@ insert_grows key n (u ∷ us) (one_left b r) = go (use_order key u.key) refl (in
     held : (t : Bool) → has_key key (u ∷ us) ≡ t → growth_of (has_key key (u ∷ us)) key.name ≡ growth_of t key.name
     held t e = ap (λ (x : Bool). growth_of x key.name) e
 
-    go : (o : Ordered) → use_order key u.key ≡ o → length (uses_bytes (insert_use key n us)) ≡ length (uses_bytes us) + growth_of (has_key key us) key.name
+    go : (o : Ordering) → use_order key u.key ≡ o → length (uses_bytes (insert_use key n us)) ≡ length (uses_bytes us) + growth_of (has_key key us) key.name
         → length (uses_bytes (insert_use key n (u ∷ us))) ≡ length (uses_bytes (u ∷ us)) + growth_of (has_key key (u ∷ us)) key.name
     go Less e ih =
         let f = ap (λ (vs : List Use). length (uses_bytes vs)) (insert_less key n u us e) ∙ cons_length (one_use key n) (u ∷ us) in
         let h : has_key key (u ∷ us) ≡ false = has_cons key u us ∙ ap₂ ◌||◌ (ap is_same e) (below_has key us (below_trans key u.key us e b)) in
         omega (arith, held false h)
-    go Same e ih =
+    go Equal e ih =
         let f = ap (λ (vs : List Use). length (uses_bytes vs)) (insert_same key n u us e) ∙ cons_length (more_use u n) us in
         let g = cons_length u us in
         let h : has_key key (u ∷ us) ≡ true = has_cons key u us ∙ ap (λ (x : Bool). x || has_key key us) (ap is_same e) in
         omega (arith, held true h, length-append u.numbers (n ∷ []))
-    go More e ih =
+    go Greater e ih =
         let f = ap (λ (vs : List Use). length (uses_bytes vs)) (insert_more key n u us e) ∙ cons_length u (insert_use key n us) in
         let g = cons_length u us in
         let h : has_key key (u ∷ us) ≡ has_key key us = has_cons key u us ∙ ap (λ (x : Bool). x || has_key key us) (ap is_same e) in
@@ -131,24 +130,24 @@ module _ (labels names : List ℕ) where
   rises_label (Constant value) n us r = r
   rises_label (Label l) n us r = insert_rises _ n us r
 
-  pub rises_pair : (w : PairLabel) (n : ℕ) (us : List Use) → Rises us → Rises (pair_use labels names w n us)
-  rises_pair Nothing n us r = r
+  pub rises_pair : (w : Option InstructionLabel) (n : ℕ) (us : List Use) → Rises us → Rises (pair_use labels names w n us)
+  rises_pair None n us r = r
   rises_pair (Some w) n us r = rises_label w.label n us r
 
   label_has_lem : (k : UseKey) (x : AddressLabel) (n : ℕ) (us : List Use) → has_key k (use_of labels names x n us) ≡ has_key k us || label_has labels names k x
   label_has_lem k (Constant value) n us = sym (or_none (has_key k us))
   label_has_lem k (Label l) n us = has_insert k _ n us
 
-  pub pair_has_lem : (k : UseKey) (w : PairLabel) (n : ℕ) (us : List Use) → has_key k (pair_use labels names w n us) ≡ has_key k us || pair_has labels names k w
-  pair_has_lem k Nothing n us = sym (or_none (has_key k us))
+  pub pair_has_lem : (k : UseKey) (w : Option InstructionLabel) (n : ℕ) (us : List Use) → has_key k (pair_use labels names w n us) ≡ has_key k us || pair_has labels names k w
+  pair_has_lem k None n us = sym (or_none (has_key k us))
   pair_has_lem k (Some w) n us = label_has_lem k w.label n us
 
   label_grows : (x : AddressLabel) (n : ℕ) (us : List Use) → Rises us → length (uses_bytes (use_of labels names x n us)) ≡ length (uses_bytes us) + label_growth labels names (λ (key : UseKey). has_key key us) x
   label_grows (Constant value) n us r = omega arith
   label_grows (Label l) n us r = insert_grows _ n us r
 
-  pub pair_grows : (w : PairLabel) (n : ℕ) (us : List Use) → Rises us → length (uses_bytes (pair_use labels names w n us)) ≡ length (uses_bytes us) + pair_growth labels names (λ (key : UseKey). has_key key us) w
-  pair_grows Nothing n us r = omega arith
+  pub pair_grows : (w : Option InstructionLabel) (n : ℕ) (us : List Use) → Rises us → length (uses_bytes (pair_use labels names w n us)) ≡ length (uses_bytes us) + pair_growth labels names (λ (key : UseKey). has_key key us) w
+  pair_grows None n us r = omega arith
   pair_grows (Some w) n us r = label_grows w.label n us r
 
   -- the growth, by keys that are held alike
@@ -158,8 +157,8 @@ module _ (labels names : List ℕ) where
       let key = key_for labels l.location.source (part names l.name_at l.name_len) in
       ap (λ (b : Bool). growth_of b key.name) (h key)
 
-  pub growth_alike : (f g : UseKey → Bool) → ((key : UseKey) → f key ≡ g key) → (w : PairLabel) → pair_growth labels names f w ≡ pair_growth labels names g w
-  growth_alike f g h Nothing = refl
+  pub growth_alike : (f g : UseKey → Bool) → ((key : UseKey) → f key ≡ g key) → (w : Option InstructionLabel) → pair_growth labels names f w ≡ pair_growth labels names g w
+  growth_alike f g h None = refl
   growth_alike f g h (Some w) = label_alike f g h w.label
 
   -- ---- keys of words

@@ -4,8 +4,6 @@ use Rattle.std.proofs.Common.{arith, sym, ap, ap₂, ◌∙◌, length-take, len
 use Rattle.record.specs.Bytes.{part}
 use Rattle.names.specs.Owners.{for_all, first_owned}
 use Rattle.name_order.specs.Order.{then_by, numbers, order}
-use Rattle.name_order.specs.declared.Ordered.{Ordered}
-use Rattle.name_order.specs.declared.Ordered.TheVariants.{Less, Same, More}
 use Rattle.address_label.specs.LabelBytes.{name_bytes}
 use Rattle.address_label.specs.declared.AddressLabel.{AddressLabel}
 use Rattle.address_label.specs.declared.AddressLabel.TheVariants.{Constant, Label}
@@ -22,6 +20,8 @@ use Rattle.use_adding.specs.Adding.{IndexIn, PlaceIs}
 use Rattle.line_uses.specs.LineUses.{is_same, same_key, has_key, label_has, key_among, growth_of, label_growth}
 use Rattle.line_uses.specs.LineIndex.{held_by, LabelGrows}
 use Rattle.line_uses.proofs.HasLaws.{place_has}
+use Rattle.std.specs.declared.cmp.Ordering.TheVariants.{Less, Equal, Greater}
+use Rattle.std.specs.declared.cmp.Ordering.{Ordering}
 
 -- ---- what a name stands for, by two scans
 pub standing_scanned : (s : List ℕ) (source : ℕ) (name : List ℕ) (own shared : Bool) → is_hit (first_owned 4 s source name) ≡ own → is_hit (first_owned 4 s for_all name) ≡ shared
@@ -46,22 +46,22 @@ module _ (labels names : List ℕ) (x : AddressLabel) (l : NamedLabel) (e : x �
   has_key_lem k = ap (label_has labels names k) e ∙ ap (λ (n : List ℕ). same_key k (key_for labels l.location.source n)) bytes_are
 
   module _ (name : List ℕ) (standing : Standing) where
-    by_name : (o : Ordered) → order name other ≡ o
+    by_name : (o : Ordering) → order name other ≡ o
         → use_order (key_with name standing) key ≡ then_by o (then_by (known_order standing.known key.standing.known) (numbers standing.owner key.standing.owner))
     by_name o f =
-        ap (λ (p : Ordered). then_by p (then_by (known_order standing.known key.standing.known) (numbers standing.owner key.standing.owner)))
+        ap (λ (p : Ordering). then_by p (then_by (known_order standing.known key.standing.known) (numbers standing.owner key.standing.owner)))
         (ap (order name) (key_name labels l.location.source other) ∙ f)
 
     pub has_less : order name other ≡ Less → false ≡ label_has labels names (key_with name standing) x
     has_less f = sym (has_key_lem (key_with name standing) ∙ ap is_same (by_name Less f))
 
-    pub has_more : order name other ≡ More → false ≡ label_has labels names (key_with name standing) x
-    has_more f = sym (has_key_lem (key_with name standing) ∙ ap is_same (by_name More f))
+    pub has_more : order name other ≡ Greater → false ≡ label_has labels names (key_with name standing) x
+    has_more f = sym (has_key_lem (key_with name standing) ∙ ap is_same (by_name Greater f))
 
-    pub has_same : order name other ≡ Same → (met : Standing) → key_with other met ≡ key → (o : Ordered) → then_by (known_order standing.known met.known) (numbers standing.owner met.owner) ≡ o
+    pub has_same : order name other ≡ Equal → (met : Standing) → key_with other met ≡ key → (o : Ordering) → then_by (known_order standing.known met.known) (numbers standing.owner met.owner) ≡ o
         → is_same o ≡ label_has labels names (key_with name standing) x
     has_same f met t o g =
-        sym (has_key_lem (key_with name standing) ∙ ap is_same (by_name Same f
+        sym (has_key_lem (key_with name standing) ∙ ap is_same (by_name Equal f
         ∙ sym (ap (λ (k : UseKey). then_by (known_order standing.known k.standing.known) (numbers standing.owner k.standing.owner)) t) ∙ g))
 
   -- ---- how much longer an index is with it

@@ -3,7 +3,7 @@ use Prim.Native.Nat.{ℕ, zero, suc, ◌+◌, ◌≤◌, ◌<◌, ◌^◌}
 use Rattle.std.proofs.Common.{not-suc-le-zero, add-one, sym, ap₂, ◌∙◌, subst}
 use native.Mathlib.Omega.{arith}
 use mathlib.Core.List.{List, [], ◌∷◌}
-use Rattle.std.specs.Prelude.{◌≡◌, length, take, get_or}
+use Rattle.std.specs.Prelude.{◌≡◌, length, take, get_or, None, Option, Some}
 use Rattle.std.proofs.Math.Path.{refl, ap}
 use Rattle.record.specs.Bytes.{part}
 use Rattle.record.specs.Stores.{append}
@@ -13,8 +13,6 @@ use Rattle.address_label.specs.declared.AddressLabel.{AddressLabel}
 use Rattle.address_label.specs.declared.AddressLabel.TheVariants.{Constant, Label}
 use Rattle.pending.specs.declared.InstructionLabel.{InstructionLabel}
 use Rattle.emit_pairs.specs.declared.InstructionPair.{InstructionPair}
-use Rattle.emit_pairs.specs.declared.PairLabel.{PairLabel}
-use Rattle.emit_pairs.specs.declared.PairLabel.TheVariants.{Nothing, Some}
 use Rattle.label_uses.specs.Uses.{UseKey, Use, key_for, insert_use, use_of}
 use Rattle.label_uses.specs.UseBytes.{uses_bytes}
 use Rattle.label_uses.proofs.UseBytesLaws.{insert_length}
@@ -31,12 +29,12 @@ use Rattle.line_uses.proofs.HasLaws.{pair_grows, growth_alike, line_rises, line_
 
 module _ (labels names : List ℕ) where
   -- ---- one word more
-  module _ (d : InstructionPair) (w : PairLabel) where
+  module _ (d : InstructionPair) (w : Option InstructionLabel) where
     uses_suc : (n : ℕ) (ps : List InstructionPair) (i : ℕ) (us : List Use) → i < length ps → (get_or ps i d).label ≡ w
         → line_uses labels names n (take (suc i) ps) us ≡ pair_use labels names w (number_after n (take i ps)) (line_uses labels names n (take i ps) us)
     unfolding line_uses number_after
     uses_suc n [] i us h g = absurd (not-suc-le-zero h)
-    uses_suc n (p ∷ ps) zero us h g = ap (λ (x : PairLabel). pair_use labels names x n us) g
+    uses_suc n (p ∷ ps) zero us h g = ap (λ (x : Option InstructionLabel). pair_use labels names x n us) g
     uses_suc n (p ∷ ps) (suc i) us h g = uses_suc (next_number p.label n) ps i (pair_use labels names p.label n us) (omega arith) g
 
     pub uses_next : (n : ℕ) (ps : List InstructionPair) (i : ℕ) (us : List Use) → i < length ps → (get_or ps i d).label ≡ w
@@ -46,7 +44,7 @@ module _ (labels names : List ℕ) where
     number_suc : (n : ℕ) (ps : List InstructionPair) (i : ℕ) → i < length ps → (get_or ps i d).label ≡ w → number_after n (take (suc i) ps) ≡ next_number w (number_after n (take i ps))
     unfolding number_after
     number_suc n [] i h g = absurd (not-suc-le-zero h)
-    number_suc n (p ∷ ps) zero h g = ap (λ (x : PairLabel). next_number x n) g
+    number_suc n (p ∷ ps) zero h g = ap (λ (x : Option InstructionLabel). next_number x n) g
     number_suc n (p ∷ ps) (suc i) h g = number_suc (next_number p.label n) ps i (omega arith) g
 
     pub number_next : (n : ℕ) (ps : List InstructionPair) (i : ℕ) → i < length ps → (get_or ps i d).label ≡ w → number_after n (take (i + 1) ps) ≡ next_number w (number_after n (take i ps))
@@ -66,8 +64,8 @@ module _ (labels names : List ℕ) where
   label_least (Constant value) n us = omega arith
   label_least (Label l) n us = omega (arith, (insert_length (key_for labels l.location.source (part names l.name_at l.name_len)) n us).least)
 
-  pub pair_least : (w : PairLabel) (n : ℕ) (us : List Use) → length (uses_bytes us) ≤ length (uses_bytes (pair_use labels names w n us))
-  pair_least Nothing n us = omega arith
+  pub pair_least : (w : Option InstructionLabel) (n : ℕ) (us : List Use) → length (uses_bytes us) ≤ length (uses_bytes (pair_use labels names w n us))
+  pair_least None n us = omega arith
   pair_least (Some w) n us = label_least w.label n us
 
   line_least : (n : ℕ) (ps : List InstructionPair) (us : List Use) → length (uses_bytes us) ≤ length (uses_bytes (line_uses labels names n ps us))
@@ -85,8 +83,8 @@ module _ (labels names : List ℕ) where
   lines_within n (p ∷ ps) (suc i) (suc k) us h = lines_within (next_number p.label n) ps i k (pair_use labels names p.label n us) (omega arith)
 
   -- ---- the numbers
-  pub next_most : (w : PairLabel) (n : ℕ) → next_number w n ≤ n + 1
-  next_most Nothing n = omega arith
+  pub next_most : (w : Option InstructionLabel) (n : ℕ) → next_number w n ≤ n + 1
+  next_most None n = omega arith
   next_most (Some w) n = omega arith
 
   pub number_most : (n : ℕ) (ps : List InstructionPair) (i : ℕ) → number_after n (take i ps) ≤ n + i
@@ -109,7 +107,7 @@ module _ (labels names : List ℕ) where
     abbrev vs : List Use
     vs = line_uses labels names first (take i ps) us
 
-    module _ (p : InstructionPair) (w : PairLabel) (h : i < length ps) (g : (get_or ps i p).label ≡ w) where
+    module _ (p : InstructionPair) (w : Option InstructionLabel) (h : i < length ps) (g : (get_or ps i p).label ≡ w) where
       -- room for all is room for the next
       pub line_room : (k : ℕ) → i + 1 ≤ k → length (uses_bytes (line_uses labels names first (take k ps) us)) ≤ length d → RoomForPair labels names d filled w n
       line_room k m r = record {
@@ -171,11 +169,11 @@ named_owners labels names x l e name standing m k n us h o =
     (owners_insert (key_in labels names l) n us (subst (λ (y : UseKey). y.standing.owner < 2 ^ 32) q h) o)
 
 -- ---- what a word waits for
-module _ (labels names : List ℕ) (w : PairLabel) where
-  pub nothing_adds : w ≡ Nothing → (d : List ℕ) (fill n : ℕ) → AddsPairTo labels names d d fill w n fill
+module _ (labels names : List ℕ) (w : Option InstructionLabel) where
+  pub nothing_adds : w ≡ None → (d : List ℕ) (fill n : ℕ) → AddsPairTo labels names d d fill w n fill
   nothing_adds e d fill n us i =
       let h = held_is d fill us i in
-      let u : us ≡ pair_use labels names w n us = sym (ap (λ (y : PairLabel). pair_use labels names y n us) e) in
+      let u : us ≡ pair_use labels names w n us = sym (ap (λ (y : Option InstructionLabel). pair_use labels names y n us) e) in
       record {
         bytes = h.0 ∙ ap (λ (y : List Use). append d 0 (uses_bytes y)) u;
         filled = h.1 ∙ ap (λ (y : List Use). length (uses_bytes y)) u;
@@ -184,7 +182,7 @@ module _ (labels names : List ℕ) (w : PairLabel) where
 
   module _ (waits : InstructionLabel) (e : w ≡ Some waits) where
     use_is : (n : ℕ) (us : List Use) → use_of labels names waits.label n us ≡ pair_use labels names w n us
-    use_is n us = sym (ap (λ (y : PairLabel). pair_use labels names y n us) e)
+    use_is n us = sym (ap (λ (y : Option InstructionLabel). pair_use labels names y n us) e)
 
     pub some_room : (d : List ℕ) (fill n : ℕ) → RoomForPair labels names d fill w n → RoomForOne d labels names fill waits.label n
     some_room d fill n r = record { us = r.us; index_in = r.index_in; room = omega (arith, r.room, ap (λ (y : List Use). length (uses_bytes y)) (use_is n r.us)) }

@@ -1,15 +1,15 @@
 -- An index that a buffer holds, and the same with the uses of a line's pendings. Assumes nothing.
-use Rattle.std.specs.Prelude.{ℕ, ◌≤◌, ◌<◌, ◌^◌, Bool, ◌||◌, ◌≡◌, length}
+use Rattle.std.specs.Prelude.{ℕ, ◌≤◌, ◌<◌, ◌^◌, Bool, ◌||◌, ◌≡◌, length, Option}
 use mathlib.Core.List.{List, Memᴰ}
 use Rattle.record.specs.Stores.{append}
 use Rattle.address_label.specs.declared.AddressLabel.{AddressLabel}
 use Rattle.emit_pairs.specs.declared.InstructionPair.{InstructionPair}
-use Rattle.emit_pairs.specs.declared.PairLabel.{PairLabel}
 use Rattle.label_uses.specs.Uses.{UseKey, Use, use_of}
 use Rattle.label_uses.specs.UseBytes.{uses_bytes}
 use Rattle.label_uses.specs.Says.{KeysRise}
 use Rattle.use_adding.specs.Adding.{IndexIn}
 use Rattle.line_uses.specs.LineUses.{pair_use, line_uses, has_key, key_among, label_growth, pair_growth}
+use Rattle.pending.specs.declared.InstructionLabel.{InstructionLabel}
 
 -- keys of uses that a buffer holds, or of words before
 abbrev pub held_by : (labels names : List ℕ) → List Use → List InstructionPair → UseKey → Bool
@@ -19,7 +19,7 @@ held_by labels names us before key = has_key key us || key_among labels names ke
 abbrev pub LabelGrows : (labels names d : List ℕ) (fill : ℕ) → List InstructionPair → AddressLabel → (size : ℕ) → Type 0
 LabelGrows labels names d fill before x size = (us : List Use) → IndexIn d fill us → KeysRise us → size ≡ label_growth labels names (held_by labels names us before) x
 
-abbrev pub PairGrows : (labels names d : List ℕ) (fill : ℕ) → List InstructionPair → PairLabel → (size : ℕ) → Type 0
+abbrev pub PairGrows : (labels names d : List ℕ) (fill : ℕ) → List InstructionPair → Option InstructionLabel → (size : ℕ) → Type 0
 PairGrows labels names d fill before waits size = (us : List Use) → IndexIn d fill us → KeysRise us → size ≡ pair_growth labels names (held_by labels names us before) waits
 
 -- how long it is with all of a line's uses, whichever number the first is
@@ -40,17 +40,17 @@ abbrev pub AddsLabelTo : (labels names d e : List ℕ) (fill : ℕ) (x : Address
 AddsLabelTo labels names d e fill x n after = (us : List Use) → IndexIn d fill us → AddsLabel labels names d e x n after us
 
 -- an index with room for the use of what a word waits for, and the index with it
-pub record RoomForPair (labels names d : List ℕ) (fill : ℕ) (waits : PairLabel) (n : ℕ) : Type 0 where
+pub record RoomForPair (labels names d : List ℕ) (fill : ℕ) (waits : Option InstructionLabel) (n : ℕ) : Type 0 where
   pub us : List Use
   pub index_in : IndexIn d fill us
   pub room : length (uses_bytes (pair_use labels names waits n us)) ≤ length d
 
-pub record AddsPair (labels names d e : List ℕ) (waits : PairLabel) (n fill : ℕ) (us : List Use) : Type 0 where
+pub record AddsPair (labels names d e : List ℕ) (waits : Option InstructionLabel) (n fill : ℕ) (us : List Use) : Type 0 where
   pub bytes : e ≡ append d 0 (uses_bytes (pair_use labels names waits n us))
   pub filled : fill ≡ length (uses_bytes (pair_use labels names waits n us))
   pub owners : OwnersFit (pair_use labels names waits n us)
 
-abbrev pub AddsPairTo : (labels names d e : List ℕ) (fill : ℕ) (waits : PairLabel) (n after : ℕ) → Type 0
+abbrev pub AddsPairTo : (labels names d e : List ℕ) (fill : ℕ) (waits : Option InstructionLabel) (n after : ℕ) → Type 0
 AddsPairTo labels names d e fill waits n after = (us : List Use) → IndexIn d fill us → AddsPair labels names d e waits n after us
 
 -- the same of a line

@@ -1,25 +1,24 @@
 -- The uses of a line's pendings, one after the other: "Each emitted line updates the index" (document 02, P1). Assumes nothing.
-use Rattle.std.specs.Prelude.{ℕ, ◌+◌, List, [], ◌∷◌, Bool, true, false, ◌||◌, length}
+use Rattle.std.specs.Prelude.{ℕ, ◌+◌, List, [], ◌∷◌, Bool, true, false, ◌||◌, length, None, Option, Some}
 use Rattle.record.specs.Bytes.{part}
-use Rattle.name_order.specs.declared.Ordered.{Ordered}
-use Rattle.name_order.specs.declared.Ordered.TheVariants.{Less, Same, More}
 use Rattle.address_label.specs.declared.AddressLabel.{AddressLabel}
 use Rattle.address_label.specs.declared.AddressLabel.TheVariants.{Constant, Label}
 use Rattle.emit_pairs.specs.declared.InstructionPair.{InstructionPair}
-use Rattle.emit_pairs.specs.declared.PairLabel.{PairLabel}
-use Rattle.emit_pairs.specs.declared.PairLabel.TheVariants.{Nothing, Some}
 use Rattle.label_uses.specs.Uses.{UseKey, Use, use_order, key_for, use_of}
+use Rattle.std.specs.declared.cmp.Ordering.TheVariants.{Less, Equal, Greater}
+use Rattle.std.specs.declared.cmp.Ordering.{Ordering}
+use Rattle.pending.specs.declared.InstructionLabel.{InstructionLabel}
 
 -- ---- the uses then
 
 -- the use of what a word waits for, if its pending is number n; names stand in the token list
-abbrev pub pair_use : (labels names : List ℕ) → PairLabel → ℕ → List Use → List Use
-pair_use labels names Nothing n us = us
+abbrev pub pair_use : (labels names : List ℕ) → Option InstructionLabel → ℕ → List Use → List Use
+pair_use labels names None n us = us
 pair_use labels names (Some waits) n us = use_of labels names waits.label n us
 
 -- and the number of the next pending
-abbrev pub next_number : PairLabel → ℕ → ℕ
-next_number Nothing n = n
+abbrev pub next_number : Option InstructionLabel → ℕ → ℕ
+next_number None n = n
 next_number (Some waits) n = n + 1
 
 unfoldable pub line_uses : (labels names : List ℕ) → ℕ → List InstructionPair → List Use → List Use
@@ -32,10 +31,10 @@ number_after n (p ∷ ps) = number_after (next_number p.label n) ps
 
 -- ---- which keys are there
 
-abbrev pub is_same : Ordered → Bool
+abbrev pub is_same : Ordering → Bool
 is_same Less = false
-is_same Same = true
-is_same More = false
+is_same Equal = true
+is_same Greater = false
 
 abbrev pub same_key : UseKey → UseKey → Bool
 same_key a b = is_same (use_order a b)
@@ -48,8 +47,8 @@ abbrev pub label_has : (labels names : List ℕ) → UseKey → AddressLabel →
 label_has labels names key (Constant value) = false
 label_has labels names key (Label l) = same_key key (key_for labels l.location.source (part names l.name_at l.name_len))
 
-abbrev pub pair_has : (labels names : List ℕ) → UseKey → PairLabel → Bool
-pair_has labels names key Nothing = false
+abbrev pub pair_has : (labels names : List ℕ) → UseKey → Option InstructionLabel → Bool
+pair_has labels names key None = false
 pair_has labels names key (Some waits) = label_has labels names key waits.label
 
 unfoldable pub key_among : (labels names : List ℕ) → UseKey → List InstructionPair → Bool
@@ -67,6 +66,6 @@ label_growth labels names held (Label l) =
     let key = key_for labels l.location.source (part names l.name_at l.name_len) in
     growth_of (held key) key.name
 
-abbrev pub pair_growth : (labels names : List ℕ) → (UseKey → Bool) → PairLabel → ℕ
-pair_growth labels names held Nothing = 0
+abbrev pub pair_growth : (labels names : List ℕ) → (UseKey → Bool) → Option InstructionLabel → ℕ
+pair_growth labels names held None = 0
 pair_growth labels names held (Some waits) = label_growth labels names held waits.label

@@ -13,28 +13,27 @@ ghost use Rattle.line_uses.specs.LineUses.{next_number, label_has, pair_has, key
 ghost use Rattle.line_uses.specs.LineIndex.{LabelGrows, PairGrows, SizeWithLine, AddsLabelTo, RoomForPair, AddsPairTo, RoomForLine, AddsLineTo};
 
 use address_label::AddressLabel;
-use emit_pairs::{EmitInstruction, PairLabel};
+use emit_pairs::EmitInstruction;
 use label_uses::Standing;
-use name_order::Ordered;
-use names::Named;
-use record::Layout;
+use std::cmp::Ordering;
+use pending::InstructionLabel;
 
 // What a name of a source stands for, by a scan of the labels.
 fn standing_by(labels: &[u8], source: u32, name: &[u8]) -> Standing
-    requires { first_bad (has_owned_name 4 labels.now) (places labels.now) ≡ Layout.Good }
+    requires { first_bad (has_owned_name 4 labels.now) (places labels.now) ≡ None }
     ensures { (key_with name.now result ≡ key_for labels.now source name.now) × (result.owner < 2 ^ 32) }
 {
     match names::find_named(labels, 4, source, name) {
-        Named::At(_) => Standing {
+        Some(_) => Standing {
             known: true,
             owner: source,
         },
-        Named::Missing => match names::find_named(labels, 4, names::FOR_ALL, name) {
-            Named::At(_) => Standing {
+        None => match names::find_named(labels, 4, names::FOR_ALL, name) {
+            Some(_) => Standing {
                 known: true,
                 owner: names::FOR_ALL,
             },
-            Named::Missing => Standing {
+            None => Standing {
                 known: false,
                 owner: source,
             },
@@ -50,7 +49,7 @@ fn label_has(
     name: &[u8],
     standing: Standing,
 ) -> bool
-    requires { first_bad (has_owned_name 4 labels.now) (places labels.now) ≡ Layout.Good }
+    requires { first_bad (has_owned_name 4 labels.now) (places labels.now) ≡ None }
     ensures { result ≡ label_has labels.now tokens.now (key_with name.now standing) label }
 {
     match label {
@@ -59,14 +58,14 @@ fn label_has(
             let location = l.location;
             let other = address_label::name_of(tokens, label);
             match name_order::compare(name, other) {
-                Ordered::Less => false,
-                Ordered::More => false,
-                Ordered::Same => {
+                Ordering::Less => false,
+                Ordering::Greater => false,
+                Ordering::Equal => {
                     let met = standing_by(labels, location.source, other);
                     match use_adding::order_standing(standing, met.known, met.owner) {
-                        Ordered::Less => false,
-                        Ordered::More => false,
-                        Ordered::Same => true,
+                        Ordering::Less => false,
+                        Ordering::Greater => false,
+                        Ordering::Equal => true,
                     }
                 }
             }
@@ -75,13 +74,13 @@ fn label_has(
 }
 
 // Whether what a word waits for is a name with that key.
-fn pair_has(tokens: &[u8], labels: &[u8], waits: PairLabel, name: &[u8], standing: Standing) -> bool
-    requires { first_bad (has_owned_name 4 labels.now) (places labels.now) ≡ Layout.Good }
+fn pair_has(tokens: &[u8], labels: &[u8], waits: Option<InstructionLabel>, name: &[u8], standing: Standing) -> bool
+    requires { first_bad (has_owned_name 4 labels.now) (places labels.now) ≡ None }
     ensures { result ≡ pair_has labels.now tokens.now (key_with name.now standing) waits }
 {
     match waits {
-        PairLabel::Nothing => false,
-        PairLabel::Some(x) => {
+        None => false,
+        Some(x) => {
             let label = x.label;
             label_has(tokens, labels, label, name, standing)
         }
@@ -97,7 +96,7 @@ fn among(
     name: &[u8],
     standing: Standing,
 ) -> bool
-    requires { (i ≤ 5) × (first_bad (has_owned_name 4 labels.now) (places labels.now) ≡ Layout.Good) }
+    requires { (i ≤ 5) × (first_bad (has_owned_name 4 labels.now) (places labels.now) ≡ None) }
     ensures { result ≡ key_among labels.now tokens.now (key_with name.now standing) (take i e.instructions) }
 {
     let pairs = e.instructions;
@@ -124,7 +123,7 @@ fn label_growth(
     label: AddressLabel,
 ) -> usize
     requires an_index { AnIndex index.now fill }
-    requires i_bound { (i ≤ 5) × (length tokens.now ≤ limit) × (first_bad (has_owned_name 4 labels.now) (places labels.now) ≡ Layout.Good) }
+    requires i_bound { (i ≤ 5) × (length tokens.now ≤ limit) × (first_bad (has_owned_name 4 labels.now) (places labels.now) ≡ None) }
     ensures { (result ≤ 65549) × LabelGrows labels.now tokens.now index.now fill (take i e.instructions) label result }
 {
     match label {
@@ -153,15 +152,15 @@ fn pair_growth(
     labels: &[u8],
     e: EmitInstruction,
     i: usize,
-    waits: PairLabel,
+    waits: Option<InstructionLabel>,
 ) -> usize
     requires an_index { AnIndex index.now fill }
-    requires i_bound { (i ≤ 5) × (length tokens.now ≤ limit) × (first_bad (has_owned_name 4 labels.now) (places labels.now) ≡ Layout.Good) }
+    requires i_bound { (i ≤ 5) × (length tokens.now ≤ limit) × (first_bad (has_owned_name 4 labels.now) (places labels.now) ≡ None) }
     ensures { (result ≤ 65549) × PairGrows labels.now tokens.now index.now fill (take i e.instructions) waits result }
 {
     match waits {
-        PairLabel::Nothing => 0,
-        PairLabel::Some(x) => {
+        None => 0,
+        Some(x) => {
             let label = x.label;
             label_growth(index, fill, tokens, labels, e, i, label)
         }
@@ -177,7 +176,7 @@ pub fn size_with_line(
     e: EmitInstruction,
 ) -> usize
     requires an_index { AnIndex index.now fill }
-    requires count_bound { (e.count ≤ 5) × (length tokens.now ≤ limit) × (first_bad (has_owned_name 4 labels.now) (places labels.now) ≡ Layout.Good) }
+    requires count_bound { (e.count ≤ 5) × (length tokens.now ≤ limit) × (first_bad (has_owned_name 4 labels.now) (places labels.now) ≡ None) }
     ensures { SizeWithLine labels.now tokens.now index.now fill (take e.count e.instructions) result }
 {
     let pairs = e.instructions;
@@ -202,7 +201,7 @@ fn add_label(
     labels: &[u8],
     label: AddressLabel,
 ) -> usize
-    requires labels_value { first_bad (has_owned_name 4 labels.now) (places labels.now) ≡ Layout.Good }
+    requires labels_value { first_bad (has_owned_name 4 labels.now) (places labels.now) ≡ None }
     requires room_for_one { RoomForOne index.old labels.now tokens.now fill label n }
     ensures { AddsLabelTo labels.now tokens.now index.old index.new fill label n result }
 {
@@ -224,15 +223,15 @@ fn add_pair(
     n: u16,
     tokens: &[u8],
     labels: &[u8],
-    waits: PairLabel,
+    waits: Option<InstructionLabel>,
 ) -> usize
-    requires labels_value { first_bad (has_owned_name 4 labels.now) (places labels.now) ≡ Layout.Good }
+    requires labels_value { first_bad (has_owned_name 4 labels.now) (places labels.now) ≡ None }
     requires room_for_pair { RoomForPair labels.now tokens.now index.old fill waits n }
     ensures { AddsPairTo labels.now tokens.now index.old index.new fill waits n result }
 {
     match waits {
-        PairLabel::Nothing => fill,
-        PairLabel::Some(x) => {
+        None => fill,
+        Some(x) => {
             let label = x.label;
             add_label(&mut *index, fill, n, tokens, labels, label)
         }
@@ -248,7 +247,7 @@ pub fn add_line(
     labels: &[u8],
     e: EmitInstruction,
 ) -> usize
-    requires labels_value { first_bad (has_owned_name 4 labels.now) (places labels.now) ≡ Layout.Good }
+    requires labels_value { first_bad (has_owned_name 4 labels.now) (places labels.now) ≡ None }
     requires count_bound { (e.count ≤ 5) × (first ≤ 60000) × RoomForLine labels.now tokens.now index.old fill (take e.count e.instructions) first }
     ensures { AddsLineTo labels.now tokens.now index.old index.new fill (take e.count e.instructions) first result }
 {
@@ -268,19 +267,19 @@ pub fn add_line(
 }
 
 // The number of the pending behind that of a word, if the word has one.
-fn next_number(n: u16, waits: PairLabel) -> u16
+fn next_number(n: u16, waits: Option<InstructionLabel>) -> u16
     requires { n ≤ 60005 }
     ensures { result ≡ next_number waits n }
 {
     match waits {
-        PairLabel::Nothing => n,
-        PairLabel::Some(_) => n + 1,
+        None => n,
+        Some(_) => n + 1,
     }
 }
 
 // How many pendings a list has.
 pub fn count_pendings(pending: &[u8]) -> u16
-    requires { (first_bad (pending_ok 16 pending.now) (places pending.now) ≡ Layout.Good) × (length pending.now ≤ limit) }
+    requires { (first_bad (pending_ok 16 pending.now) (places pending.now) ≡ None) × (length pending.now ≤ limit) }
     ensures { (result ≡ length (places pending.now)) × (result ≤ 1820) }
 {
     let mut at: usize = 0;

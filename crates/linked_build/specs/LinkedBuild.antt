@@ -1,16 +1,16 @@
 -- What the linked call for a build gives back and leaves in its lent buffers. Assumes nothing.
-use Rattle.std.specs.Prelude.{ℕ, List, true, false, length, leb}
+use Rattle.std.specs.Prelude.{ℕ, List, true, false, length, leb, Result}
 use Rattle.jobs.specs.declared.Job.{Job}
 use Rattle.jobs.specs.declared.Job.TheVariants.{Commit}
 use Rattle.record.specs.Stores.{append}
 use Rattle.linked_answer.specs.Words.{answer_bytes, too_short, answer_words, number_of, words_as_bytes}
 use Rattle.labels.specs.Labels.{table_of}
-use Rattle.build_outcome.specs.declared.Built.{Built}
 use Rattle.build_outcome.specs.Build.{BuildOutcome, build_outcome}
 use Rattle.build_outcome.specs.Returned.{returned}
+use Rattle.refusal.specs.declared.Refusal.{Refusal}
 
 -- "its number, a location and numbers a and b", and the entry as the last word
-abbrev pub built_words : Built → List ℕ
+abbrev pub built_words : Result ℕ Refusal → List ℕ
 built_words built = let r = returned built in answer_words r.number r.location r.a r.b r.entry
 
 pub record LinkedBuild : Type 0 where

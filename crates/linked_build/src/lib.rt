@@ -4,17 +4,17 @@
 ghost use Rattle.std.specs.Prelude.{◌≡◌};
 ghost use Rattle.linked_build.specs.LinkedBuild.{built_words, linked_build_by};
 
-use build_outcome::Built;
 use jobs::Job;
 use linked_answer::{ANSWER_BYTES, TOO_SHORT};
+use refusal::Refusal;
 
 // A refused build has no entry.
-fn built_words(built: Built) -> [u32; 6]
+fn built_words(built: Result<u32, Refusal>) -> [u32; 6]
     ensures { result ≡ built_words built }
 {
     match built {
-        Built::Entry(address) => linked_answer::done_words(0, address),
-        Built::Refused(refusal) => linked_answer::refusal_words(refusal, 0),
+        Ok(address) => linked_answer::done_words(0, address),
+        Err(refusal) => linked_answer::refusal_words(refusal, 0),
     }
 }
 

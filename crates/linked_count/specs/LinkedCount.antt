@@ -1,17 +1,16 @@
 -- What the linked call for the counts of a range gives back and leaves in its lent buffers. Assumes nothing.
-use Rattle.std.specs.Prelude.{ℕ, List, ◌++◌, true, false, ◌&&◌, pos, length, leb}
+use Rattle.std.specs.Prelude.{ℕ, List, ◌++◌, true, false, ◌&&◌, pos, length, leb, Err, Ok, Result}
 use Rattle.record.specs.Stores.{append, le64_bytes}
 use Rattle.refusal.specs.Numbers.{zero_location, numbered}
 use Rattle.linked_answer.specs.Words.{answer_bytes, too_short, answer_words, number_of, words_as_bytes}
 use Rattle.form_counts.specs.declared.FormCounts.{FormCounts}
-use Rattle.form_counts.specs.declared.CountAnswer.{CountAnswer}
-use Rattle.form_counts.specs.declared.CountAnswer.TheVariants.{Counted, Refused}
 use Rattle.form_counts.specs.FormCounts.{count_forms}
+use Rattle.refusal.specs.declared.Refusal.{Refusal}
 
 -- the counts themselves go into their own buffer, and the last word is 0
-abbrev pub counted_words : CountAnswer → List ℕ
-counted_words (Counted c) = answer_words 0 zero_location (pos 0) 0 0
-counted_words (Refused r) = let n = numbered r in answer_words n.number n.location n.a n.b 0
+abbrev pub counted_words : Result FormCounts Refusal → List ℕ
+counted_words (Ok c) = answer_words 0 zero_location (pos 0) 0 0
+counted_words (Err r) = let n = numbered r in answer_words n.number n.location n.a n.b 0
 
 -- four numbers of eight bytes
 abbrev pub form_count_bytes : ℕ
@@ -21,16 +20,16 @@ abbrev pub form_counts : FormCounts → List ℕ
 form_counts c = le64_bytes c.addiu ++ le64_bytes c.ori ++ le64_bytes c.lui ++ le64_bytes c.both
 
 -- a refused range leaves their bytes
-abbrev pub form_counts_after : CountAnswer → List ℕ → List ℕ
-form_counts_after (Counted c) counts = append counts 0 (form_counts c)
-form_counts_after (Refused r) counts = counts
+abbrev pub form_counts_after : Result FormCounts Refusal → List ℕ → List ℕ
+form_counts_after (Ok c) counts = append counts 0 (form_counts c)
+form_counts_after (Err r) counts = counts
 
 pub record LinkedCount : Type 0 where
   pub result : ℕ
   pub counts : List ℕ
   pub answer : List ℕ
 
-abbrev pub count_answered : CountAnswer → (counts answer : List ℕ) → LinkedCount
+abbrev pub count_answered : Result FormCounts Refusal → (counts answer : List ℕ) → LinkedCount
 count_answered given counts answer =
     let words = counted_words given in
     record { result = number_of words; counts = form_counts_after given counts; answer = append answer 0 (words_as_bytes words) }

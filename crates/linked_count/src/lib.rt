@@ -5,19 +5,20 @@ ghost use Rattle.std.specs.Prelude.{◌≡◌, ◌≤◌, length};
 ghost use Rattle.record.specs.Stores.{append};
 ghost use Rattle.linked_count.specs.LinkedCount.{counted_words, form_count_bytes, form_counts, form_counts_after, linked_count};
 
-use form_counts::{CountAnswer, FormCounts};
+use form_counts::FormCounts;
 use linked_answer::{ANSWER_BYTES, TOO_SHORT};
+use refusal::Refusal;
 
 // How many constants load by addiu, by ori, by lui and by both halves, each eight bytes.
 const FORM_COUNT_BYTES: usize = 32;
 
 // A range's counts are not among the words.
-fn counted_words(answer: CountAnswer) -> [u32; 6]
+fn counted_words(answer: Result<FormCounts, Refusal>) -> [u32; 6]
     ensures { result ≡ counted_words answer }
 {
     match answer {
-        CountAnswer::Counted(_) => linked_answer::done_words(0, 0),
-        CountAnswer::Refused(refusal) => linked_answer::refusal_words(refusal, 0),
+        Ok(_) => linked_answer::done_words(0, 0),
+        Err(refusal) => linked_answer::refusal_words(refusal, 0),
     }
 }
 
@@ -32,13 +33,13 @@ fn store_form_counts(counts: &mut [u8], counted: FormCounts)
 }
 
 // The counts of a range; a refused one leaves what stands there.
-fn put_form_counts(counts: &mut [u8], answer: CountAnswer)
+fn put_form_counts(counts: &mut [u8], answer: Result<FormCounts, Refusal>)
     requires { form_count_bytes ≤ length counts.old }
     ensures { counts.new ≡ form_counts_after answer counts.old }
 {
     match answer {
-        CountAnswer::Counted(counted) => store_form_counts(counts, counted),
-        CountAnswer::Refused(_) => {}
+        Ok(counted) => store_form_counts(counts, counted),
+        Err(_) => {}
     }
 }
 

@@ -1,5 +1,5 @@
 -- Laws of the linked calls that keep an index: what is not answerable, and an answered call. Assumes nothing.
-use Rattle.std.specs.Prelude.{ℕ, ◌≤◌, ◌<◌, ◌≡◌, List, false, length}
+use Rattle.std.specs.Prelude.{ℕ, ◌≤◌, ◌<◌, ◌≡◌, List, false, length, Result}
 use Rattle.std.proofs.Common.{sym, ap, ap₂, ◌∙◌}
 use borrow.Author.Tests.{le-leb, lt-leb}
 use Rattle.jobs.specs.declared.Job.{Job}
@@ -9,11 +9,11 @@ use Rattle.linked_line.specs.LineWords.{emitted_words}
 use Rattle.emit_outcome.specs.declared.EmitAnswer.{EmitAnswer}
 use Rattle.emit_outcome.specs.declared.LinePlace.{LinePlace}
 use Rattle.emit_outcome.specs.Call.{Lent, call_of}
-use Rattle.indexed_outcome.specs.declared.IndexAnswer.{IndexAnswer}
 use Rattle.indexed_outcome.specs.declared.IndexedCounts.{IndexedCounts}
 use Rattle.indexed_outcome.specs.Indexed.{IndexedOutcome, indexed_call_of, indexed_outcome, indexed_outcome_of}
 use Rattle.indexed_outcome.specs.Make.{make_outcome, made_of}
 use Rattle.linked_index.specs.LinkedIndex.{indexed_counts_bytes, indexed_counts_at, indexed_counts_after, last_job, job_numbered, indexed_answered, answerable, linked_indexed, made_words, linked_make}
+use Rattle.refusal.specs.declared.Refusal.{Refusal}
 
 -- ---- a line
 module _ (token_list mnemonic descriptors : List ℕ) (lent : Lent) (labels index counts : List ℕ) (place : LinePlace) (job : ℕ) (answer : List ℕ) where
@@ -44,7 +44,7 @@ module _ (pending : List ℕ) (fill : ℕ) (labels index answer : List ℕ) wher
   unfolding linked_make
   make_short h = rw (lt-leb answer_bytes (length answer) h, linked_make)
 
-  pub make_answered_lem : {given : IndexAnswer} {words index' answer' : List ℕ} → answer_bytes ≤ length answer
+  pub make_answered_lem : {given : (Result ℕ Refusal)} {words index' answer' : List ℕ} → answer_bytes ≤ length answer
       → make_outcome fill pending labels index ≡ made_of given index' → words ≡ made_words given → answer' ≡ append answer 0 (words_as_bytes words)
       → linked_make pending fill labels index answer ≡ (record { result = number_of words; index = index'; answer = answer' })
   unfolding linked_make

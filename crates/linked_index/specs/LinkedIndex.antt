@@ -1,5 +1,5 @@
 -- What the linked calls that keep an index give back and leave in their lent buffers. Assumes nothing.
-use Rattle.std.specs.Prelude.{ℕ, List, [], ◌∷◌, Bool, true, false, ◌&&◌, pos, length, get_or, leb}
+use Rattle.std.specs.Prelude.{ℕ, List, [], ◌∷◌, Bool, true, false, ◌&&◌, pos, length, get_or, leb, Err, Ok, Result}
 use Rattle.jobs.specs.declared.Job.{Job}
 use Rattle.jobs.specs.declared.Job.TheVariants.{Commit, Manual, Release6}
 use Rattle.record.specs.Bytes.{le32}
@@ -11,11 +11,10 @@ use Rattle.emit_outcome.specs.declared.EmitAnswer.{EmitAnswer}
 use Rattle.emit_outcome.specs.declared.EmitAnswer.TheVariants.{Done, Refused as LineRefused}
 use Rattle.emit_outcome.specs.declared.LinePlace.{LinePlace}
 use Rattle.emit_outcome.specs.Call.{Lent, call_of}
-use Rattle.indexed_outcome.specs.declared.IndexAnswer.{IndexAnswer}
-use Rattle.indexed_outcome.specs.declared.IndexAnswer.TheVariants.{Made, Refused}
 use Rattle.indexed_outcome.specs.declared.IndexedCounts.{IndexedCounts}
 use Rattle.indexed_outcome.specs.Indexed.{IndexedOutcome, indexed_call_of, indexed_outcome}
 use Rattle.indexed_outcome.specs.Make.{MakeOutcome, make_outcome}
+use Rattle.refusal.specs.declared.Refusal.{Refusal}
 
 -- ---- a line
 -- "the index with a fourth fill count", behind the three of every line
@@ -73,9 +72,9 @@ linked_indexed token_list mnemonic descriptors lent labels index counts place jo
 -- ---- an index made afresh
 -- it has number 0 and its fill count as the last word (docs/DECISIONS.md); a refusal has, as a refused build has, "its number, a
 -- location and numbers a and b", and the last word 0
-abbrev pub made_words : IndexAnswer → List ℕ
-made_words (Made fill) = answer_words 0 zero_location (pos 0) 0 fill
-made_words (Refused r) = let n = numbered r in answer_words n.number n.location n.a n.b 0
+abbrev pub made_words : Result ℕ Refusal → List ℕ
+made_words (Ok fill) = answer_words 0 zero_location (pos 0) 0 fill
+made_words (Err r) = let n = numbered r in answer_words n.number n.location n.a n.b 0
 
 pub record LinkedMake : Type 0 where
   pub result : ℕ

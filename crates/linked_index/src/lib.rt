@@ -7,9 +7,10 @@ ghost use Rattle.emit_outcome.specs.Call.{lent_of};
 ghost use Rattle.linked_index.specs.LinkedIndex.{indexed_counts_bytes, indexed_counts_at, indexed_counts_after, job_numbered, linked_indexed, made_words, linked_make};
 
 use emit_outcome::{EmitAnswer, FillCounts, LinePlace};
-use indexed_outcome::{IndexAnswer, IndexedCounts};
+use indexed_outcome::IndexedCounts;
 use jobs::Job;
 use linked_answer::{ANSWER_BYTES, TOO_SHORT};
+use refusal::Refusal;
 
 // The fill counts of the region data, the pending, the breakpoint and the index buffer, each four bytes.
 const COUNTS_BYTES: usize = 16;
@@ -125,12 +126,12 @@ pub fn do_indexed(
 }
 
 // A refused index has no fill.
-fn made_words(answer: IndexAnswer) -> [u32; 6]
+fn made_words(answer: Result<u32, Refusal>) -> [u32; 6]
     ensures { result ≡ made_words answer }
 {
     match answer {
-        IndexAnswer::Made(fill) => linked_answer::done_words(0, fill),
-        IndexAnswer::Refused(refusal) => linked_answer::refusal_words(refusal, 0),
+        Ok(fill) => linked_answer::done_words(0, fill),
+        Err(refusal) => linked_answer::refusal_words(refusal, 0),
     }
 }
 

@@ -4,9 +4,9 @@
 ghost use Rattle.std.specs.Prelude.{◌≡◌};
 ghost use Rattle.linked_label.specs.LinkedLabel.{found_words, find_words, linked_find};
 
-use label_finder::FindAnswer;
-use labels::{Address, Found};
+use labels::Found;
 use linked_answer::{ANSWER_BYTES, TOO_SHORT};
+use refusal::Refusal;
 
 // Whether there is a label, how many names were compared, and its address.
 fn found_words(found: Found) -> [u32; 6]
@@ -14,17 +14,17 @@ fn found_words(found: Found) -> [u32; 6]
 {
     let address = found.address;
     match address {
-        Address::Known(value) => [0, 0, 0, 1, found.compared, value],
-        Address::Unknown => [0, 0, 0, 0, found.compared, 0],
+        Some(value) => [0, 0, 0, 1, found.compared, value],
+        None => [0, 0, 0, 0, found.compared, 0],
     }
 }
 
-fn find_words(answer: FindAnswer) -> [u32; 6]
+fn find_words(answer: Result<Found, Refusal>) -> [u32; 6]
     ensures { result ≡ find_words answer }
 {
     match answer {
-        FindAnswer::Found(found) => found_words(found),
-        FindAnswer::Refused(refusal) => linked_answer::refusal_words(refusal, 0),
+        Ok(found) => found_words(found),
+        Err(refusal) => linked_answer::refusal_words(refusal, 0),
     }
 }
 

@@ -1,17 +1,16 @@
 -- What the linked call for macros gives back and leaves in its lent buffers. Assumes nothing.
-use Rattle.std.specs.Prelude.{ℕ, List, true, false, pos, length, leb}
+use Rattle.std.specs.Prelude.{ℕ, List, true, false, pos, length, leb, Err, Ok, Result}
 use Rattle.record.specs.Stores.{append}
 use Rattle.refusal.specs.Numbers.{zero_location, numbered}
 use Rattle.linked_answer.specs.Words.{answer_bytes, too_short, answer_words, number_of, words_as_bytes}
-use Rattle.written_out.specs.declared.WriteOutAnswer.{WriteOutAnswer}
-use Rattle.written_out.specs.declared.WriteOutAnswer.TheVariants.{Written, Refused}
 use Rattle.written_out.specs.Outcome.{WriteOutOutcome, write_out_outcome}
+use Rattle.refusal.specs.declared.Refusal.{Refusal}
 
 -- a list that was written out has number 0 and its fill as the last word (docs/DECISIONS.md); a refusal has "its number, a location and
 -- numbers a and b", and the last word 0
-abbrev pub written_words : WriteOutAnswer → List ℕ
-written_words (Written fill) = answer_words 0 zero_location (pos 0) 0 fill
-written_words (Refused r) = let n = numbered r in answer_words n.number n.location n.a n.b 0
+abbrev pub written_words : Result ℕ Refusal → List ℕ
+written_words (Ok fill) = answer_words 0 zero_location (pos 0) 0 fill
+written_words (Err r) = let n = numbered r in answer_words n.number n.location n.a n.b 0
 
 pub record LinkedMacros : Type 0 where
   pub result : ℕ

@@ -5,15 +5,15 @@ ghost use Rattle.std.specs.Prelude.{◌≡◌};
 ghost use Rattle.linked_macros.specs.LinkedMacros.{written_words, linked_macros};
 
 use linked_answer::{ANSWER_BYTES, TOO_SHORT};
-use written_out::WriteOutAnswer;
+use refusal::Refusal;
 
 // A refused list has no fill.
-fn written_words(answer: WriteOutAnswer) -> [u32; 6]
+fn written_words(answer: Result<u32, Refusal>) -> [u32; 6]
     ensures { result ≡ written_words answer }
 {
     match answer {
-        WriteOutAnswer::Written(fill) => linked_answer::done_words(0, fill),
-        WriteOutAnswer::Refused(refusal) => linked_answer::refusal_words(refusal, 0),
+        Ok(fill) => linked_answer::done_words(0, fill),
+        Err(refusal) => linked_answer::refusal_words(refusal, 0),
     }
 }
 

@@ -1,17 +1,16 @@
 -- What the linked call for a page gives back and leaves in its lent buffers. Assumes nothing.
-use Rattle.std.specs.Prelude.{ℕ, List, true, false, pos, length, leb}
+use Rattle.std.specs.Prelude.{ℕ, List, true, false, pos, length, leb, Err, Ok, Result}
 use Rattle.record.specs.Stores.{append}
 use Rattle.refusal.specs.Numbers.{zero_location, numbered}
 use Rattle.linked_answer.specs.Words.{answer_bytes, too_short, answer_words, number_of, words_as_bytes}
-use Rattle.page_outcome.specs.declared.LaidOut.{LaidOut}
-use Rattle.page_outcome.specs.declared.LaidOut.TheVariants.{Length, Refused}
 use Rattle.page_outcome.specs.Outcome.{PageOutcome, page_outcome}
+use Rattle.refusal.specs.declared.Refusal.{Refusal}
 
 -- a page has number 0 and its length as the last word (docs/DECISIONS.md); a refusal has, as a refused build has, "its number, a
 -- location and numbers a and b", and the last word 0
-abbrev pub page_words : LaidOut → List ℕ
-page_words (Length length) = answer_words 0 zero_location (pos 0) 0 length
-page_words (Refused r) = let n = numbered r in answer_words n.number n.location n.a n.b 0
+abbrev pub page_words : Result ℕ Refusal → List ℕ
+page_words (Ok length) = answer_words 0 zero_location (pos 0) 0 length
+page_words (Err r) = let n = numbered r in answer_words n.number n.location n.a n.b 0
 
 pub record LinkedPage : Type 0 where
   pub result : ℕ

@@ -5,15 +5,15 @@ ghost use Rattle.std.specs.Prelude.{◌≡◌};
 ghost use Rattle.linked_page.specs.LinkedPage.{page_words, linked_page};
 
 use linked_answer::{ANSWER_BYTES, TOO_SHORT};
-use page_outcome::LaidOut;
+use refusal::Refusal;
 
 // A refused page has no length.
-fn page_words(answer: LaidOut) -> [u32; 6]
+fn page_words(answer: Result<u32, Refusal>) -> [u32; 6]
     ensures { result ≡ page_words answer }
 {
     match answer {
-        LaidOut::Length(length) => linked_answer::done_words(0, length),
-        LaidOut::Refused(refusal) => linked_answer::refusal_words(refusal, 0),
+        Ok(length) => linked_answer::done_words(0, length),
+        Err(refusal) => linked_answer::refusal_words(refusal, 0),
     }
 }
 

@@ -1,19 +1,19 @@
 -- Laws of the linked call for a text: too short an answer, and an answered call. Assumes nothing.
-use Rattle.std.specs.Prelude.{ℕ, ◌≤◌, ◌<◌, ◌≡◌, List, length}
+use Rattle.std.specs.Prelude.{ℕ, ◌≤◌, ◌<◌, ◌≡◌, List, length, Result}
 use Rattle.std.proofs.Common.{le-leb}
 use Rattle.std.proofs.lemmas.Bool.{lt-leb}
 use Rattle.record.specs.Stores.{append}
 use Rattle.linked_answer.specs.Words.{answer_bytes, too_short, number_of, words_as_bytes}
-use Rattle.text_reader.specs.declared.TextRead.{TextRead}
 use Rattle.text_reader.specs.Outcome.{read_text}
 use Rattle.linked_text.specs.LinkedText.{read_words, linked_text}
+use Rattle.refusal.specs.declared.Refusal.{Refusal}
 
 module _ (text : List ℕ) (source : ℕ) (tokens answer : List ℕ) where
   pub text_short : length answer < answer_bytes → linked_text text source tokens answer ≡ (record { result = too_short; tokens = tokens; answer = answer })
   unfolding linked_text
   text_short h = rw (lt-leb answer_bytes (length answer) h, linked_text)
 
-  pub text_answered_lem : {given : TextRead} {words tokens' answer' : List ℕ} → answer_bytes ≤ length answer
+  pub text_answered_lem : {given : (Result ℕ Refusal)} {words tokens' answer' : List ℕ} → answer_bytes ≤ length answer
       → read_text text source tokens ≡ (record { answer = given; tokens = tokens' }) → words ≡ read_words given → answer' ≡ append answer 0 (words_as_bytes words)
       → linked_text text source tokens answer ≡ (record { result = number_of words; tokens = tokens'; answer = answer' })
   unfolding linked_text

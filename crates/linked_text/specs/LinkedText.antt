@@ -1,17 +1,16 @@
 -- What the linked call for a text gives back and leaves in its lent buffers. Assumes nothing.
-use Rattle.std.specs.Prelude.{ℕ, List, true, false, pos, length, leb}
+use Rattle.std.specs.Prelude.{ℕ, List, true, false, pos, length, leb, Err, Ok, Result}
 use Rattle.record.specs.Stores.{append}
 use Rattle.refusal.specs.Numbers.{zero_location, numbered}
 use Rattle.linked_answer.specs.Words.{answer_bytes, too_short, answer_words, number_of, words_as_bytes}
-use Rattle.text_reader.specs.declared.TextRead.{TextRead}
-use Rattle.text_reader.specs.declared.TextRead.TheVariants.{Read, Refused}
 use Rattle.text_reader.specs.Outcome.{TextOutcome, read_text}
+use Rattle.refusal.specs.declared.Refusal.{Refusal}
 
 -- an accepted text has number 0 and the token buffer's new fill as the last word (docs/DECISIONS.md); a refusal has, as a refused
 -- build has, "its number, a location and numbers a and b", and the last word 0
-abbrev pub read_words : TextRead → List ℕ
-read_words (Read fill) = answer_words 0 zero_location (pos 0) 0 fill
-read_words (Refused r) = let n = numbered r in answer_words n.number n.location n.a n.b 0
+abbrev pub read_words : Result ℕ Refusal → List ℕ
+read_words (Ok fill) = answer_words 0 zero_location (pos 0) 0 fill
+read_words (Err r) = let n = numbered r in answer_words n.number n.location n.a n.b 0
 
 pub record LinkedText : Type 0 where
   pub result : ℕ

@@ -5,15 +5,15 @@ ghost use Rattle.std.specs.Prelude.{◌≡◌};
 ghost use Rattle.linked_text.specs.LinkedText.{read_words, linked_text};
 
 use linked_answer::{ANSWER_BYTES, TOO_SHORT};
-use text_reader::TextRead;
+use refusal::Refusal;
 
 // A refused text has no fill.
-fn read_words(answer: TextRead) -> [u32; 6]
+fn read_words(answer: Result<u32, Refusal>) -> [u32; 6]
     ensures { result ≡ read_words answer }
 {
     match answer {
-        TextRead::Read(fill) => linked_answer::done_words(0, fill),
-        TextRead::Refused(refusal) => linked_answer::refusal_words(refusal, 0),
+        Ok(fill) => linked_answer::done_words(0, fill),
+        Err(refusal) => linked_answer::refusal_words(refusal, 0),
     }
 }
 

@@ -1,15 +1,12 @@
 -- An accepted call is that of its line, whose words' bytes it appends. Assumes nothing.
-use Rattle.std.specs.Prelude.{ℕ, ◌+◌, ◌*◌, ◌≤◌, List, [], ◌∷◌, ◌++◌, length, take}
+use Rattle.std.specs.Prelude.{ℕ, ◌+◌, ◌*◌, ◌≤◌, List, [], ◌∷◌, ◌++◌, length, take, Err, Ok, Some}
 use Rattle.std.proofs.Common.{arith, sym, ap, ◌∙◌, subst}
 use Rattle.std.proofs.Math.Path.{◌≡◌, refl}
-use Rattle.std.proofs.Math.Option.{some}
 use Rattle.std.proofs.lemmas.List.{length-map}
 use Rattle.jobs.specs.declared.Job.{Job}
 use Rattle.record.specs.declared.Location.{Location}
 use Rattle.record.specs.Stores.{le32_bytes, append}
 use Rattle.record.proofs.StoresLaws.{filled_append}
-use Rattle.refusal.specs.declared.Verdict.{Verdict}
-use Rattle.refusal.specs.declared.Verdict.TheVariants.{Pass, Stop}
 use Rattle.lexer.specs.Tokens.{tokens}
 use Rattle.descriptors.specs.Mnemonics.{mnemonic_name, mnemonic_location}
 use Rattle.descriptors.specs.Descriptors.{instruction_at}
@@ -31,6 +28,7 @@ use Rattle.emit_outcome.specs.Checks.{list_stop}
 use Rattle.emit_outcome.specs.Emit.{accept, answer_stop, line_stop, accept_or, line_outcome, start_of, call_line, meaning_outcome, list_outcome, emit_outcome}
 use Rattle.emit_checks.proofs.ListsLaws.{lists_pass}
 use Rattle.loaded_lines.proofs.Loaded.{meant, bytes_of, Appended}
+use Rattle.refusal.specs.Verdicts.{Verdict}
 
 -- ---- bytes of words
 
@@ -47,7 +45,7 @@ bytes_append (w ∷ ws) vs = ap (λ (bs : List ℕ). le32_bytes w ++ bs) (bytes_
 -- ---- a line that was accepted
 
 module _ (token_list : List ℕ) (line : Location) (numbers : LineNumbers) (lent : Lent) (made : Line) (position : ℕ) (loaded : LoadForm) where
-  answer_made : (a : LineAnswer) → answer_stop token_list line numbers lent made.pairs a ≡ Pass → a ≡ Made
+  answer_made : (a : LineAnswer) → answer_stop token_list line numbers lent made.pairs a ≡ Ok tt → a ≡ Made
   answer_made Made e = refl
   answer_made (Missed m) e = cc
   answer_made (OutOfRange fault) e = cc
@@ -59,8 +57,8 @@ module _ (token_list : List ℕ) (line : Location) (numbers : LineNumbers) (lent
 
   by_verdict : (v : Verdict) → line_stop token_list line numbers lent made ≡ v → (accept_or token_list line numbers lent made v).answer ≡ Done position loaded
       → AcceptedLine (accept_or token_list line numbers lent made v)
-  by_verdict Pass e h = record { answer_is = answer_made made.answer e; form_is = cc; outcome_is = refl }
-  by_verdict (Stop r) e h = let z : ◌≡◌ {A = ℕ} 0 1 = cc in absurd (omega arith)
+  by_verdict (Ok tt) e h = record { answer_is = answer_made made.answer e; form_is = cc; outcome_is = refl }
+  by_verdict (Err r) e h = let z : ◌≡◌ {A = ℕ} 0 1 = cc in absurd (omega arith)
 
   accepted_line : (line_outcome token_list line numbers lent made).answer ≡ Done position loaded → AcceptedLine (line_outcome token_list line numbers lent made)
   unfolding line_outcome
@@ -84,7 +82,7 @@ module _ (c : Call) (fits : c.numbers.counts.data_len ≤ length c.lent.region_d
 -- the operation of a call, and its line
 pub record AcceptedCall (job : Job) (c : Call) (loaded : LoadForm) (m : Meaning) (o : EmitOutcome) : Type 0 where
   pub operation : Operation
-  pub means : meant c.descriptors m ≡ some operation
+  pub means : meant c.descriptors m ≡ Some operation
   pub made : (line_of job operation (tokens c.token_list) (start_of c)).answer ≡ Made
   pub form_is : (line_of job operation (tokens c.token_list) (start_of c)).form ≡ loaded
   pub appended : Appended c o (words_of (line_of job operation (tokens c.token_list) (start_of c)).pairs)
@@ -110,8 +108,8 @@ module _ (job : Job) (c : Call) (position : ℕ) (loaded : LoadForm) where
   stop = list_stop c.token_list c.mnemonic c.descriptors c.lent c.numbers.place.region c.numbers.counts
 
   by_lists : (v : Verdict) → stop ≡ v → (list_outcome job c v).answer ≡ Done position loaded → AcceptedCall job c loaded (meaning c.descriptors (mnemonic_name c.mnemonic)) (list_outcome job c v)
-  by_lists (Stop r) e h = let z : ◌≡◌ {A = ℕ} 0 1 = cc in absurd (omega arith)
-  by_lists Pass e h =
+  by_lists (Err r) e h = let z : ◌≡◌ {A = ℕ} 0 1 = cc in absurd (omega arith)
+  by_lists (Ok tt) e h =
       accepted_meaning job c position loaded (lists_pass c.token_list c.mnemonic c.descriptors c.lent c.numbers.place.region c.numbers.counts e).filled.data_filled
       (meaning c.descriptors (mnemonic_name c.mnemonic)) h
 

@@ -1,6 +1,5 @@
 -- The form that a line reports, beside the constant that it loads (document 02, P2). Assumes nothing.
-use Rattle.std.specs.Prelude.{ℕ, ◌≡◌, List, ◌++◌}
-use Rattle.std.proofs.Math.Option.{Option, none, some}
+use Rattle.std.specs.Prelude.{ℕ, ◌≡◌, List, ◌++◌, Option, None, Some}
 use Rattle.jobs.specs.declared.Job.{Job}
 use Rattle.registers.specs.Numbers.{register_number}
 use Rattle.loading.specs.declared.LoadForm.{LoadForm}
@@ -17,8 +16,8 @@ use Rattle.loaded_lines.proofs.Loaded.{LoadedCall, call_loads}
 
 -- "addiu alone, ori alone, lui alone, or both halves", "or none where nothing is loaded"
 abbrev pub form_from : Option LoadedConstant → LoadForm
-form_from none = Unloaded
-form_from (some l) = form_of l.constant
+form_from None = Unloaded
+form_from (Some l) = form_of l.constant
 
 -- words that begin with the loading words of a form, one for the first three and two for both halves, before those of the line's own instructions
 pub record FormFirst (form : LoadForm) (l : LoadedConstant) (own : List Format) (ws : List ℕ) : Type 0 where
@@ -28,8 +27,8 @@ pub record FormFirst (form : LoadForm) (l : LoadedConstant) (own : List Format) 
 
 -- where none is reported there are only those of the line's own instructions
 abbrev pub Formed : LoadForm → Option LoadedConstant → List Format → List ℕ → Type 0
-Formed form none own ws = InFormats ws own
-Formed form (some l) own ws = FormFirst form l own ws
+Formed form None own ws = InFormats ws own
+Formed form (Some l) own ws = FormFirst form l own ws
 
 pub record Reported (job : Job) (c : Call) (form : LoadForm) : Type 0 where
   pub form_is : form ≡ form_from (call_loads c)

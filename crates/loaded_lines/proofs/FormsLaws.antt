@@ -1,12 +1,9 @@
 -- The form of each line is that of the constant which its operands say that it loads. Assumes nothing.
-use Rattle.std.specs.Prelude.{ℕ, ◌≡◌, refl, Bool, true, false, List, ◌++◌}
+use Rattle.std.specs.Prelude.{ℕ, ◌≡◌, refl, Bool, true, false, List, ◌++◌, Err, None, Ok, Result, Some, Option}
 use Rattle.std.proofs.Common.{arith, sym, ap, ◌∙◌}
-use Rattle.std.proofs.Math.Option.{Option, none, some}
 use Rattle.jobs.specs.declared.Job.{Job}
 use Rattle.registers.specs.declared.RegisterSlot.{RegisterSlot}
 use Rattle.registers.specs.Numbers.{register_number}
-use Rattle.instructions.specs.declared.Alternative.{Alternative}
-use Rattle.instructions.specs.declared.Alternative.TheVariants.{Nothing, Some}
 use Rattle.instructions.specs.declared.Opcode.{Opcode}
 use Rattle.instructions.specs.declared.Encoding.{Encoding}
 use Rattle.instructions.specs.declared.Encoding.TheVariants.{Register, RegisterShift, Source, Destination, Inputs, Sham, SpecialBranch, Immediate, LoadImmediate, Jump, Branch, BranchZero, Parameterless, Offset, FPOffset, FP3Register, FP2Register, FPMove, FPCond, FPCrossMove, FPBranch}
@@ -27,9 +24,7 @@ use Rattle.loading.specs.declared.LoadForm.TheVariants.{Nothing as Unloaded}
 use Rattle.loading.specs.Load.{form_of, form_words, load_words}
 use Rattle.loading.proofs.LoadLaws.{words_by}
 use Rattle.emit_pairs.specs.declared.InstructionPair.{InstructionPair}
-use Rattle.emit_pairs.specs.declared.Range.{Range}
 use Rattle.emit_pairs.specs.declared.Fault.TheVariants.{Immediate as ImmediateFault}
-use Rattle.emit_pairs.specs.declared.Range.TheVariants.{Within, Outside}
 use Rattle.emit_pairs.specs.Pairs.{label_form, is_immediate, immediate_range, immediate_form}
 use Rattle.emit_pairs.specs.Values.{value_form, maybe_form, offset_form}
 use Rattle.emit_dispatch.specs.declared.LineAnswer.TheVariants.{Made}
@@ -41,6 +36,7 @@ use Rattle.formats.specs.LineLoads.{LoadedConstant, into_at, value_loads, maybe_
 use Rattle.formats.specs.Operations.{Operation, encoded, pseudo, wants_of, line_of}
 use Rattle.loaded_lines.proofs.Loaded.{LoadedFirst, read_loads}
 use Rattle.loaded_lines.proofs.Forms.{form_from, Formed}
+use Rattle.emit_pairs.specs.declared.Fault.{Fault}
 
 -- ---- by operand
 
@@ -49,15 +45,15 @@ value_form_lem (Slot r) = refl
 value_form_lem (Literal n) = refl
 
 maybe_form_lem : (v : Option InstructionValue) → maybe_form v ≡ form_from (maybe_loads v)
-maybe_form_lem none = refl
-maybe_form_lem (some v) = value_form_lem v
+maybe_form_lem None = refl
+maybe_form_lem (Some v) = value_form_lem v
 
 label_form_lem : (r : RegisterSlot) (label : AddressLabel) → label_form label ≡ form_from (label_loads r label)
 label_form_lem r (Constant c) = refl
 label_form_lem r (Label name) = refl
 
 -- a constant that is loaded where it is no immediate
-tested : (b : Bool) (c : ℕ) → elim b [ true ↦ Unloaded | false ↦ form_of c ] ≡ form_from (elim b [ true ↦ none | false ↦ into_at c ])
+tested : (b : Bool) (c : ℕ) → elim b [ true ↦ Unloaded | false ↦ form_of c ] ≡ form_from (elim b [ true ↦ None | false ↦ into_at c ])
 tested true c = refl
 tested false c = refl
 
@@ -67,17 +63,17 @@ offset_form_lem (Address (Label name)) = refl
 offset_form_lem (Based (Constant c) r) = tested (is_immediate c) c
 offset_form_lem (Based (Label name) r) = refl
 
-immediate_form_lem : (alt : Alternative) (c : ℕ) → immediate_range alt c ≡ Within → immediate_form alt c ≡ form_from (immediate_loads c)
+immediate_form_lem : (alt : Option Opcode) (c : ℕ) → immediate_range alt c ≡ Ok tt → immediate_form alt c ≡ form_from (immediate_loads c)
 immediate_form_lem (Some alt) c h = tested (is_immediate c) c
-immediate_form_lem Nothing c h = go (is_immediate c) h
+immediate_form_lem None c h = go (is_immediate c) h
   where
-    go : (b : Bool) → elim b [ true ↦ Within | false ↦ Outside ImmediateFault ] ≡ Within → elim b [ true ↦ Unloaded | false ↦ Unloaded ] ≡ form_from (elim b [ true ↦ none | false ↦ into_at c ])
+    go : (b : Bool) → elim b [ true ↦ Ok tt | false ↦ Err ImmediateFault ] ≡ Ok tt → elim b [ true ↦ Unloaded | false ↦ Unloaded ] ≡ form_from (elim b [ true ↦ None | false ↦ into_at c ])
     go true h = refl
     go false h = let z : ◌≡◌ {A = ℕ} 0 1 = cc in absurd (omega arith)
 
 -- ---- by line
 
-encoding_form_lem : (job : Job) (e : Encoding) (op : Opcode) (x : AskedAll (encoding_wants e)) → encoding_range job e op x ≡ Within → encoding_form e x ≡ form_from (encoding_loads e x)
+encoding_form_lem : (job : Job) (e : Encoding) (op : Opcode) (x : AskedAll (encoding_wants e)) → encoding_range job e op x ≡ Ok tt → encoding_form e x ≡ form_from (encoding_loads e x)
 encoding_form_lem job Register op x h = value_form_lem x.2
 encoding_form_lem job RegisterShift op x h = refl
 encoding_form_lem job Source op x h = refl
@@ -119,8 +115,8 @@ pseudo_form_lem B x = refl
 pseudo_form_lem Subi x = tested (is_immediate (with_sign true x.2)) (with_sign true x.2)
 pseudo_form_lem Subiu x = tested (is_immediate (with_sign true x.2)) (with_sign true x.2)
 
-module _ (o : Operation) (i : ℕ) (range : AskedAll (wants_of o) → Range) (pairs : AskedAll (wants_of o) → List InstructionPair) (form : AskedAll (wants_of o) → LoadForm)
-    (forms : (x : AskedAll (wants_of o)) → range x ≡ Within → form x ≡ form_from (read_loads o (Got x))) where
+module _ (o : Operation) (i : ℕ) (range : AskedAll (wants_of o) → Result (Unit {0}) Fault) (pairs : AskedAll (wants_of o) → List InstructionPair) (form : AskedAll (wants_of o) → LoadForm)
+    (forms : (x : AskedAll (wants_of o)) → range x ≡ Ok tt → form x ≡ form_from (read_loads o (Got x))) where
   made_form : (read : Answer (AskedAll (wants_of o))) → (line_by read i range pairs form).answer ≡ Made → (line_by read i range pairs form).form ≡ form_from (read_loads o read)
   made_form (Got x) h = forms x (within_made (range x) h)
   made_form (Missed m) h = let z : ◌≡◌ {A = ℕ} 0 1 = cc in absurd (omega arith)
@@ -132,13 +128,13 @@ line_form job (encoded e op) ts i h =
     made_form (encoded e op) read.index (encoding_range job e op) (encoding_pairs job e op) (encoding_form e) (encoding_form_lem job e op) read.answer h
 line_form job (pseudo p) ts i h =
     let read = read_operands (pseudo_wants p) ts i in
-    made_form (pseudo p) read.index (λ x. Within) (pseudo_pairs job p) (pseudo_form p) (λ x w. pseudo_form_lem p x) read.answer h
+    made_form (pseudo p) read.index (λ x. (Ok tt)) (pseudo_pairs job p) (pseudo_form p) (λ x w. pseudo_form_lem p x) read.answer h
 
 -- ---- the words of a form
 
 pub formed : (loaded : Option LoadedConstant) {form : LoadForm} (own : List Format) (ws : List ℕ) → form ≡ form_from loaded → LoadedFirst loaded own ws → Formed form loaded own ws
-formed none own ws e h = h
-formed (some l) {form} own ws e h =
+formed None own ws e h = h
+formed (Some l) {form} own ws e h =
     let t = register_number l.register in
     let w : load_words l.constant t ≡ form_words form l.constant t = words_by l.constant t refl ∙ ap (λ (f : LoadForm). form_words f l.constant t) (sym e) in
     record { rest = h.rest; words_are = h.words_are ∙ ap (λ (x : List ℕ). x ++ h.rest) w; rest_has = h.rest_has }

@@ -1,8 +1,7 @@
 -- Demand 3 of emitted words: "whatever the constant, the register chosen and what the registers held, the words emitted to load the constant, run as
 -- document 01 says, leave its low 32 bits in the chosen register, unless that is $zero, and alter no other." Assumes nothing.
-use Rattle.std.specs.Prelude.{ℕ, ◌≡◌, List, ◌++◌}
+use Rattle.std.specs.Prelude.{ℕ, ◌≡◌, List, ◌++◌, Option, None, Some}
 use Rattle.std.proofs.Common.{sym, ap, ◌∙◌, subst}
-use Rattle.std.proofs.Math.Option.{Option, none, some}
 use Rattle.jobs.specs.declared.Job.{Job}
 use Rattle.registers.specs.Numbers.{register_number}
 use Rattle.registers.specs.NumberLaws.{register_lt}
@@ -24,8 +23,8 @@ use Rattle.loaded_lines.proofs.Loaded.{LoadsFirst, LoadedFirst, LoadedLine, fill
 use Rattle.loaded_lines.proofs.CallsLaws.{bytes_append, accepted_call}
 
 loaded_first : (loaded : Option LoadedConstant) {own : List Format} {ws : List ℕ} → LoadThen loaded own ws → LoadedFirst loaded own ws
-loaded_first none {own} h = subst (λ (l : List ℕ). InFormats l own) (sym h.words_are) h.rest_has
-loaded_first (some l) h = record {
+loaded_first None {own} h = subst (λ (l : List ℕ). InFormats l own) (sym h.words_are) h.rest_has
+loaded_first (Some l) h = record {
   rest = h.rest;
   words_are = h.words_are;
   does = λ g k. loads l.constant (register_number l.register) g (register_lt l.register) k;
@@ -46,12 +45,12 @@ call_loads_lem job c position loaded h =
 
 -- every accepted call whose line loads a constant
 pub constant_appended : (job : Job) (c : Call) (position : ℕ) (loaded : LoadForm) → (emit_outcome job c).answer ≡ Done position loaded → (l : LoadedConstant)
-    → call_loads c ≡ some l → ConstantAppended job c l
+    → call_loads c ≡ Some l → ConstantAppended job c l
 constant_appended job c position loaded h l e =
     let r = call_loads_lem job c position loaded h in
     let own = own_formats job r.operation r.line.operands in
     let ws = words_of (line_of job r.operation (tokens c.token_list) (start_of c)).pairs in
-    let k : loads_of r.operation r.line.operands ≡ some l = sym (ap (meant_loads c) r.means ∙ ap (read_loads r.operation) r.line.operands_are) ∙ e in
+    let k : loads_of r.operation r.line.operands ≡ Some l = sym (ap (meant_loads c) r.means ∙ ap (read_loads r.operation) r.line.operands_are) ∙ e in
     let f : LoadsFirst l own ws = subst (λ (x : Option LoadedConstant). LoadedFirst x own ws) k r.line.loaded in
     record {
       rest = f.rest;

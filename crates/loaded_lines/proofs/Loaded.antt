@@ -1,6 +1,5 @@
 -- What it is that a line loads its constant, and that a call appends its line's words. Assumes nothing.
-use Rattle.std.specs.Prelude.{ℕ, ◌+◌, ◌*◌, ◌≡◌, List, [], ◌∷◌, ◌++◌, length, take}
-use Rattle.std.proofs.Math.Option.{Option, none, some}
+use Rattle.std.specs.Prelude.{ℕ, ◌+◌, ◌*◌, ◌≡◌, List, [], ◌∷◌, ◌++◌, length, take, Option, None, Some}
 use Rattle.jobs.specs.declared.Job.{Job}
 use Rattle.record.specs.Stores.{le32_bytes}
 use Rattle.registers.specs.Numbers.{register_number}
@@ -37,8 +36,8 @@ pub record LoadsFirst (l : LoadedConstant) (own : List Format) (ws : List ℕ) :
 
 -- where no constant is loaded there are only those of the line's own instructions
 abbrev pub LoadedFirst : Option LoadedConstant → List Format → List ℕ → Type 0
-LoadedFirst none own ws = InFormats ws own
-LoadedFirst (some l) own ws = LoadsFirst l own ws
+LoadedFirst None own ws = InFormats ws own
+LoadedFirst (Some l) own ws = LoadsFirst l own ws
 
 pub record LoadedLine (job : Job) (o : Operation) (ts : List Token) (i : ℕ) : Type 0 where
   pub operands : AskedAll (wants_of o)
@@ -49,9 +48,9 @@ pub record LoadedLine (job : Job) (o : Operation) (ts : List Token) (i : ℕ) : 
 
 -- what its mnemonic stands for
 abbrev pub meant : (descriptors : List ℕ) → Meaning → Option Operation
-meant descriptors (Table p) = some (encoded (instruction_at descriptors p).encoding (instruction_at descriptors p).opcode)
-meant descriptors (Builtin p) = some (pseudo p)
-meant descriptors Neither = none
+meant descriptors (Table p) = Some (encoded (instruction_at descriptors p).encoding (instruction_at descriptors p).opcode)
+meant descriptors (Builtin p) = Some (pseudo p)
+meant descriptors Neither = None
 
 abbrev pub operation_of : Call → Option Operation
 operation_of c = meant c.descriptors (meaning c.descriptors (mnemonic_name c.mnemonic))
@@ -72,7 +71,7 @@ pub record Appended (c : Call) (o : EmitOutcome) (ws : List ℕ) : Type 0 where
 
 pub record LoadedCall (job : Job) (c : Call) : Type 0 where
   pub operation : Operation
-  pub means : operation_of c ≡ some operation
+  pub means : operation_of c ≡ Some operation
   pub made : (line_of job operation (tokens c.token_list) (start_of c)).answer ≡ Made
   pub line : LoadedLine job operation (tokens c.token_list) (start_of c)
   pub appended : Appended c (emit_outcome job c) (words_of (line_of job operation (tokens c.token_list) (start_of c)).pairs)
@@ -80,11 +79,11 @@ pub record LoadedCall (job : Job) (c : Call) : Type 0 where
 -- the constant that its line loads
 abbrev pub read_loads : (o : Operation) → Answer (AskedAll (wants_of o)) → Option LoadedConstant
 read_loads o (Got x) = loads_of o x
-read_loads o (Missed m) = none
+read_loads o (Missed m) = None
 
 abbrev pub meant_loads : Call → Option Operation → Option LoadedConstant
-meant_loads c none = none
-meant_loads c (some o) = read_loads o (read_operands (wants_of o) (tokens c.token_list) (start_of c)).answer
+meant_loads c None = None
+meant_loads c (Some o) = read_loads o (read_operands (wants_of o) (tokens c.token_list) (start_of c)).answer
 
 abbrev pub call_loads : Call → Option LoadedConstant
 call_loads c = meant_loads c (operation_of c)

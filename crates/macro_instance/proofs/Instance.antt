@@ -1,5 +1,5 @@
 -- The definition, computed: what is written, and each refusal. Assumes nothing.
-use Rattle.std.specs.Prelude.{ℕ, ◌+◌, List, [], ◌∷◌, ◌++◌, reverse, ◌≡◌, refl, replicate}
+use Rattle.std.specs.Prelude.{ℕ, ◌+◌, List, [], ◌∷◌, ◌++◌, reverse, ◌≡◌, refl, replicate, Err, Ok, Result}
 use mathlib.Core.List.Memᴰ
 use Rattle.record.specs.Bytes.{same_bytes, all}
 use Rattle.record.specs.Records.{places_f, places_from, places, first_bad, within_limit}
@@ -13,8 +13,7 @@ use Rattle.macros.specs.Macros.{name_places, behind_names, macro_of, index_of, d
 use Rattle.written_out.specs.Written.{arguments, called, line_steps, lines_steps, replaced, written_out}
 use Rattle.written_out.proofs.Levels.{Deep, flat, deeper}
 use Rattle.written_out.specs.Outcome.{answer_from, bytes_of, write_out_stop, write_out_outcome}
-use Rattle.written_out.specs.declared.WriteOutAnswer.{WriteOutAnswer}
-use Rattle.written_out.specs.declared.WriteOutAnswer.TheVariants.{Written, Refused}
+use Rattle.refusal.specs.declared.Refusal.{Refusal}
 
 -- ---- tokens: a kind, the index of a location in source 7, a payload
 
@@ -69,32 +68,32 @@ abbrev expected : List ℕ
 expected =
     comment 0 ++ symbol 120 1 ++ colon 2 ++ symbol 97 50 ++ register 1 7 ++ new_line 62 ++ symbol 108 63 ++ parameter 113 5 ++ new_line 9 ++ symbol 111 10 ++ colon 11 ++ symbol 108 12
 
-abbrev answer : (text macros : List ℕ) → (room : ℕ) → WriteOutAnswer
+abbrev answer : (text macros : List ℕ) → (room : ℕ) → Result ℕ Refusal
 answer text macros room = (write_out_outcome text macros (replicate room 0)).answer
 
 -- bytes behind the fill stay
-pub computed : write_out_outcome text macros (replicate 160 9) ≡ (record { answer = Written 152; out = expected ++ replicate 8 9 })
+pub computed : write_out_outcome text macros (replicate 160 9) ≡ (record { answer = Ok 152; out = expected ++ replicate 8 9 })
 unfolding write_out_outcome write_out_stop answer_from bytes_of written_out replaced lines_steps line_steps called arguments leads leads_from lines records_of
     macros_of macro_repeat macro_layout macro_at_ok macro_ok macro_of known different index_of name_places behind_names token_layout token_ok payload_ok payload_of
     first_later first_where same_bytes all within_limit first_bad places places_from places_f append
 computed = refl
 
 -- room for all, and 26 at the first token without room
-pub room : (answer text macros 152 ≡ Written 152) × (answer text macros 151 ≡ Refused (NoWrittenSpace (at 12))) × (answer text macros 37 ≡ Refused (NoWrittenSpace (at 2))) × (answer text macros 50 ≡ Refused (NoWrittenSpace (at 50)))
+pub room : (answer text macros 152 ≡ Ok 152) × (answer text macros 151 ≡ Err (NoWrittenSpace (at 12))) × (answer text macros 37 ≡ Err (NoWrittenSpace (at 2))) × (answer text macros 50 ≡ Err (NoWrittenSpace (at 50)))
 unfolding write_out_outcome write_out_stop answer_from bytes_of written_out replaced lines_steps line_steps called arguments leads leads_from lines records_of
     macros_of macro_repeat macro_layout macro_at_ok macro_ok macro_of known different index_of name_places behind_names token_layout token_ok payload_ok payload_of
     first_later first_where same_bytes all within_limit first_bad places places_from places_f append
 room = (refl, refl, refl, refl)
 
 -- 24 at the name of the call, in the text and in a body: a comma is no argument, a sign is one
-pub count : (answer (symbol 105 3 ++ comma 4 ++ comment 5) macros 99 ≡ Refused (WrongArguments (at 3))) × (answer (symbol 105 3 ++ token 10 4 [] ++ register 1 5) macros 99 ≡ Refused (WrongArguments (at 3))) × (answer (symbol 105 3) (macros ++ none 110 (symbol 105 70)) 99 ≡ Refused (WrongArguments (at 3))) × (answer (symbol 110 3) (macros ++ none 110 (symbol 105 70)) 99 ≡ Refused (WrongArguments (at 70)))
+pub count : (answer (symbol 105 3 ++ comma 4 ++ comment 5) macros 99 ≡ Err (WrongArguments (at 3))) × (answer (symbol 105 3 ++ token 10 4 [] ++ register 1 5) macros 99 ≡ Err (WrongArguments (at 3))) × (answer (symbol 105 3) (macros ++ none 110 (symbol 105 70)) 99 ≡ Err (WrongArguments (at 3))) × (answer (symbol 110 3) (macros ++ none 110 (symbol 105 70)) 99 ≡ Err (WrongArguments (at 70)))
 unfolding write_out_outcome write_out_stop answer_from bytes_of written_out replaced lines_steps line_steps called arguments leads leads_from lines records_of
     macros_of macro_repeat macro_layout macro_at_ok macro_ok macro_of known different index_of name_places behind_names token_layout token_ok payload_ok payload_of
     first_later first_where same_bytes all within_limit first_bad places places_from places_f append
 count = (refl, refl, refl, refl)
 
 -- an earlier 26 goes before a 24, and an earlier 24 before a 26
-pub first : (answer (symbol 97 1 ++ new_line 2 ++ symbol 105 3) macros 24 ≡ Refused (NoWrittenSpace (at 2))) × (answer (symbol 97 1 ++ new_line 2 ++ symbol 105 3) macros 25 ≡ Refused (WrongArguments (at 3)))
+pub first : (answer (symbol 97 1 ++ new_line 2 ++ symbol 105 3) macros 24 ≡ Err (NoWrittenSpace (at 2))) × (answer (symbol 97 1 ++ new_line 2 ++ symbol 105 3) macros 25 ≡ Err (WrongArguments (at 3)))
 unfolding write_out_outcome write_out_stop answer_from bytes_of written_out replaced lines_steps line_steps called arguments leads leads_from lines records_of
     macros_of macro_repeat macro_layout macro_at_ok macro_ok macro_of known different index_of name_places behind_names token_layout token_ok payload_ok payload_of
     first_later first_where same_bytes all within_limit first_bad places places_from places_f append
@@ -110,29 +109,29 @@ abbrev chain : List ℕ
 chain = chain_on (none 65 (symbol 97 20))
 
 -- eight levels are written; at the ninth the call of A, in the body of B, is refused; 24 goes before 25
-pub levels : (write_out_outcome (symbol 72 3) chain (replicate 13 0) ≡ (record { answer = Written 13; out = symbol 97 20 })) × (answer (symbol 73 3) chain 99 ≡ Refused (NinthLevel (at 21)))
-    × (answer (symbol 73 3) (chain_on (one 65 112 [])) 99 ≡ Refused (WrongArguments (at 21)))
+pub levels : (write_out_outcome (symbol 72 3) chain (replicate 13 0) ≡ (record { answer = Ok 13; out = symbol 97 20 })) × (answer (symbol 73 3) chain 99 ≡ Err (NinthLevel (at 21)))
+    × (answer (symbol 73 3) (chain_on (one 65 112 [])) 99 ≡ Err (WrongArguments (at 21)))
 unfolding write_out_outcome write_out_stop answer_from bytes_of written_out replaced lines_steps line_steps called arguments leads leads_from lines records_of
     macros_of macro_repeat macro_layout macro_at_ok macro_ok macro_of known different index_of name_places behind_names token_layout token_ok payload_ok payload_of
     first_later first_where same_bytes all within_limit first_bad places places_from places_f append
 levels = (refl, refl, refl)
 
 -- a macro that calls itself or one below: an ordinary mnemonic there; a Symbol argument at the head is a call of one above
-pub ordinary : (write_out_outcome (symbol 65 3) (none 65 (symbol 66 20 ++ new_line 21 ++ symbol 65 22) ++ none 66 []) (replicate 38 0) ≡ (record { answer = Written 38; out = symbol 66 20 ++ new_line 21 ++ symbol 65 22 })) × (answer (symbol 66 3 ++ symbol 65 4) (none 65 [] ++ one 66 112 (parameter 112 20)) 99 ≡ Written 0)
+pub ordinary : (write_out_outcome (symbol 65 3) (none 65 (symbol 66 20 ++ new_line 21 ++ symbol 65 22) ++ none 66 []) (replicate 38 0) ≡ (record { answer = Ok 38; out = symbol 66 20 ++ new_line 21 ++ symbol 65 22 })) × (answer (symbol 66 3 ++ symbol 65 4) (none 65 [] ++ one 66 112 (parameter 112 20)) 99 ≡ Ok 0)
 unfolding write_out_outcome write_out_stop answer_from bytes_of written_out replaced lines_steps line_steps called arguments leads leads_from lines records_of
     macros_of macro_repeat macro_layout macro_at_ok macro_ok macro_of known different index_of name_places behind_names token_layout token_ok payload_ok payload_of
     first_later first_where same_bytes all within_limit first_bad places places_from places_f append
 ordinary = (refl, refl)
 
 -- no call behind a Comma or a Colon that is no label's, nor where a comment stands between a Symbol and its Colon
-pub no_call : (answer (comma 1 ++ symbol 65 2) (none 65 []) 99 ≡ Written 25) × (answer (colon 1 ++ symbol 65 2) (none 65 []) 99 ≡ Written 25) × (answer (symbol 120 1 ++ comment 2 ++ colon 3 ++ symbol 65 4) (none 65 []) 99 ≡ Written 51) × (answer (symbol 65 1 ++ colon 2) (none 65 []) 99 ≡ Written 25)
+pub no_call : (answer (comma 1 ++ symbol 65 2) (none 65 []) 99 ≡ Ok 25) × (answer (colon 1 ++ symbol 65 2) (none 65 []) 99 ≡ Ok 25) × (answer (symbol 120 1 ++ comment 2 ++ colon 3 ++ symbol 65 4) (none 65 []) 99 ≡ Ok 51) × (answer (symbol 65 1 ++ colon 2) (none 65 []) 99 ≡ Ok 25)
 unfolding write_out_outcome write_out_stop answer_from bytes_of written_out replaced lines_steps line_steps called arguments leads leads_from lines records_of
     macros_of macro_repeat macro_layout macro_at_ok macro_ok macro_of known different index_of name_places behind_names token_layout token_ok payload_ok payload_of
     first_later first_where same_bytes all within_limit first_bad places places_from places_f append
 no_call = (refl, refl, refl, refl)
 
 -- 1 for a Parameter that the macro lacks, an empty name, two parameters of one name, a record of another kind; 2
-pub layout : (answer [] (none 65 [] ++ none 66 (parameter 112 1)) 99 ≡ Refused (BadLayout 1 7)) × (answer [] (record_bytes 40 (0 ∷ 0 ∷ [])) 99 ≡ Refused (BadLayout 1 0)) × (answer [] (two 65 112 112 []) 99 ≡ Refused (BadLayout 1 0)) × (answer [] (record_bytes 39 (1 ∷ 65 ∷ 0 ∷ [])) 99 ≡ Refused (BadLayout 1 0)) × (answer [] (none 65 [] ++ none 66 [] ++ none 65 []) 99 ≡ Refused (DuplicateName 1 14))
+pub layout : (answer [] (none 65 [] ++ none 66 (parameter 112 1)) 99 ≡ Err (BadLayout 1 7)) × (answer [] (record_bytes 40 (0 ∷ 0 ∷ [])) 99 ≡ Err (BadLayout 1 0)) × (answer [] (two 65 112 112 []) 99 ≡ Err (BadLayout 1 0)) × (answer [] (record_bytes 39 (1 ∷ 65 ∷ 0 ∷ [])) 99 ≡ Err (BadLayout 1 0)) × (answer [] (none 65 [] ++ none 66 [] ++ none 65 []) 99 ≡ Err (DuplicateName 1 14))
 unfolding write_out_outcome write_out_stop answer_from bytes_of written_out replaced lines_steps line_steps called arguments leads leads_from lines records_of
     macros_of macro_repeat macro_layout macro_at_ok macro_ok macro_of known different index_of name_places behind_names token_layout token_ok payload_ok payload_of
     first_later first_where same_bytes all within_limit first_bad places places_from places_f append

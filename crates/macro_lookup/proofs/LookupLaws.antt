@@ -1,11 +1,10 @@
 -- Laws of a walk over the macro list. Assumes nothing.
-use Rattle.std.specs.Prelude.{ℕ, ◌+◌, ◌-◌, ◌≤◌, ◌<◌, min, List, true, false, ◌&&◌, ◌≡◌, length, eqb}
+use Rattle.std.specs.Prelude.{ℕ, ◌+◌, ◌-◌, ◌≤◌, ◌<◌, min, List, true, false, ◌&&◌, ◌≡◌, length, eqb, None}
 use Rattle.std.proofs.Common.{arith, sym, ap, ◌∙◌, length-take, length-drop}
 use Rattle.std.proofs.Math.Bool.{and-eq-true_iff}
 use Rattle.record.specs.Bytes.{part, same_bytes}
 use Rattle.record.specs.Records.{body_len, kind_at, next, whole, places, first_bad, limit}
 use Rattle.record.proofs.RecordsLaws.{layout_from, places_all, whole_is, good_ok, good_next, limit_good}
-use Rattle.record.specs.declared.Layout.TheVariants.{Good}
 use Rattle.macros.specs.Macros.{name_at, name_ok, macro_of, macro_ok, body_at, macro_at_ok, macro_layout}
 use Rattle.macros.proofs.LayoutLaws.{parts_of}
 use Rattle.written_out.specs.Above.{macro_at, above, Found}
@@ -25,14 +24,14 @@ name_ok_lem s at m = (parts_of (body_at s at) m.bytes_ok).name_ok_lem
 
 -- what a walk has met: the macros before `at`, and `k`, the last of them that has the name
 pub record Walked (s name : List ℕ) (limit at k : ℕ) : Type 0 where
-  pub good : layout_from (macro_at_ok s) s at ≡ Good
+  pub good : layout_from (macro_at_ok s) s at ≡ None
   pub reached : Reached s at
   pub same : above s (min at limit) ≡ above s at
   pub found_so : Found s name limit at k
   pub most : k ≤ limit
   pub ok : k < limit → macro_at_ok s k ≡ true
 
-pub walked_first : (s name : List ℕ) (limit : ℕ) → macro_layout s ≡ Good → Walked s name limit 0 limit
+pub walked_first : (s name : List ℕ) (limit : ℕ) → macro_layout s ≡ None → Walked s name limit 0 limit
 unfolding macro_layout
 walked_first s name limit g =
     let h = (limit_good s (first_bad (macro_at_ok s) (places s)) g).1 in

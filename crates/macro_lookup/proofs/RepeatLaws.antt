@@ -1,5 +1,5 @@
 -- Laws of the first macro that has the name of one above it, found by an index of the macros' bytes. Assumes nothing.
-use Rattle.std.specs.Prelude.{ℕ, ◌+◌, ◌-◌, ◌*◌, ◌≤◌, ◌<◌, min, List, ◌⊎◌, Bool, ◌≡◌, length, get_or, ltb, leb, eqb}
+use Rattle.std.specs.Prelude.{ℕ, ◌+◌, ◌-◌, ◌*◌, ◌≤◌, ◌<◌, min, List, ◌⊎◌, Bool, ◌≡◌, length, get_or, ltb, leb, eqb, None, Option, Some}
 use Rattle.std.proofs.Common.{arith, inl, inr, sym, ap, subst, ◌∙◌, below_more, ltb-true, ltb-false, leb-true, leb-false, eq-eqb, eqb-true}
 use Rattle.std.proofs.Math.Logic.{⊎_elim}
 use Rattle.std.proofs.Math.Bool.{true, false}
@@ -8,13 +8,8 @@ use Rattle.std.proofs.Math.Path.{refl}
 use Rattle.record.proofs.BytesLaws.{same_eq, eq_same}
 use Rattle.record.specs.Records.{places, first_bad, limit}
 use Rattle.record.proofs.RecordsLaws.{limit_good}
-use Rattle.record.specs.declared.Layout.TheVariants.{Good}
 use Rattle.names.specs.Names.{first_where, is_at, is_first}
-use Rattle.names.specs.declared.Named.{Named}
-use Rattle.names.specs.declared.Repeat.TheVariants.{None, Later}
 use Rattle.name_order.specs.Order.{Key, then_by, order}
-use Rattle.name_order.specs.declared.Ordered.{Ordered}
-use Rattle.name_order.specs.declared.Ordered.TheVariants.{Less, More}
 use Rattle.name_sort.specs.Sorting.{In}
 use Rattle.name_sort.proofs.SortingLaws.{at_in}
 use Rattle.name_index.specs.Index.{IndexOf}
@@ -27,29 +22,31 @@ use Rattle.macros.proofs.LayoutLaws.{parts_of}
 use Rattle.macro_lookup.specs.Lookup.{own_name, Scanned}
 use Rattle.macro_lookup.proofs.LookupLaws.{macro_is, name_ok_lem}
 use Rattle.macro_lookup.proofs.TogetherLaws.{AtMost, same_at_most, name_between, body_name}
+use Rattle.std.specs.declared.cmp.Ordering.TheVariants.{Less, Greater}
+use Rattle.std.specs.declared.cmp.Ordering.{Ordering}
 
 never : {A : Type 0} → ◌≡◌ {A = ℕ} 0 1 → A
 never z = absurd (omega arith)
 
-pub macros_good : (s : List ℕ) → macro_layout s ≡ Good → (length s ≤ limit) × (first_bad (macro_at_ok s) (places s) ≡ Good)
+pub macros_good : (s : List ℕ) → macro_layout s ≡ None → (length s ≤ limit) × (first_bad (macro_at_ok s) (places s) ≡ None)
 unfolding macro_layout
 macros_good s g = limit_good s (first_bad (macro_at_ok s) (places s)) g
 
 -- a macro has seven bytes at least: four, a name behind its length, and the count of its parameters
-pub macro_count : (s : List ℕ) → macro_layout s ≡ Good → length (places s) * 7 ≤ length s
+pub macro_count : (s : List ℕ) → macro_layout s ≡ None → length (places s) * 7 ≤ length s
 macro_count s g = count_at_least 7 s (macro_at_ok s) (λ p e. let m = macro_is s p e in
     let q = parts_of (body_at s p) m.bytes_ok in
     let n = name_is (body_at s p) 0 q.name_ok_lem in
     (m.whole_at, omega (arith, n.least, q.counted, m.long))) (macros_good s g).1
 
-then_at_most : (a b : List ℕ) (o : Ordered) → then_by (order a b) o ≡ Less → AtMost a b
-then_at_most a b o e f = let g : then_by (order a b) o ≡ More = ap (λ (x : Ordered). then_by x o) f in never (cc)
+then_at_most : (a b : List ℕ) (o : Ordering) → then_by (order a b) o ≡ Less → AtMost a b
+then_at_most a b o e f = let g : then_by (order a b) o ≡ Greater = ap (λ (x : Ordering). then_by x o) f in never (cc)
 
 -- ---- the first of a name
 module _ (s : List ℕ) (q : ℕ) (m : In q (places s)) where
   pub first_least : ((r : ℕ) → In r (places s) → own_name s r ≡ own_name s q → q ≤ r) → is_first (same_macro s) (places s) q ≡ true
   first_least h =
-      ap (λ (x : Named). is_at x q)
+      ap (λ (x : Option ℕ). is_at x q)
       (least_where (same_macro s q) (places s) (rising s) q m (eq_same (own_name s q)) (λ r k e. h r k (same_eq (own_name s r) (own_name s q) e)))
       ∙ eq-eqb q q refl
 
@@ -63,7 +60,7 @@ module _ (s : List ℕ) (q : ℕ) (m : In q (places s)) where
           let n = where_least (same_macro s q) (places s) (rising s) q a r k (rw e (eq_same (own_name s q))) in
           absurd (omega arith)
 
-module _ (s l : List ℕ) (g : macro_layout s ≡ Good) (ix : IndexOf 0 s l) where
+module _ (s l : List ℕ) (g : macro_layout s ≡ None) (ix : IndexOf 0 s l) where
   abbrev at : ℕ → ℕ
   at i = get_or l i 0
 
@@ -198,7 +195,7 @@ module _ (s l : List ℕ) (g : macro_layout s ≡ Good) (ix : IndexOf 0 s l) whe
           go false t = ltb-false q best t
           go true t = absurd (false≢true (sym f ∙ first_least s q m (none_before (ltb-true q best t))))
 
-      pub scan_found : best < length s → macro_repeat s ≡ Later best
+      pub scan_found : best < length s → macro_repeat s ≡ Some best
       unfolding macro_repeat
       scan_found k =
           ⊎_elim (λ e. absurd (omega arith))

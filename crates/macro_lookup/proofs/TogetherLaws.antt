@@ -1,29 +1,28 @@
 -- A macro's bytes begin with its name behind the name's length, so in the order of their bytes macros of one name stand together. Assumes nothing.
-use Rattle.std.specs.Prelude.{ℕ, zero, suc, ◌+◌, ◌-◌, ◌≤◌, ◌<◌, List, [], ◌∷◌, ◌⊎◌, Bool, true, false, ◌&&◌, ◌≡◌, refl, length, get_or, take, drop, ltb}
+use Rattle.std.specs.Prelude.{ℕ, zero, suc, ◌+◌, ◌-◌, ◌≤◌, ◌<◌, List, [], ◌∷◌, ◌⊎◌, Bool, true, false, ◌&&◌, ◌≡◌, refl, length, get_or, take, drop, ltb, None}
 use Rattle.std.proofs.Common.{arith, inl, inr, ⊎_elim, sym, ap, ap₂, ◌∙◌, length-take, ltb-true, ltb-false, ne_eqb, eqb-true}
 use Rattle.std.proofs.Math.Bool.{and-eq-true_iff}
 use Rattle.std.proofs.Math.Dec.{eqb}
 use Rattle.record.specs.Bytes.{part}
 use Rattle.record.specs.Records.{body_len, kind_at, whole, places, first_bad}
 use Rattle.record.proofs.RecordsLaws.{limit_good}
-use Rattle.record.specs.declared.Layout.TheVariants.{Good}
 use Rattle.names.proofs.NamesLaws.{has_name_lem, all_named}
 use Rattle.names.specs.Owners.{has_owner, owned_name, has_owned_name}
 use Rattle.names.proofs.OwnersLaws.{without_owner}
 use Rattle.name_order.specs.Order.{order}
 use Rattle.name_order.proofs.OrderLaws.{numbers_more, numbers_same, order_same}
-use Rattle.name_order.specs.declared.Ordered.TheVariants.{Same, More}
 use Rattle.macros.specs.Macros.{name_at, name_ok, macro_ok, body_at, macro_at_ok, macro_layout}
 use Rattle.macros.proofs.NamesLaws.{name_is}
+use Rattle.std.specs.declared.cmp.Ordering.TheVariants.{Equal, Greater}
 
 never : {A : Type 0} → ◌≡◌ {A = ℕ} 0 1 → A
 never z = absurd (omega arith)
 
 abbrev pub AtMost : List ℕ → List ℕ → Type 0
-AtMost a b = order a b ≡ More → ⊥
+AtMost a b = order a b ≡ Greater → ⊥
 
 pub same_at_most : (a b : List ℕ) → a ≡ b → AtMost a b
-same_at_most a b e f = let g : order a b ≡ Same = ap (order a) (sym e) ∙ order_same a in never (cc)
+same_at_most a b e f = let g : order a b ≡ Equal = ap (order a) (sym e) ∙ order_same a in never (cc)
 
 at_most_cons : (x y : ℕ) (xs ys : List ℕ) → AtMost (x ∷ xs) (y ∷ ys) → (x < y) ⊎ ((x ≡ y) × AtMost xs ys)
 unfolding order
@@ -36,7 +35,7 @@ at_most_cons x y xs ys h = go (ltb x y) refl (ltb y x) refl
         let k = ltb-false x y e in
         let m = ltb-false y x f in
         let q : x ≡ y = omega arith in
-        inr (q, λ (o : order xs ys ≡ More). h (rw (numbers_same x y q) o))
+        inr (q, λ (o : order xs ys ≡ Greater). h (rw (numbers_same x y q) o))
 
 -- what stands between two lists that begin alike begins like them
 between : (m : ℕ) (a b c : List ℕ) → m ≤ length a → take m a ≡ take m c → AtMost a b → AtMost b c → take m b ≡ take m a
@@ -99,6 +98,6 @@ module _ (s : List ℕ) (p : ℕ) (ok : macro_at_ok s p ≡ true) where
   pub body_named : has_owned_name 0 s p ≡ true
   body_named = let b = (without_owner 0 s p unowned).before in rw b (has_name_lem 0 s p tested.0.0 (omega arith))
 
-pub macros_named : (s : List ℕ) → macro_layout s ≡ Good → first_bad (has_owned_name 0 s) (places s) ≡ Good
+pub macros_named : (s : List ℕ) → macro_layout s ≡ None → first_bad (has_owned_name 0 s) (places s) ≡ None
 unfolding macro_layout
 macros_named s g = all_named (macro_at_ok s) (has_owned_name 0 s) (body_named s) (places s) (limit_good s (first_bad (macro_at_ok s) (places s)) g).1

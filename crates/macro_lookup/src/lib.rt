@@ -3,13 +3,11 @@
 
 ghost use Rattle.std.specs.Prelude.{◌≡◌, true, ◌≤◌, length};
 ghost use Rattle.record.specs.Bytes.{same_bytes};
-ghost use Rattle.record.specs.declared.Layout.TheVariants.{Good};
 ghost use Rattle.record.specs.Records.{places};
 ghost use Rattle.name_index.specs.Index.{IndexOf};
 ghost use Rattle.macros.specs.Macros.{name_at, name_ok, macro_layout, macro_repeat};
 ghost use Rattle.macro_lookup.specs.Lookup.{CalleeIs};
 
-use names::Repeat;
 
 // The most macros of a list: one has seven bytes at least.
 const MOST: usize = 9362;
@@ -28,7 +26,7 @@ fn is_named(list: &[u8], name: &[u8]) -> bool
 
 // The place of the last macro before `limit` that has the name, or `limit`.
 pub fn callee(macros: &[u8], limit: usize, name: &[u8]) -> usize
-    requires { (macro_layout macros.now ≡ Good) × (limit ≤ length macros.now) }
+    requires { (macro_layout macros.now ≡ None) × (limit ≤ length macros.now) }
     ensures { CalleeIs macros.now name.now limit result }
 {
     let mut found = limit;
@@ -56,12 +54,12 @@ fn same_name(list: &[u8], other: &[u8]) -> bool
 
 // The first macro that has the name of one above it, by an index of the list: in the order of their bytes, which begin with their names,
 // macros of one name are neighbours. `low` is the least place of those that have the name at hand.
-fn repeat_in(macros: &[u8], index: &[u16]) -> Repeat
-    requires { (macro_layout macros.now ≡ Good) × IndexOf 0 macros.now index.now }
+fn repeat_in(macros: &[u8], index: &[u16]) -> Option<usize>
+    requires { (macro_layout macros.now ≡ None) × IndexOf 0 macros.now index.now }
     ensures { result ≡ macro_repeat macros.now }
 {
     if index.len() == 0 {
-        return Repeat::None;
+        return None;
     }
     let mut best = macros.len();
     let mut low = record::widened(index[0]);
@@ -81,14 +79,14 @@ fn repeat_in(macros: &[u8], index: &[u16]) -> Repeat
         }
     }
     if best < macros.len() {
-        return Repeat::Later(best);
+        return Some(best);
     }
-    Repeat::None
+    None
 }
 
 // The same, by an index made in the first array; the other is scratch.
-fn repeat_by(macros: &[u8], index: &mut [u16], spare: &mut [u16]) -> Repeat
-    requires macros_value { macro_layout macros.now ≡ Good }
+fn repeat_by(macros: &[u8], index: &mut [u16], spare: &mut [u16]) -> Option<usize>
+    requires macros_value { macro_layout macros.now ≡ None }
     requires macros_in_bounds { (length (places macros.now) ≤ length index.old) × (length (places macros.now) ≤ length spare.old) }
     ensures { result ≡ macro_repeat macros.now }
 {
@@ -97,8 +95,8 @@ fn repeat_by(macros: &[u8], index: &mut [u16], spare: &mut [u16]) -> Repeat
 }
 
 // The first macro that has the name of one above it. A short list has small arrays.
-pub fn first_repeat(macros: &[u8]) -> Repeat
-    requires { macro_layout macros.now ≡ Good }
+pub fn first_repeat(macros: &[u8]) -> Option<usize>
+    requires { macro_layout macros.now ≡ None }
     ensures { result ≡ macro_repeat macros.now }
 {
     if macros.len() <= 7 * FEW {

@@ -1,15 +1,14 @@
 -- A buffer over its limit is refused, however long it is. Assumes nothing.
-use Rattle.std.specs.Prelude.{ℕ, ◌<◌, min, List, Bool, true, false, ◌≡◌, refl, leb, length, take, replicate}
+use Rattle.std.specs.Prelude.{ℕ, ◌<◌, min, List, Bool, true, false, ◌≡◌, refl, leb, length, take, replicate, Err, Ok}
 use Rattle.std.proofs.Common.{arith, sym, ap, ◌∙◌, length-take, leb-true, leb-false}
 use Rattle.std.proofs.lemmas.List.{length-replicate}
 use Rattle.record.specs.Records.{limit}
-use Rattle.refusal.specs.declared.Verdict.{Verdict}
-use Rattle.refusal.specs.declared.Verdict.TheVariants.{Pass, Stop}
 use Rattle.token_text.proofs.TokenTextLaws.{take_replicate}
 use Rattle.written_out.specs.Outcome.{write_out_outcome}
 use Rattle.write_out.specs.Entry.{stop_by}
 use Rattle.write_out.proofs.EntryLaws.{passed, stopped_outcome, long_same}
 use Rattle.macro_text.specs.MacroText.{outcome_text}
+use Rattle.refusal.specs.Verdicts.{Verdict}
 
 module _ (tokens macros : List ℕ) where
   abbrev shown : List ℕ → List ℕ
@@ -19,8 +18,8 @@ module _ (tokens macros : List ℕ) where
   long_text a b h k = go (stop_by tokens macros (length a)) refl
     where
       go : (v : Verdict) → stop_by tokens macros (length a) ≡ v → shown a ≡ shown b
-      go Pass e = absurd (omega (arith, (passed tokens macros a e).room))
-      go (Stop r) e =
+      go (Ok tt) e = absurd (omega (arith, (passed tokens macros a e).room))
+      go (Err r) e =
           ap outcome_text (stopped_outcome tokens macros a r e)
           ∙ sym (ap outcome_text (stopped_outcome tokens macros b r (long_same tokens macros (length b) (length a) k h ∙ e)))
 

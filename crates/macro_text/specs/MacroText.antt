@@ -1,17 +1,16 @@
 -- What `expand` prints (document 02, P8), in the lines that docs/DECISIONS.md gives. Assumes nothing.
-use Rattle.std.specs.Prelude.{ℕ, List, take, replicate}
+use Rattle.std.specs.Prelude.{ℕ, List, take, replicate, Err, Ok, Result}
 use Rattle.refusal.specs.Numbers.{numbered}
 use Rattle.input.specs.Input.{list_of, behind_lists, word_or_zero}
 use Rattle.text.specs.Text.{refused_line}
 use Rattle.token_text.specs.TokenText.{tokens_line}
-use Rattle.written_out.specs.declared.WriteOutAnswer.{WriteOutAnswer}
-use Rattle.written_out.specs.declared.WriteOutAnswer.TheVariants.{Written, Refused}
 use Rattle.written_out.specs.Outcome.{WriteOutOutcome, write_out_outcome}
+use Rattle.refusal.specs.declared.Refusal.{Refusal}
 
 -- `tokens` and the filled part in hexadecimal, or "A refusal prints alone"
-abbrev pub answer_text : WriteOutAnswer → List ℕ → List ℕ
-answer_text (Written fill) out = tokens_line (take fill out)
-answer_text (Refused r) out = refused_line (numbered r)
+abbrev pub answer_text : Result ℕ Refusal → List ℕ → List ℕ
+answer_text (Ok fill) out = tokens_line (take fill out)
+answer_text (Err r) out = refused_line (numbered r)
 
 abbrev pub outcome_text : WriteOutOutcome → List ℕ
 outcome_text o = answer_text o.answer o.out

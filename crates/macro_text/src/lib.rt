@@ -6,7 +6,6 @@ ghost use Rattle.text.specs.Text.{Put};
 ghost use Rattle.written_out.specs.Outcome.{write_out_outcome};
 ghost use Rattle.macro_text.specs.MacroText.{outcome_text, expand_text};
 
-use written_out::WriteOutAnswer;
 
 // The written-out tokens, or the refusal alone.
 fn put_written(out: &mut [u8], tokens: &[u8], macros: &[u8], written: &mut [u8]) -> usize
@@ -14,8 +13,8 @@ fn put_written(out: &mut [u8], tokens: &[u8], macros: &[u8], written: &mut [u8])
     ensures { Put out.old 0 (outcome_text (write_out_outcome tokens.now macros.now written.old)) out.new result }
 {
     match write_out::write_out(tokens, macros, &mut *written) {
-        WriteOutAnswer::Written(fill) => token_text::put_tokens(out, &written[..fill as usize]),
-        WriteOutAnswer::Refused(refusal) => text::put_refusal(out, 0, refusal::numbers(refusal)),
+        Ok(fill) => token_text::put_tokens(out, &written[..fill as usize]),
+        Err(refusal) => text::put_refusal(out, 0, refusal::numbers(refusal)),
     }
 }
 

@@ -1,5 +1,5 @@
 -- Laws of token records in a part of a list, and from a place of it on. Assumes nothing.
-use Rattle.std.specs.Prelude.{ℕ, ◌+◌, ◌≤◌, ◌≡◌, refl, length, take}
+use Rattle.std.specs.Prelude.{ℕ, ◌+◌, ◌≤◌, ◌≡◌, refl, length, take, None}
 use Rattle.std.proofs.Common.{arith, ◌∙◌, length-drop, take-append-drop, length-take-le}
 use mathlib.Core.List.{List, [], ◌∷◌, ◌++◌, map}
 use Rattle.std.proofs.Math.Path.{sym, ap, ap₂}
@@ -9,7 +9,6 @@ use Rattle.record.proofs.BehindLaws.{le16_before, le16_behind, part_before, part
 use Rattle.record.proofs.OneMoreLaws.{is_whole}
 use Rattle.record.specs.Records.{body_len, kind_at, next, places_from, first_bad}
 use Rattle.record.proofs.RecordsLaws.{places_all}
-use Rattle.record.specs.declared.Layout.TheVariants.{Good}
 use Rattle.lexer.specs.Tokens.{TokenIs, token_ok, token_layout}
 use Rattle.token_bytes.proofs.BehindLaws.{behind, places_behind, good_behind}
 use Rattle.line_heads.specs.Lines.{record_at, records_of}
@@ -92,7 +91,7 @@ module _ (s : List ℕ) (i : ℕ) (h : i ≤ length s) where
       ∙ records_behind (take i s) (drop i s) (places_from (drop i s) 0)
       ∙ sym (ap (map (record_at (drop i s))) (places_all (drop i s)))
 
-  pub good_drop : token_layout (drop i s) ≡ Good → first_bad (token_ok s) (places_from s i) ≡ Good
+  pub good_drop : token_layout (drop i s) ≡ None → first_bad (token_ok s) (places_from s i) ≡ None
   good_drop g =
       ap₂ (λ (x : List ℕ) (n : ℕ). first_bad (token_ok x) (places_from x n)) split here
       ∙ ap (first_bad (token_ok (take i s ++ drop i s))) (places_behind (take i s) (drop i s))

@@ -1,8 +1,7 @@
 -- Tokens by their places: a place is one of the token list, or its length plus one of the macro list. Assumes nothing.
-use Rattle.std.specs.Prelude.{ℕ, ◌+◌, ◌-◌, ◌*◌, ◌≤◌, ◌<◌, List, [], map, Bool, true, false, ◌≡◌, length, get_or, ltb, eqb}
+use Rattle.std.specs.Prelude.{ℕ, ◌+◌, ◌-◌, ◌*◌, ◌≤◌, ◌<◌, List, [], map, Bool, true, false, ◌≡◌, length, get_or, ltb, eqb, None}
 use Rattle.record.specs.Bytes.{all}
 use Rattle.record.specs.Records.{kind_at, places_from, first_bad, limit}
-use Rattle.record.specs.declared.Layout.TheVariants.{Good}
 use Rattle.lexer.specs.Tokens.{text_of, token_ok, TokenIs}
 use Rattle.line_heads.specs.Lines.{record_at}
 use Rattle.macros.specs.Macros.{name_at, name_ok, name_places, index_of}
@@ -58,4 +57,4 @@ pub record ReadableFrom (text macros list : List ℕ) (b : Body) (at : ℕ) : Ty
   pub args_in : (i : ℕ) → i < b.count → TokenIn text macros (get_or b.args i 0)
   pub own_in : (p : ℕ) → p < length list → TokenIs list p → TokenIn text macros (b.base + p)
   pub own_is : (p : ℕ) → p < length list → TokenIs list p → token_record text macros (b.base + p) ≡ record_at list p
-  pub good : first_bad (token_ok list) (places_from list at) ≡ Good
+  pub good : first_bad (token_ok list) (places_from list at) ≡ None

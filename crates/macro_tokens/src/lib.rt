@@ -5,7 +5,6 @@ ghost use Rattle.std.specs.Prelude.{◌≡◌, ◌+◌, ◌*◌, ◌≤◌, leng
 ghost use Rattle.record.specs.Bytes.{location_at};
 ghost use Rattle.record.specs.Records.{kind_at, limit};
 ghost use Rattle.record.specs.Stores.{append};
-ghost use Rattle.record.specs.declared.Layout.TheVariants.{Good};
 ghost use Rattle.lexer.specs.Tokens.{TokenIs, text_of};
 ghost use Rattle.line_heads.specs.Lines.{starts_colon};
 ghost use Rattle.macros.specs.Macros.{macro_layout};
@@ -84,7 +83,7 @@ pub fn location_of(text: &[u8], macros: &[u8], place: usize) -> Location
 
 // The macro before `limit` that the token's text names, or `limit`.
 fn callee_of(text: &[u8], macros: &[u8], limit: usize, place: usize) -> usize
-    requires { TokenIn text.now macros.now place × (macro_layout macros.now ≡ Good) × (limit ≤ length macros.now) }
+    requires { TokenIn text.now macros.now place × (macro_layout macros.now ≡ None) × (limit ≤ length macros.now) }
     ensures { CalleeIs macros.now (text_of (token_record text.now macros.now place) 0) limit result }
 {
     if place < text.len() {
@@ -211,7 +210,7 @@ fn act_leading(
     kind: usize,
     colon: bool,
 ) -> Act
-    requires { TokenIn text.now macros.now place × (macro_layout macros.now ≡ Good) × (limit ≤ length macros.now) × (kind ≡ kind_at (token_record text.now macros.now place) 0) }
+    requires { TokenIn text.now macros.now place × (macro_layout macros.now ≡ None) × (limit ≤ length macros.now) × (kind ≡ kind_at (token_record text.now macros.now place) 0) }
     ensures { ActIs macros.now limit (leading_of (above macros.now limit) (token_record text.now macros.now place) colon) result }
 {
     if kind == 13 {
@@ -245,7 +244,7 @@ pub fn act_at(
     place: usize,
     next: usize,
 ) -> Act
-    requires token_in { TokenIn text.now macros.now place × (macro_layout macros.now ≡ Good) × (limit ≤ length macros.now) }
+    requires token_in { TokenIn text.now macros.now place × (macro_layout macros.now ≡ None) × (limit ≤ length macros.now) }
     requires readable_from { ReadableFrom text.now macros.now list.now body next }
     ensures { ActIs macros.now limit (act_of (above macros.now limit) mode (token_record text.now macros.now place) (read_from text.now macros.now list.now body next)) result }
 {

@@ -1,12 +1,11 @@
 -- Laws of a body's Parameters. Assumes nothing.
-use Rattle.std.specs.Prelude.{ℕ, ◌+◌, ◌-◌, ◌≤◌, ◌<◌, Bool, true, false, not, ◌&&◌, ◌||◌, ◌≡◌, length, eqb, ltb}
+use Rattle.std.specs.Prelude.{ℕ, ◌+◌, ◌-◌, ◌≤◌, ◌<◌, Bool, true, false, not, ◌&&◌, ◌||◌, ◌≡◌, length, eqb, ltb, None}
 use Rattle.std.proofs.Common.{arith, sym, ◌∙◌, eq-eqb, ne_eqb}
 use mathlib.Core.List.{List, map}
 use Rattle.std.proofs.Math.Path.{ap}
 use Rattle.record.specs.Bytes.{part}
 use Rattle.record.specs.Records.{kind_at, next, first_bad}
 use Rattle.record.proofs.RecordsLaws.{layout_from, places_all, good_ok}
-use Rattle.record.specs.declared.Layout.TheVariants.{Good}
 use Rattle.lexer.specs.Tokens.{payload_len, text_of, token_ok, TokenIs, token_layout}
 use Rattle.lexer.proofs.TokensLaws.{token_good, token_is}
 use Rattle.line_heads.specs.Lines.{record_at, records_of, is_parameter}
@@ -51,8 +50,8 @@ module _ (ps : List (List ℕ)) (s : List ℕ) where
   known_next at h is e = ap (known ps) (records_step s at h is) ∙ ap (λ (b : Bool). b && known_from (next s at)) e
 
 -- ---- a list of tokens that keeps its layout, from a place on
-pub good_first : (s : List ℕ) → token_layout s ≡ Good → layout_from (token_ok s) s 0 ≡ Good
+pub good_first : (s : List ℕ) → token_layout s ≡ None → layout_from (token_ok s) s 0 ≡ None
 good_first s g = sym (ap (first_bad (token_ok s)) (places_all s)) ∙ (token_good s g).1
 
-pub token_here : (s : List ℕ) (at : ℕ) → at < length s → layout_from (token_ok s) s at ≡ Good → TokenIs s at
+pub token_here : (s : List ℕ) (at : ℕ) → at < length s → layout_from (token_ok s) s at ≡ None → TokenIs s at
 token_here s at h g = token_is s at (good_ok (token_ok s) s at h g)

@@ -1,5 +1,5 @@
 -- Laws of the layout of a macro list: each way that the test of a macro goes. Assumes nothing.
-use Rattle.std.specs.Prelude.{ℕ, ◌+◌, ◌-◌, ◌≤◌, ◌<◌, List, map, Bool, true, false, ◌&&◌, ◌≡◌, length, take, drop, leb, ltb}
+use Rattle.std.specs.Prelude.{ℕ, ◌+◌, ◌-◌, ◌≤◌, ◌<◌, List, map, Bool, true, false, ◌&&◌, ◌≡◌, length, take, drop, leb, ltb, None, Option, Some}
 use Rattle.std.proofs.Common.{arith, sym, ◌∙◌, length-drop, take_all, lt-ltb, le-ltb, le-leb, ltb-true, leb-true, eq-eqb, ne_eqb}
 use Rattle.std.proofs.Math.Bool.{and-eq-true_iff}
 use Rattle.std.proofs.Math.Path.{refl, ap, ap₂}
@@ -8,8 +8,6 @@ use Rattle.std.proofs.lemmas.Bool.{lt-leb}
 use Rattle.record.specs.Bytes.{part, all}
 use Rattle.record.specs.Records.{body_len, kind_at, next, whole, places, first_bad, limit}
 use Rattle.record.proofs.RecordsLaws.{layout_from, places_all, limit_kept, limit_passed}
-use Rattle.record.specs.declared.Layout.{Layout}
-use Rattle.record.specs.declared.Layout.TheVariants.{Good, Bad}
 use Rattle.lexer.specs.Tokens.{token_layout}
 use Rattle.line_heads.specs.Lines.{records_of}
 use Rattle.macros.specs.Macros.{name_at, behind_name, name_ok, behind_names, count_of, parameter_places, body_tokens, macro_of, different, known, is_good, macro_ok, body_at, macro_at_ok, macro_layout}
@@ -88,11 +86,11 @@ pub record Parts (b : List ℕ) : Type 0 where
   pub counted : behind_name b 0 < length b
   pub few : count_of b ≤ 8
   pub names_ok : all (name_ok b) (parameter_places b) ≡ true
-  pub tokens_good : token_layout (body_tokens b) ≡ Good
+  pub tokens_good : token_layout (body_tokens b) ≡ None
 
-pub good_is : (l : Layout) → is_good l ≡ true → l ≡ Good
-good_is Good e = refl
-good_is (Bad p) e = cc
+pub good_is : (l : Option ℕ) → is_good l ≡ true → l ≡ None
+good_is None e = refl
+good_is (Some p) e = cc
 
 pub parts_of : (b : List ℕ) → macro_ok b ≡ true → Parts b
 parts_of b e =
@@ -138,7 +136,7 @@ pub macro_kept : (s : List ℕ) → length s ≤ limit → macro_layout s ≡ la
 unfolding macro_layout
 macro_kept s h = limit_kept s (first_bad (macro_at_ok s) (places s)) h ∙ ap (first_bad (macro_at_ok s)) (places_all s)
 
-pub macro_passed : (s : List ℕ) → limit < length s → macro_layout s ≡ Bad limit
+pub macro_passed : (s : List ℕ) → limit < length s → macro_layout s ≡ Some limit
 unfolding macro_layout
 macro_passed s h = limit_passed s (first_bad (macro_at_ok s) (places s)) h
 

@@ -1,11 +1,8 @@
 -- Macro records, kind 40 (document 02, P8). Assumes nothing.
-use Rattle.std.specs.Prelude.{ℕ, zero, suc, ◌+◌, List, [], ◌∷◌, map, Bool, true, false, not, ◌&&◌, ◌||◌, length, drop, leb, ltb, eqb}
+use Rattle.std.specs.Prelude.{ℕ, zero, suc, ◌+◌, List, [], ◌∷◌, map, Bool, true, false, not, ◌&&◌, ◌||◌, length, drop, leb, ltb, eqb, None, Option, Some}
 use Rattle.record.specs.Bytes.{byte_at, part, is_text, all, same_bytes}
 use Rattle.record.specs.Records.{body_len, kind_at, whole, places, first_bad, within_limit}
-use Rattle.record.specs.declared.Layout.{Layout}
-use Rattle.record.specs.declared.Layout.TheVariants.{Good, Bad}
 use Rattle.names.specs.Names.{first_later}
-use Rattle.names.specs.declared.Repeat.{Repeat}
 use Rattle.lexer.specs.Tokens.{text_of, token_layout}
 use Rattle.line_heads.specs.Lines.{is_parameter, records_of}
 use Rattle.macros.specs.declared.Head.{Head}
@@ -79,9 +76,9 @@ unfolding index_of
 known parameters [] = true
 known parameters (t ∷ ts) = knows parameters t && known parameters ts
 
-abbrev pub is_good : Layout → Bool
-is_good Good = true
-is_good (Bad p) = false
+abbrev pub is_good : Option ℕ → Bool
+is_good None = true
+is_good (Some p) = false
 
 -- "up to 8 different parameters"
 abbrev pub names_ok : List ℕ → Bool
@@ -103,7 +100,7 @@ unfolding macro_ok
 macro_at_ok s at = whole s at && eqb (kind_at s at) 40 && macro_ok (body_at s at)
 
 -- refusal 1: the first record that is no macro
-unfoldable pub macro_layout : List ℕ → Layout
+unfoldable pub macro_layout : List ℕ → Option ℕ
 unfolding macro_at_ok first_bad places within_limit
 macro_layout s = within_limit s (first_bad (macro_at_ok s) (places s))
 
@@ -116,7 +113,7 @@ macros_of s = map (λ (p : ℕ). macro_of (body_at s p)) (places s)
 abbrev pub same_macro : List ℕ → (p q : ℕ) → Bool
 same_macro s p q = same_bytes (name_at (body_at s q) 0) (name_at (body_at s p) 0)
 
-unfoldable pub macro_repeat : List ℕ → Repeat
+unfoldable pub macro_repeat : List ℕ → Option ℕ
 unfolding first_later places
 macro_repeat s = first_later (same_macro s) (places s) (places s)
 

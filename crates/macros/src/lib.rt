@@ -3,12 +3,10 @@
 
 ghost use Rattle.std.specs.Prelude.{◌≡◌, true, map, ◌+◌, ◌≤◌, ◌<◌, length};
 ghost use Rattle.record.specs.Bytes.{all};
-ghost use Rattle.record.specs.declared.Layout.TheVariants.{Good};
 ghost use Rattle.lexer.specs.Tokens.{TokenIs, token_layout};
 ghost use Rattle.line_heads.specs.Lines.{record_at, records_of};
 ghost use Rattle.macros.specs.Macros.{name_at, behind_name, name_ok, name_places, behind_names, index_of, different, knows, known, is_good, macro_ok, macro_at_ok, macro_layout, head_of};
 
-use record::Layout;
 
 // "up to 8 different parameters"
 pub const MOST: usize = 8;
@@ -122,7 +120,7 @@ fn token_known(list: &[u8], count: usize, names: usize, body: &[u8], at: usize) 
 
 // Whether each Parameter of the tokens is one of the `count` from `names` on.
 fn all_known(list: &[u8], count: usize, names: usize, body: &[u8]) -> bool
-    requires { (all (name_ok list.now) (name_places count list.now names) ≡ true) × (token_layout body.now ≡ Good) }
+    requires { (all (name_ok list.now) (name_places count list.now names) ≡ true) × (token_layout body.now ≡ None) }
     ensures { result ≡ known (map (name_at list.now) (name_places count list.now names)) (records_of body.now) }
 {
     let mut at: usize = 0;
@@ -135,12 +133,12 @@ fn all_known(list: &[u8], count: usize, names: usize, body: &[u8]) -> bool
     true
 }
 
-fn is_good(layout: Layout) -> bool
+fn is_good(layout: Option<usize>) -> bool
     ensures { result ≡ is_good layout }
 {
     match layout {
-        Layout::Good => true,
-        Layout::Bad(_) => false,
+        None => true,
+        Some(_) => false,
     }
 }
 
@@ -188,20 +186,20 @@ fn macro_at_ok(list: &[u8], at: usize) -> bool
 }
 
 // The place of the first record that is no macro, or the limit.
-pub fn first_bad_macro(list: &[u8]) -> Layout
+pub fn first_bad_macro(list: &[u8]) -> Option<usize>
     ensures { result ≡ macro_layout list.now }
 {
     if list.len() > record::LIMIT {
-        return Layout::Bad(record::LIMIT);
+        return Some(record::LIMIT);
     }
     let mut at: usize = 0;
     while at < list.len() {
         if !macro_at_ok(list, at) {
-            return Layout::Bad(at);
+            return Some(at);
         }
         at = record::next(list, at);
     }
-    Layout::Good
+    None
 }
 
 // Where the names of a macro's parameters, and its body, stand in its bytes.

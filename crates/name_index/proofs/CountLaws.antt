@@ -1,17 +1,16 @@
 -- How many records a list has whose records have a number of bytes at least. Assumes nothing.
-use Rattle.std.specs.Prelude.{ℕ, ◌+◌, ◌*◌, ◌≤◌, List, [], ◌∷◌, Bool, true, ◌≡◌, length}
+use Rattle.std.specs.Prelude.{ℕ, ◌+◌, ◌*◌, ◌≤◌, List, [], ◌∷◌, Bool, true, ◌≡◌, length, None}
 use Rattle.std.proofs.Common.{arith, add-mul, ⊎_elim, sym, ap, ◌∙◌}
 use Rattle.std.proofs.lemmas.Bool.{false≢true}
 use Rattle.record.specs.Records.{body_len, next, whole, places, places_from, first_bad}
 use Rattle.record.proofs.RecordsLaws.{places_all, places_cons, whole_is, first_good}
-use Rattle.record.specs.declared.Layout.TheVariants.{Good}
 
 -- a test that is passed by no record with fewer bytes
 abbrev pub AtLeast : (least : ℕ) → List ℕ → (ℕ → Bool) → Type 0
 AtLeast least s ok = (p : ℕ) → ok p ≡ true → (whole s p ≡ true) × (least ≤ 4 + body_len s p)
 
 module _ (least : ℕ) (s : List ℕ) (ok : ℕ → Bool) (h : AtLeast least s ok) where
-  count_from : (at : ℕ) (ps : List ℕ) → places_from s at ≡ ps → at ≤ length s → first_bad ok ps ≡ Good → at + length ps * least ≤ length s
+  count_from : (at : ℕ) (ps : List ℕ) → places_from s at ≡ ps → at ≤ length s → first_bad ok ps ≡ None → at + length ps * least ≤ length s
   count_from at [] e k g = omega arith
   count_from at (q ∷ ps) e k g =
       let c = places_cons s at q ps e in
@@ -23,5 +22,5 @@ module _ (least : ℕ) (s : List ℕ) (ok : ℕ → Bool) (h : AtLeast least s o
       (λ w. absurd (false≢true (sym w.0 ∙ r.0)))
       c.2
 
-  pub count_at_least : first_bad ok (places s) ≡ Good → length (places s) * least ≤ length s
+  pub count_at_least : first_bad ok (places s) ≡ None → length (places s) * least ≤ length s
   count_at_least g = omega (arith, count_from 0 (places s) (sym (places_all s)) (omega arith) g)

@@ -1,26 +1,22 @@
 -- Laws of an index: what it says of repeated names. Assumes nothing.
-use Rattle.std.specs.Prelude.{ℕ, ◌+◌, ◌-◌, ◌≤◌, ◌<◌, List, ◌⊎◌, Bool, true, false, not, ◌≡◌, refl, length, get_or, ltb, eqb}
+use Rattle.std.specs.Prelude.{ℕ, ◌+◌, ◌-◌, ◌≤◌, ◌<◌, List, ◌⊎◌, Bool, true, false, not, ◌≡◌, refl, length, get_or, ltb, eqb, None, Option, Some}
 use Rattle.std.proofs.Common.{arith, inl, inr, ⊎_elim, sym, ap, ap₂, ◌∙◌, below_more, ltb-true, ltb-false, eq-eqb, eqb-true}
 use Rattle.std.proofs.Math.Bool.{and-eq-true_iff}
 use Rattle.std.proofs.lemmas.Bool.{false≢true}
 use Rattle.record.specs.Bytes.{same_bytes}
 use Rattle.record.proofs.BytesLaws.{same_eq, eq_same}
 use Rattle.record.specs.Records.{places, first_bad}
-use Rattle.record.specs.declared.Layout.TheVariants.{Good}
 use Rattle.names.specs.Names.{is_at, first_where}
 use Rattle.names.specs.Owners.{owner_of, owned_name, has_owned_name, is_owned, same_owned, owned_repeat}
-use Rattle.names.specs.declared.Named.{Named}
-use Rattle.names.specs.declared.Named.TheVariants.{At, Missing}
-use Rattle.names.specs.declared.Repeat.TheVariants.{None, Later}
 use Rattle.name_order.specs.Order.{Key, key_order}
 use Rattle.name_order.proofs.OrderLaws.{key_same, key_trans}
-use Rattle.name_order.specs.declared.Ordered.TheVariants.{Less}
 use Rattle.name_sort.specs.Sorting.{In}
 use Rattle.name_sort.proofs.SortingLaws.{in_at, at_in, sorted_at}
 use Rattle.name_sort.specs.Before.{key_of, before}
 use Rattle.name_sort.proofs.BeforeLaws.{before_is}
 use Rattle.name_index.specs.Index.{IndexOf, owned_first}
 use Rattle.name_index.proofs.PlacesLaws.{all_ok, rising, once, apart, within, none_later, least_later, least_where, where_least}
+use Rattle.std.specs.declared.cmp.Ordering.TheVariants.{Less}
 
 never : {A : Type 0} → ◌≡◌ {A = ℕ} 0 1 → A
 never z = absurd (omega arith)
@@ -38,9 +34,9 @@ module _ (skip : ℕ) (s : List ℕ) (owner : ℕ) (name : List ℕ) (p : ℕ) w
       let o : owner_of skip s p ≡ owner = ap (λ (k : Key). k.1) e in
       (and-eq-true_iff (eqb (owner_of skip s p) owner) (same_bytes (owned_name skip s p) name)).1 (eq-eqb (owner_of skip s p) owner o, rw n (eq_same name))
 
-pub is_at_lem : (x : Named) (p : ℕ) → is_at x p ≡ true → x ≡ At p
-is_at_lem (At q) p e = ap At (eqb-true q p e)
-is_at_lem Missing p e = never (cc)
+pub is_at_lem : (x : Option ℕ) (p : ℕ) → is_at x p ≡ true → x ≡ Some p
+is_at_lem (Some q) p e = ap Some (eqb-true q p e)
+is_at_lem None p e = never (cc)
 
 -- `best` is the least of the index's first i that is not, or the list's end where each is
 pub record LeastRepeat (skip : ℕ) (s l : List ℕ) (i best : ℕ) : Type 0 where
@@ -59,7 +55,7 @@ module _ (skip : ℕ) (s l : List ℕ) (ix : IndexOf skip s l) where
   at_list i h = in_list (get_or l i 0) (in_at l i h)
 
   -- each has a record with a name
-  pub named_at : first_bad (has_owned_name skip s) (places s) ≡ Good → (i : ℕ) → i < length l → has_owned_name skip s (get_or l i 0) ≡ true
+  pub named_at : first_bad (has_owned_name skip s) (places s) ≡ None → (i : ℕ) → i < length l → has_owned_name skip s (get_or l i 0) ≡ true
   named_at n i h = all_ok (has_owned_name skip s) (places s) n (get_or l i 0) (at_list i h)
 
   abbrev pub key_at : ℕ → Key
@@ -80,7 +76,7 @@ module _ (skip : ℕ) (s l : List ℕ) (ix : IndexOf skip s l) where
   pub first_is : (i : ℕ) → i < length l → ((k : ℕ) → k < i → key_order (key_at k) (key_at i) ≡ Less) → owned_first skip s (get_or l i 0) ≡ true
   first_is i h b =
       let p = get_or l i 0 in
-      ap (λ (x : Named). is_at x p) (least_where (same_owned skip s p) (places s) (rising s) p (at_list i h) (key_owned skip s (owner_of skip s p) (owned_name skip s p) p refl) least)
+      ap (λ (x : Option ℕ). is_at x p) (least_where (same_owned skip s p) (places s) (rising s) p (at_list i h) (key_owned skip s (owner_of skip s p) (owned_name skip s p) p refl) least)
       ∙ eq-eqb p p refl
     where
       least : (q : ℕ) → In q (places s) → same_owned skip s (get_or l i 0) q ≡ true → get_or l i 0 ≤ q
@@ -164,7 +160,7 @@ module _ (skip : ℕ) (s l : List ℕ) (ix : IndexOf skip s l) where
           let r = at_in l q (in_index q m) in
           rw r.2 at (b.least r.0 (omega (arith, r.1)) r.1 (ap (owned_first skip s) r.2 ∙ e))
 
-      pub repeat_found : best < length s → owned_repeat skip s ≡ Later best
+      pub repeat_found : best < length s → owned_repeat skip s ≡ Some best
       repeat_found k =
           ⊎_elim (λ e. absurd (omega arith))
           (λ t. least_later (same_owned skip s) (places s) (places s) (rising s) best (in_list best t.0) t.1 all) b.is

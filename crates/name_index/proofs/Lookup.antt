@@ -1,10 +1,8 @@
 -- A lookup through an index finds what the straight scan finds, with as many comparisons of names as the index may be halved (document 02, P13). Assumes nothing.
-use Rattle.std.specs.Prelude.{ℕ, ◌+◌, ◌^◌, ◌≤◌, ◌<◌, List, Bool, true, false, ◌≡◌, refl, length, get_or, eqb}
+use Rattle.std.specs.Prelude.{ℕ, ◌+◌, ◌^◌, ◌≤◌, ◌<◌, List, Bool, true, false, ◌≡◌, refl, length, get_or, eqb, None, Some}
 use Rattle.std.proofs.Common.{arith, ap, ◌∙◌, eq-eqb, ne_eqb}
 use Rattle.record.specs.Bytes.{same_bytes}
 use Rattle.names.specs.Owners.{owner_of, owned_name, is_owned, first_owned, owned_repeat}
-use Rattle.names.specs.declared.Named.TheVariants.{At}
-use Rattle.names.specs.declared.Repeat.TheVariants.{None}
 use Rattle.name_index.specs.declared.Looked.{Looked}
 use Rattle.name_index.specs.Index.{IndexOf, standing, lookup_from, told}
 use Rattle.name_index.proofs.IndexLaws.{owned_key}
@@ -48,5 +46,5 @@ module _ (skip : ℕ) (s : List ℕ) (owner : ℕ) (name : List ℕ) (p c : ℕ)
 
 -- a record of the index that has the owner and the name is the one that the scan finds
 pub owned_at : (skip : ℕ) (s l : List ℕ) → IndexOf skip s l → owned_repeat skip s ≡ None
-    → (owner : ℕ) (name : List ℕ) (i : ℕ) → i < length l → is_owned skip s owner name (get_or l i 0) ≡ true → first_owned skip s owner name ≡ At (get_or l i 0)
+    → (owner : ℕ) (name : List ℕ) (i : ℕ) → i < length l → is_owned skip s owner name (get_or l i 0) ≡ true → first_owned skip s owner name ≡ Some (get_or l i 0)
 owned_at skip s l ix none owner name i h t = only skip s l ix owner name none i h (owned_key skip s owner name (get_or l i 0) t)

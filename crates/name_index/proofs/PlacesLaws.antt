@@ -1,5 +1,5 @@
 -- The places of a list rise, so a search by place among them finds the least. Assumes nothing.
-use Rattle.std.specs.Prelude.{ℕ, zero, suc, ◌+◌, ◌≤◌, ◌<◌, Bool, ◌≡◌, length, get_or, take, drop, set, ltb, eqb}
+use Rattle.std.specs.Prelude.{ℕ, zero, suc, ◌+◌, ◌≤◌, ◌<◌, Bool, ◌≡◌, length, get_or, take, drop, set, ltb, eqb, None, Some}
 use Rattle.std.proofs.Common.{arith, add-one, ⊎_elim, sym, ap, ◌∙◌, take-suc-set, drop-set-lt, drop-drop, ltb-true, lt-ltb, eq-eqb, eqb-true}
 use mathlib.Core.List.{List, [], ◌∷◌, ◌++◌, append_assoc, append-nil}
 use Rattle.std.proofs.Math.Bool.{true, false}
@@ -7,13 +7,10 @@ use Rattle.std.proofs.lemmas.Bool.{false≢true}
 use Rattle.std.proofs.Math.Path.{refl}
 use Rattle.record.specs.Records.{next, places, places_from, first_bad}
 use Rattle.record.proofs.RecordsLaws.{places_all, places_cons, places_end, places_step, good_next, good_at}
-use Rattle.record.specs.declared.Layout.TheVariants.{Good}
 use Rattle.names.specs.Names.{first_where, first_later, is_first}
 use Rattle.names.proofs.NamesLaws.{where_hit, where_pass, later_hit, later_pass}
 use Rattle.names.specs.Owners.{has_owned_name}
 use Rattle.names.proofs.OwnersLaws.{good_owned}
-use Rattle.names.specs.declared.Named.TheVariants.{At, Missing}
-use Rattle.names.specs.declared.Repeat.TheVariants.{None, Later}
 use Rattle.name_sort.specs.Sorting.{one, count, In, Sorted, none, more}
 use Rattle.name_sort.proofs.SortingLaws.{in_head, in_tail, in_cons, not_in, in_at, at_in}
 
@@ -65,7 +62,7 @@ apart (x ∷ l) o zero (suc j) h k e =
 apart (x ∷ l) o (suc i) (suc j) h k e = apart l (λ v. let a = o v in omega arith) i j (omega arith) (omega arith) e
 
 -- ---- what a test that passes at each place says of them
-pub all_ok : (ok : ℕ → Bool) (ps : List ℕ) → first_bad ok ps ≡ Good → (p : ℕ) → In p ps → ok p ≡ true
+pub all_ok : (ok : ℕ → Bool) (ps : List ℕ) → first_bad ok ps ≡ None → (p : ℕ) → In p ps → ok p ≡ true
 all_ok ok ps g p k = let i = at_in ps p k in ap ok (sym i.2) ∙ good_at ok ps g i.0 i.1
 
 -- ---- the least place that is no first is the later of two
@@ -76,12 +73,12 @@ module _ (same : ℕ → ℕ → Bool) (list : List ℕ) where
   none_later (q ∷ ps) h = later_pass same list q ps (h q (in_head q ps)) ∙ none_later ps (λ p k. h p (in_tail p q ps k))
 
   pub least_later : (ps : List ℕ) → Rising ps → (p : ℕ) → In p ps → is_first same list p ≡ false → ((q : ℕ) → In q ps → is_first same list q ≡ false → p ≤ q)
-      → first_later same list ps ≡ Later p
+      → first_later same list ps ≡ Some p
   least_later [] r p k e m = absurd (not_in p k)
   least_later (q ∷ ps) (more f r) p k e m = ⊎_elim (λ h. rw h (later_hit same list q ps (rw h at e)))
       (λ t. go t (is_first same list q) refl (least_later ps r p t e (λ v i. m v (in_tail v q ps i)))) (in_cons p q ps k)
     where
-      go : In p ps → (b : Bool) → is_first same list q ≡ b → first_later same list ps ≡ Later p → first_later same list (q ∷ ps) ≡ Later p
+      go : In p ps → (b : Bool) → is_first same list q ≡ b → first_later same list ps ≡ Some p → first_later same list (q ∷ ps) ≡ Some p
       go t true g ih = later_pass same list q ps g ∙ ih
       go t false g ih =
           let a = m q (in_head q ps) g in
@@ -99,21 +96,21 @@ module _ (same : ℕ → ℕ → Bool) (list : List ℕ) where
 
 -- ---- the least place that passes a test is the first
 module _ (test : ℕ → Bool) where
-  pub none_where : (ps : List ℕ) → ((q : ℕ) → In q ps → test q ≡ true → ⊥) → first_where test ps ≡ Missing
+  pub none_where : (ps : List ℕ) → ((q : ℕ) → In q ps → test q ≡ true → ⊥) → first_where test ps ≡ None
   unfolding first_where
   none_where [] h = refl
   none_where (q ∷ ps) h = go (test q) refl (none_where ps (λ p k. h p (in_tail p q ps k)))
     where
-      go : (b : Bool) → test q ≡ b → first_where test ps ≡ Missing → first_where test (q ∷ ps) ≡ Missing
+      go : (b : Bool) → test q ≡ b → first_where test ps ≡ None → first_where test (q ∷ ps) ≡ None
       go true e ih = absurd (h q (in_head q ps) e)
       go false e ih = where_pass test q ps e ∙ ih
 
-  pub least_where : (ps : List ℕ) → Rising ps → (p : ℕ) → In p ps → test p ≡ true → ((q : ℕ) → In q ps → test q ≡ true → p ≤ q) → first_where test ps ≡ At p
+  pub least_where : (ps : List ℕ) → Rising ps → (p : ℕ) → In p ps → test p ≡ true → ((q : ℕ) → In q ps → test q ≡ true → p ≤ q) → first_where test ps ≡ Some p
   least_where [] r p k e m = absurd (not_in p k)
   least_where (q ∷ ps) (more f r) p k e m = ⊎_elim (λ h. rw h (where_hit test q ps (rw h at e)))
       (λ t. go t (test q) refl (least_where ps r p t e (λ v i. m v (in_tail v q ps i)))) (in_cons p q ps k)
     where
-      go : In p ps → (b : Bool) → test q ≡ b → first_where test ps ≡ At p → first_where test (q ∷ ps) ≡ At p
+      go : In p ps → (b : Bool) → test q ≡ b → first_where test ps ≡ Some p → first_where test (q ∷ ps) ≡ Some p
       go t false g ih = where_pass test q ps g ∙ ih
       go t true g ih =
           let a = m q (in_head q ps) g in
@@ -121,11 +118,11 @@ module _ (test : ℕ → Bool) where
           absurd (omega arith)
 
   -- what is found is the least place that passes
-  pub where_least : (ps : List ℕ) → Rising ps → (p : ℕ) → first_where test ps ≡ At p → (q : ℕ) → In q ps → test q ≡ true → p ≤ q
+  pub where_least : (ps : List ℕ) → Rising ps → (p : ℕ) → first_where test ps ≡ Some p → (q : ℕ) → In q ps → test q ≡ true → p ≤ q
   where_least [] r p e q k f = absurd (not_in q k)
   where_least (x ∷ ps) (more h r) p e q k f = go (test x) refl (where_least ps r p)
     where
-      go : (b : Bool) → test x ≡ b → (first_where test ps ≡ At p → (q : ℕ) → In q ps → test q ≡ true → p ≤ q) → p ≤ q
+      go : (b : Bool) → test x ≡ b → (first_where test ps ≡ Some p → (q : ℕ) → In q ps → test q ≡ true → p ≤ q) → p ≤ q
       go true g ih =
           let u : x ≡ p = cc (where_hit test x ps g) in
           ⊎_elim (λ v. omega arith) (λ t. let w = ltb-true x q (h q t) in omega arith) (in_cons q x ps k)
@@ -140,12 +137,12 @@ module _ (test : ℕ → Bool) where
 -- those before `at` are written, and the list's records go on there
 pub record Filling (skip : ℕ) (s index : List ℕ) (at n : ℕ) : Type 0 where
   pub in_s : at ≤ length s
-  pub named : first_bad (has_owned_name skip s) (places_from s at) ≡ Good
+  pub named : first_bad (has_owned_name skip s) (places_from s at) ≡ None
   pub room : n + length (places_from s at) ≡ length (places s)
   pub rest : take n index ++ places_from s at ≡ places s
 
 module _ (skip : ℕ) (s : List ℕ) where
-  pub filling_start : (index : List ℕ) → first_bad (has_owned_name skip s) (places s) ≡ Good → Filling skip s index 0 0
+  pub filling_start : (index : List ℕ) → first_bad (has_owned_name skip s) (places s) ≡ None → Filling skip s index 0 0
   filling_start index g =
       record { in_s = omega arith; named = rw places_all at g; room = omega (arith, ap length (places_all s)); rest = sym (places_all s) }
 

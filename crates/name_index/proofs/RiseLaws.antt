@@ -1,32 +1,30 @@
 -- Laws of a list whose names rise: none repeats another, and one pass says so. Assumes nothing.
-use Rattle.std.specs.Prelude.{ℕ, ◌≤◌, ◌<◌, Bool, true, false, ◌&&◌, ◌≡◌, refl, length}
+use Rattle.std.specs.Prelude.{ℕ, ◌≤◌, ◌<◌, Bool, true, false, ◌&&◌, ◌≡◌, refl, length, None}
 use Rattle.std.proofs.Common.{arith, ◌∙◌}
 use mathlib.Core.List.{List, [], ◌∷◌}
 use Rattle.std.proofs.Math.Path.{ap}
 use Rattle.record.specs.Records.{next, places, places_from, first_bad}
 use Rattle.record.proofs.RecordsLaws.{places_all, places_end, places_step, good_ok, good_next}
-use Rattle.record.specs.declared.Layout.TheVariants.{Good}
 use Rattle.names.specs.Owners.{has_owned_name, same_owned, owned_repeat}
 use Rattle.names.proofs.OwnersLaws.{good_owned}
-use Rattle.names.specs.declared.Repeat.TheVariants.{None}
 use Rattle.name_order.specs.Order.{key_order}
 use Rattle.name_order.proofs.OrderLaws.{key_trans}
-use Rattle.name_order.specs.declared.Ordered.{Ordered}
-use Rattle.name_order.specs.declared.Ordered.TheVariants.{Less, Same, More}
 use Rattle.name_sort.specs.Sorting.{Sorted, none, more, in_order}
 use Rattle.name_sort.proofs.SortingLaws.{at_in, sorted_at, sorted_already}
 use Rattle.name_sort.specs.Before.{key_of, decided, before}
 use Rattle.name_index.specs.Index.{IndexOf, is_less, below, names_rise}
 use Rattle.name_index.proofs.PlacesLaws.{none_later}
 use Rattle.name_index.proofs.IndexLaws.{first_is}
+use Rattle.std.specs.declared.cmp.Ordering.TheVariants.{Less, Equal, Greater}
+use Rattle.std.specs.declared.cmp.Ordering.{Ordering}
 
 never : {A : Type 0} → ◌≡◌ {A = ℕ} 0 1 → A
 never z = absurd (omega arith)
 
-is_less_lem : (o : Ordered) → is_less o ≡ true → o ≡ Less
+is_less_lem : (o : Ordering) → is_less o ≡ true → o ≡ Less
 is_less_lem Less e = refl
-is_less_lem Same e = never (cc)
-is_less_lem More e = never (cc)
+is_less_lem Equal e = never (cc)
+is_less_lem Greater e = never (cc)
 
 sorted_too : (f g : ℕ → ℕ → Bool) → ((x y : ℕ) → f x y ≡ true → g x y ≡ true) → (l : List ℕ) → Sorted f l → Sorted g l
 sorted_too f g h [] none = none
@@ -42,7 +40,7 @@ module _ (skip : ℕ) (s : List ℕ) where
 
   below_before : (p q : ℕ) → below skip s p q ≡ true → before skip s p q ≡ true
   unfolding before
-  below_before p q e = ap (λ (o : Ordered). decided o p q) (below_key p q e)
+  below_before p q e = ap (λ (o : Ordering). decided o p q) (below_key p q e)
 
   -- where the names rise, the places are the index, and each record is the first of its owner and name
   pub rise_none : names_rise skip s ≡ true → owned_repeat skip s ≡ None
@@ -60,7 +58,7 @@ module _ (skip : ℕ) (s : List ℕ) where
 pub record Passed (skip : ℕ) (s : List ℕ) (last at : ℕ) : Type 0 where
   pub in_s : at ≤ length s
   pub last_named : has_owned_name skip s last ≡ true
-  pub named : first_bad (has_owned_name skip s) (places_from s at) ≡ Good
+  pub named : first_bad (has_owned_name skip s) (places_from s at) ≡ None
   pub rest : names_rise skip s ≡ in_order (below skip s) (last ∷ places_from s at)
 
 module _ (skip : ℕ) (s : List ℕ) where
@@ -68,7 +66,7 @@ module _ (skip : ℕ) (s : List ℕ) where
   unfolding in_order
   rise_empty h = ap (in_order (below skip s)) (places_all s ∙ places_end s 0 h)
 
-  passed_from : (at : ℕ) → at < length s → first_bad (has_owned_name skip s) (places_from s at) ≡ Good → names_rise skip s ≡ in_order (below skip s) (places_from s at) → Passed skip s at (next s at)
+  passed_from : (at : ℕ) → at < length s → first_bad (has_owned_name skip s) (places_from s at) ≡ None → names_rise skip s ≡ in_order (below skip s) (places_from s at) → Passed skip s at (next s at)
   passed_from at h g e =
       let r = good_owned skip s at h g in
       record {
@@ -78,7 +76,7 @@ module _ (skip : ℕ) (s : List ℕ) where
         rest = e ∙ ap (in_order (below skip s)) (places_step s at h r.whole_at);
       }
 
-  pub passed_start : 0 < length s → first_bad (has_owned_name skip s) (places s) ≡ Good → Passed skip s 0 (next s 0)
+  pub passed_start : 0 < length s → first_bad (has_owned_name skip s) (places s) ≡ None → Passed skip s 0 (next s 0)
   passed_start h g = passed_from 0 h (rw places_all at g) (ap (in_order (below skip s)) (places_all s))
 
   module _ (last at : ℕ) (p : Passed skip s last at) where

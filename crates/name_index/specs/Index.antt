@@ -1,26 +1,25 @@
 -- An ordered index of a list of records, and a search in it (document 02, P13). Assumes nothing.
-use Rattle.std.specs.Prelude.{ℕ, zero, suc, ◌+◌, ◌-◌, ◌/◌, List, Bool, true, false, length, get_or, ltb, eqb}
+use Rattle.std.specs.Prelude.{ℕ, zero, suc, ◌+◌, ◌-◌, ◌/◌, List, Bool, true, false, length, get_or, ltb, eqb, None, Some}
 use Rattle.record.specs.Bytes.{same_bytes}
 use Rattle.record.specs.Records.{places}
 use Rattle.names.specs.Owners.{owner_of, owned_name, same_owned}
-use Rattle.names.specs.declared.Named.TheVariants.{At, Missing}
 use Rattle.name_order.specs.Order.{key_order}
-use Rattle.name_order.specs.declared.Ordered.{Ordered}
-use Rattle.name_order.specs.declared.Ordered.TheVariants.{Less, Same, More}
 use Rattle.name_sort.specs.Sorting.{SortOf, in_order}
 use Rattle.name_sort.specs.Before.{key_of, before}
 use Rattle.name_index.specs.declared.Looked.{Looked}
 use Rattle.name_index.specs.declared.Told.{Told}
 use Rattle.names.specs.Names.{is_first}
+use Rattle.std.specs.declared.cmp.Ordering.TheVariants.{Less, Equal, Greater}
+use Rattle.std.specs.declared.cmp.Ordering.{Ordering}
 
 -- "an ordered index": the places of the list's records, each as often as there, by name, then by owner, then by place
 abbrev pub IndexOf : ℕ → List ℕ → List ℕ → Type 0
 IndexOf skip s l = SortOf (before skip s) (places s) l
 
-abbrev pub is_less : Ordered → Bool
+abbrev pub is_less : Ordering → Bool
 is_less Less = true
-is_less Same = false
-is_less More = false
+is_less Equal = false
+is_less Greater = false
 
 -- the name and owner of the record at p go before those of the record at q
 abbrev pub below : ℕ → List ℕ → ℕ → ℕ → Bool
@@ -35,25 +34,25 @@ middle lo hi = lo + (hi - lo) / 2
 
 -- A search among those of the index from lo on and before hi, after c comparisons of names: the middle one is compared, and what is left is
 -- searched before it or behind it. At most `fuel` comparisons are made.
-unfoldable pub search_f : (fuel : ℕ) → (stands : ℕ → Ordered) → (index : List ℕ) → (lo hi c : ℕ) → Looked
-search_f zero stands index lo hi c = record { named = Missing; compared = c; end = lo }
+unfoldable pub search_f : (fuel : ℕ) → (stands : ℕ → Ordering) → (index : List ℕ) → (lo hi c : ℕ) → Looked
+search_f zero stands index lo hi c = record { named = None; compared = c; end = lo }
 search_f (suc f) stands index lo hi c =
     elim (ltb lo hi) [
-      | false ↦ record { named = Missing; compared = c; end = lo }
+      | false ↦ record { named = None; compared = c; end = lo }
       | true ↦
           elim (stands (get_or index (middle lo hi) 0)) [
             | Less ↦ search_f f stands index (middle lo hi + 1) hi (c + 1)
-            | Same ↦ record { named = At (get_or index (middle lo hi) 0); compared = c + 1; end = middle lo hi }
-            | More ↦ search_f f stands index lo (middle lo hi) (c + 1)
+            | Equal ↦ record { named = Some (get_or index (middle lo hi) 0); compared = c + 1; end = middle lo hi }
+            | Greater ↦ search_f f stands index lo (middle lo hi) (c + 1)
           ]
     ]
 
-unfoldable pub search_from : (stands : ℕ → Ordered) → (index : List ℕ) → (lo hi c : ℕ) → Looked
+unfoldable pub search_from : (stands : ℕ → Ordering) → (index : List ℕ) → (lo hi c : ℕ) → Looked
 unfolding search_f
 search_from stands index lo hi c = search_f (hi - lo) stands index lo hi c
 
 -- how a record stands to a name of an owner
-abbrev pub standing : ℕ → List ℕ → (owner : ℕ) → (name : List ℕ) → ℕ → Ordered
+abbrev pub standing : ℕ → List ℕ → (owner : ℕ) → (name : List ℕ) → ℕ → Ordering
 standing skip s owner name p = key_order (key_of skip s p) (name, owner)
 
 -- "a lookup through an ordered index, returning its count of name comparisons"; c have been made before

@@ -7,14 +7,13 @@ ghost use Rattle.names.specs.Owners.{has_owned_name, owned_repeat};
 ghost use Rattle.name_index.specs.Index.{IndexOf, below, names_rise, standing, told, lookup_from, lookup};
 ghost use Rattle.name_index.specs.Index.{owned_first};
 
-use name_order::Ordered;
-use names::{Named, Repeat};
-use record::Layout;
+use std::cmp::Ordering;
+
 
 // Where a name stands, how many names were compared to find it, and where in the index the search ended.
 #[derive(Clone, Copy)]
 pub struct Looked {
-    pub named: Named,
+    pub named: Option<usize>,
     pub compared: u32,
     pub end: usize,
 }
@@ -22,7 +21,7 @@ pub struct Looked {
 // How a record stands to a name of an owner, and how many names have been compared by then.
 #[derive(Clone, Copy)]
 struct Standing {
-    ordered: Ordered,
+    ordered: Ordering,
     compared: u32,
 }
 
@@ -35,7 +34,7 @@ pub struct Told {
 
 // Writes the places of the list's records, and answers their count. What stands behind them stays.
 pub fn fill(list: &[u8], skip: usize, index: &mut [u16]) -> usize
-    requires list_value { first_bad (has_owned_name skip list.now) (places list.now) ≡ Layout.Good }
+    requires list_value { first_bad (has_owned_name skip list.now) (places list.now) ≡ None }
     requires list_len_bound { (length list.now ≤ limit) × (length (places list.now) ≤ length index.old) }
     ensures { (result ≡ length (places list.now)) × (take result index.new ≡ places list.now) × (drop result index.new ≡ drop result index.old) }
 {
@@ -61,15 +60,15 @@ fn is_below(list: &[u8], skip: usize, p: usize, q: usize) -> bool
         names::owner_at(list, skip, q),
         names::name_at(list, skip, q),
     ) {
-        Ordered::Less => true,
-        Ordered::Same => false,
-        Ordered::More => false,
+        Ordering::Less => true,
+        Ordering::Equal => false,
+        Ordering::Greater => false,
     }
 }
 
 // Whether each record's name and owner go before the next one's: then none repeats another, and no index is needed to say so.
 pub fn rises(list: &[u8], skip: usize) -> bool
-    requires { first_bad (has_owned_name skip list.now) (places list.now) ≡ Layout.Good }
+    requires { first_bad (has_owned_name skip list.now) (places list.now) ≡ None }
     ensures { result ≡ names_rise skip list.now }
 {
     if list.len() == 0 {
@@ -89,7 +88,7 @@ pub fn rises(list: &[u8], skip: usize) -> bool
 
 // Makes the index of the list's records, and answers their count; `spare` is scratch.
 pub fn make(list: &[u8], skip: usize, index: &mut [u16], spare: &mut [u16]) -> usize
-    requires list_value { first_bad (has_owned_name skip list.now) (places list.now) ≡ Layout.Good }
+    requires list_value { first_bad (has_owned_name skip list.now) (places list.now) ≡ None }
     requires list_len_bound { (length list.now ≤ limit) × (length (places list.now) ≤ length index.old) × (length (places list.now) ≤ length spare.old) }
     ensures { (result ≡ length (places list.now)) × IndexOf skip list.now (take result index.new) }
 {
@@ -134,7 +133,7 @@ pub fn find_from(
     name: &[u8],
     before: u32,
 ) -> Looked
-    requires list_value { first_bad (has_owned_name skip list.now) (places list.now) ≡ Layout.Good }
+    requires list_value { first_bad (has_owned_name skip list.now) (places list.now) ≡ None }
     requires index_of { IndexOf skip list.now index.now × (length index.now < 65536) × (before < 65536) }
     ensures { result ≡ lookup_from skip list.now index.now owner name.now before }
 {
@@ -148,23 +147,23 @@ pub fn find_from(
         let ordered = told.ordered;
         compared = told.compared;
         match ordered {
-            Ordered::Less => {
+            Ordering::Less => {
                 lo = mid + 1;
             }
-            Ordered::Same => {
+            Ordering::Equal => {
                 return Looked {
-                    named: Named::At(p),
+                    named: Some(p),
                     compared,
                     end: mid,
                 };
             }
-            Ordered::More => {
+            Ordering::Greater => {
                 hi = mid;
             }
         }
     }
     Looked {
-        named: Named::Missing,
+        named: None,
         compared,
         end: lo,
     }
@@ -173,7 +172,7 @@ pub fn find_from(
 // The same where none has been compared before.
 #[tactic(auto, unfolding(crate::specs::Index::lookup))]
 pub fn find(list: &[u8], skip: usize, index: &[u16], owner: u32, name: &[u8]) -> Looked
-    requires list_value { first_bad (has_owned_name skip list.now) (places list.now) ≡ Layout.Good }
+    requires list_value { first_bad (has_owned_name skip list.now) (places list.now) ≡ None }
     requires index_of { IndexOf skip list.now index.now × (length index.now < 65536) }
     ensures { result ≡ lookup skip list.now index.now owner name.now }
 {
@@ -182,7 +181,7 @@ pub fn find(list: &[u8], skip: usize, index: &[u16], owner: u32, name: &[u8]) ->
 
 // Whether the record at the index's place `i` has the owner and name of an earlier one: equal ones are neighbours.
 fn repeats(list: &[u8], skip: usize, index: &[u16], i: usize) -> bool
-    requires list_value { first_bad (has_owned_name skip list.now) (places list.now) ≡ Layout.Good }
+    requires list_value { first_bad (has_owned_name skip list.now) (places list.now) ≡ None }
     requires index_of { IndexOf skip list.now index.now × (0 < i) × (i < length index.now) }
     ensures { owned_first skip list.now (get_or index.now i 0) ≡ not result }
 {
@@ -197,8 +196,8 @@ fn repeats(list: &[u8], skip: usize, index: &[u16], i: usize) -> bool
 }
 
 // The first record that shares its owner and name with an earlier one, by an index of the list's records.
-pub fn first_repeat(list: &[u8], skip: usize, index: &[u16]) -> Repeat
-    requires list_value { first_bad (has_owned_name skip list.now) (places list.now) ≡ Layout.Good }
+pub fn first_repeat(list: &[u8], skip: usize, index: &[u16]) -> Option<usize>
+    requires list_value { first_bad (has_owned_name skip list.now) (places list.now) ≡ None }
     requires index_of { IndexOf skip list.now index.now }
     ensures { result ≡ owned_repeat skip list.now }
 {
@@ -216,7 +215,7 @@ pub fn first_repeat(list: &[u8], skip: usize, index: &[u16]) -> Repeat
         }
     }
     if best < list.len() {
-        return Repeat::Later(best);
+        return Some(best);
     }
-    Repeat::None
+    None
 }

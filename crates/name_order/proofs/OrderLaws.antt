@@ -4,26 +4,26 @@ use Rattle.std.proofs.Common.{arith, add-one, inl, inr, ⊎_elim, sym, ap, ap₂
 use Rattle.std.proofs.Math.ListN.{drop_of_length-le}
 use Rattle.std.proofs.Math.Seq.{drop-cons}
 use Rattle.name_order.specs.Order.{then_by, numbers, order, Key, key_order}
-use Rattle.name_order.specs.declared.Ordered.{Ordered}
-use Rattle.name_order.specs.declared.Ordered.TheVariants.{Less, Same, More}
 use Rattle.name_order.specs.EightBytes.{Bytes, more, four, high_first}
+use Rattle.std.specs.declared.cmp.Ordering.TheVariants.{Less, Equal, Greater}
+use Rattle.std.specs.declared.cmp.Ordering.{Ordering}
 
 never : {A : Type 0} → ◌≡◌ {A = ℕ} 0 1 → A
 never z = absurd (omega arith)
 
-abbrev pub turned : Ordered → Ordered
-turned Less = More
-turned Same = Same
-turned More = Less
+abbrev pub turned : Ordering → Ordering
+turned Less = Greater
+turned Equal = Equal
+turned Greater = Less
 
 -- ---- numbers
 pub numbers_less : (x y : ℕ) → x < y → numbers x y ≡ Less
 numbers_less x y h = rw (lt-ltb x y h, numbers)
 
-pub numbers_more : (x y : ℕ) → y < x → numbers x y ≡ More
+pub numbers_more : (x y : ℕ) → y < x → numbers x y ≡ Greater
 numbers_more x y h = let k : y ≤ x = omega arith in rw (le-ltb x y k, numbers) (rw (lt-ltb y x h))
 
-pub numbers_same : (x y : ℕ) → x ≡ y → numbers x y ≡ Same
+pub numbers_same : (x y : ℕ) → x ≡ y → numbers x y ≡ Equal
 numbers_same x y h =
     let k : y ≤ x = omega arith in
     let l : x ≤ y = omega arith in
@@ -38,7 +38,7 @@ ways x y = go (ltb x y) refl (ltb y x) refl
     go false e true f = inr (inl (ltb-true y x f))
     go false e false f = let h = ltb-false x y e in let k = ltb-false y x f in inr (inr (omega arith))
 
-numbers_is : (x y : ℕ) → numbers x y ≡ Same → x ≡ y
+numbers_is : (x y : ℕ) → numbers x y ≡ Equal → x ≡ y
 numbers_is x y e =
     ⊎_elim (λ h. let m = numbers_less x y h in never (cc)) (⊎_elim (λ h. let m = numbers_more x y h in never (cc)) (λ h. h)) (ways x y)
 
@@ -56,28 +56,28 @@ numbers_turned x y =
     (ways x y)
 
 -- ---- one after the other
-then_same : (o p : Ordered) → then_by o p ≡ Same → (o ≡ Same) × (p ≡ Same)
+then_same : (o p : Ordering) → then_by o p ≡ Equal → (o ≡ Equal) × (p ≡ Equal)
 then_same Less p e = never (cc)
-then_same Same p e = (refl, e)
-then_same More p e = never (cc)
+then_same Equal p e = (refl, e)
+then_same Greater p e = never (cc)
 
-then_less : (o p : Ordered) → then_by o p ≡ Less → (o ≡ Less) ⊎ ((o ≡ Same) × (p ≡ Less))
+then_less : (o p : Ordering) → then_by o p ≡ Less → (o ≡ Less) ⊎ ((o ≡ Equal) × (p ≡ Less))
 then_less Less p e = inl refl
-then_less Same p e = inr (refl, e)
-then_less More p e = never (cc)
+then_less Equal p e = inr (refl, e)
+then_less Greater p e = never (cc)
 
-then_turned : (o p : Ordered) → then_by (turned o) (turned p) ≡ turned (then_by o p)
+then_turned : (o p : Ordering) → then_by (turned o) (turned p) ≡ turned (then_by o p)
 then_turned Less p = refl
-then_turned Same p = refl
-then_turned More p = refl
+then_turned Equal p = refl
+then_turned Greater p = refl
 
 -- ---- names
-pub order_same : (a : List ℕ) → order a a ≡ Same
+pub order_same : (a : List ℕ) → order a a ≡ Equal
 unfolding order
 order_same [] = refl
 order_same (x ∷ xs) = ap₂ then_by (numbers_same x x refl) (order_same xs)
 
-pub same_is : (a b : List ℕ) → order a b ≡ Same → a ≡ b
+pub same_is : (a b : List ℕ) → order a b ≡ Equal → a ≡ b
 unfolding order
 same_is [] [] e = refl
 same_is [] (y ∷ ys) e = never (cc)
@@ -117,10 +117,10 @@ less_trans (x ∷ xs) (y ∷ ys) (z ∷ zs) e f =
     (then_less (numbers x y) (order xs ys) e)
 
 -- ---- names with owners
-pub key_same : (a : Key) → key_order a a ≡ Same
+pub key_same : (a : Key) → key_order a a ≡ Equal
 key_same a = ap₂ then_by (order_same a.0) (numbers_same a.1 a.1 refl)
 
-pub key_is : (a b : Key) → key_order a b ≡ Same → a ≡ b
+pub key_is : (a b : Key) → key_order a b ≡ Equal → a ≡ b
 key_is a b e =
     let h = then_same (order a.0 b.0) (numbers a.1 b.1) e in
     ap₂ (λ (n : List ℕ) (o : ℕ). (n, o)) (same_is a.0 b.0 h.0) (numbers_is a.1 b.1 h.1)
@@ -142,7 +142,7 @@ key_trans a b c e f =
     ⊎_elim
     (λ k. let l : order a.0 c.0 ≡ Less = rw i k in rw l)
     (λ k.
-    let l : order a.0 c.0 ≡ Same = rw i k.0 in
+    let l : order a.0 c.0 ≡ Equal = rw i k.0 in
     let m = less_numbers a.1 b.1 h.1 in
     let n = less_numbers b.1 c.1 k.1 in
     rw l (numbers_less a.1 c.1 (omega arith)))
@@ -151,7 +151,7 @@ key_trans a b c e f =
 
 -- ---- names from a place on
 module _ (a b : List ℕ) (i : ℕ) where
-  pub order_ends : length a ≤ i → length b ≤ i → order (drop i a) (drop i b) ≡ Same
+  pub order_ends : length a ≤ i → length b ≤ i → order (drop i a) (drop i b) ≡ Equal
   unfolding order
   order_ends h k = rw (drop_of_length-le a h, drop_of_length-le b k)
 
@@ -159,7 +159,7 @@ module _ (a b : List ℕ) (i : ℕ) where
   unfolding order
   order_first_ends h k = rw (drop_of_length-le a h, drop-cons b i 0)
 
-  pub order_second_ends : i < length a → length b ≤ i → order (drop i a) (drop i b) ≡ More
+  pub order_second_ends : i < length a → length b ≤ i → order (drop i a) (drop i b) ≡ Greater
   unfolding order
   order_second_ends h k = rw (drop_of_length-le b k, drop-cons a i 0)
 
@@ -169,27 +169,27 @@ module _ (a b : List ℕ) (i : ℕ) where
     here = rw (add-one, drop-cons a i 0, drop-cons b i 0)
 
     pub order_less : get_or a i 0 < get_or b i 0 → order (drop i a) (drop i b) ≡ Less
-    order_less l = here ∙ ap (λ (o : Ordered). then_by o (order (drop (i + 1) a) (drop (i + 1) b))) (numbers_less (get_or a i 0) (get_or b i 0) l)
+    order_less l = here ∙ ap (λ (o : Ordering). then_by o (order (drop (i + 1) a) (drop (i + 1) b))) (numbers_less (get_or a i 0) (get_or b i 0) l)
 
-    pub order_more : get_or b i 0 < get_or a i 0 → order (drop i a) (drop i b) ≡ More
-    order_more l = here ∙ ap (λ (o : Ordered). then_by o (order (drop (i + 1) a) (drop (i + 1) b))) (numbers_more (get_or a i 0) (get_or b i 0) l)
+    pub order_more : get_or b i 0 < get_or a i 0 → order (drop i a) (drop i b) ≡ Greater
+    order_more l = here ∙ ap (λ (o : Ordering). then_by o (order (drop (i + 1) a) (drop (i + 1) b))) (numbers_more (get_or a i 0) (get_or b i 0) l)
 
     pub order_next : get_or a i 0 ≡ get_or b i 0 → order (drop i a) (drop i b) ≡ order (drop (i + 1) a) (drop (i + 1) b)
-    order_next e = here ∙ ap (λ (o : Ordered). then_by o (order (drop (i + 1) a) (drop (i + 1) b))) (numbers_same (get_or a i 0) (get_or b i 0) e)
+    order_next e = here ∙ ap (λ (o : Ordering). then_by o (order (drop (i + 1) a) (drop (i + 1) b))) (numbers_same (get_or a i 0) (get_or b i 0) e)
 
-then_then : (o p q : Ordered) → then_by o (then_by p q) ≡ then_by (then_by o p) q
+then_then : (o p q : Ordering) → then_by o (then_by p q) ≡ then_by (then_by o p) q
 then_then Less p q = refl
-then_then Same p q = refl
-then_then More p q = refl
+then_then Equal p q = refl
+then_then Greater p q = refl
 
 -- one byte more
 joined : (x y u v : ℕ) → u < 256 → v < 256 → numbers (x * 256 + u) (y * 256 + v) ≡ then_by (numbers x y) (numbers u v)
 joined x y u v a b =
     ⊎_elim
-    (λ h. numbers_less (x * 256 + u) (y * 256 + v) (omega arith) ∙ sym (ap (λ (o : Ordered). then_by o (numbers u v)) (numbers_less x y h)))
+    (λ h. numbers_less (x * 256 + u) (y * 256 + v) (omega arith) ∙ sym (ap (λ (o : Ordering). then_by o (numbers u v)) (numbers_less x y h)))
     (⊎_elim
-    (λ h. numbers_more (x * 256 + u) (y * 256 + v) (omega arith) ∙ sym (ap (λ (o : Ordered). then_by o (numbers u v)) (numbers_more x y h)))
-    (λ h. same h ∙ sym (ap (λ (o : Ordered). then_by o (numbers u v)) (numbers_same x y h))))
+    (λ h. numbers_more (x * 256 + u) (y * 256 + v) (omega arith) ∙ sym (ap (λ (o : Ordering). then_by o (numbers u v)) (numbers_more x y h)))
+    (λ h. same h ∙ sym (ap (λ (o : Ordering). then_by o (numbers u v)) (numbers_same x y h))))
     (ways x y)
   where
     same : x ≡ y → numbers (x * 256 + u) (y * 256 + v) ≡ numbers u v
@@ -202,7 +202,7 @@ joined x y u v a b =
         (ways u v)
 
 module _ (a b : List ℕ) (i : ℕ) (h : i + 8 ≤ length a) (k : i + 8 ≤ length b) (ba : Bytes a i) (bb : Bytes b i) where
-  abbrev rest : ℕ → Ordered
+  abbrev rest : ℕ → Ordering
   rest j = order (drop j a) (drop j b)
 
   -- a byte more is read
@@ -210,7 +210,7 @@ module _ (a b : List ℕ) (i : ℕ) (h : i + 8 ≤ length a) (k : i + 8 ≤ leng
   step x y j m u v e l =
       ap (then_by (numbers x y)) (here a b j (omega arith) (omega arith) ∙ ap (λ (m : ℕ). then_by (numbers (get_or a j 0) (get_or b j 0)) (rest m)) e)
       ∙ then_then (numbers x y) (numbers (get_or a j 0) (get_or b j 0)) (rest m)
-      ∙ ap (λ (o : Ordered). then_by o (rest m)) (sym (joined x y (get_or a j 0) (get_or b j 0) u v))
+      ∙ ap (λ (o : Ordering). then_by o (rest m)) (sym (joined x y (get_or a j 0) (get_or b j 0) u v))
 
   words : rest i ≡ then_by (numbers (high_first a i) (high_first b i)) (rest (i + 8))
   words =
@@ -224,10 +224,10 @@ module _ (a b : List ℕ) (i : ℕ) (h : i + 8 ≤ length a) (k : i + 8 ≤ leng
       ∙ step _ _ (i + 7) (i + 8) ba.eighth bb.eighth (omega arith) (omega arith)
 
   pub words_next : high_first a i ≡ high_first b i → rest i ≡ rest (i + 8)
-  words_next e = words ∙ ap (λ (o : Ordered). then_by o (rest (i + 8))) (numbers_same (high_first a i) (high_first b i) e)
+  words_next e = words ∙ ap (λ (o : Ordering). then_by o (rest (i + 8))) (numbers_same (high_first a i) (high_first b i) e)
 
   pub words_less : high_first a i < high_first b i → rest i ≡ Less
-  words_less e = words ∙ ap (λ (o : Ordered). then_by o (rest (i + 8))) (numbers_less (high_first a i) (high_first b i) e)
+  words_less e = words ∙ ap (λ (o : Ordering). then_by o (rest (i + 8))) (numbers_less (high_first a i) (high_first b i) e)
 
-  pub words_more : high_first b i < high_first a i → rest i ≡ More
-  words_more e = words ∙ ap (λ (o : Ordered). then_by o (rest (i + 8))) (numbers_more (high_first a i) (high_first b i) e)
+  pub words_more : high_first b i < high_first a i → rest i ≡ Greater
+  words_more e = words ∙ ap (λ (o : Ordering). then_by o (rest (i + 8))) (numbers_more (high_first a i) (high_first b i) e)

@@ -5,13 +5,7 @@ ghost use Rattle.std.specs.Prelude.{◌≡◌, ◌+◌, ◌≤◌, ◌<◌, min,
 ghost use Rattle.name_order.specs.Order.{numbers, order};
 ghost use Rattle.name_order.specs.EightBytes.{high_first, Bytes};
 
-// How one name or number stands to another.
-#[derive(Clone, Copy)]
-pub enum Ordered {
-    Less,
-    Same,
-    More,
-}
+use std::cmp::Ordering;
 
 // The eight bytes at `at` as a number, the first highest.
 fn high_first(s: &[u8], at: usize) -> u64
@@ -25,7 +19,7 @@ fn high_first(s: &[u8], at: usize) -> u64
 }
 
 // Where two names first differ the smaller byte goes first; a name goes before one that it begins. Names often begin alike: they are read by eight bytes.
-pub fn compare(a: &[u8], b: &[u8]) -> Ordered
+pub fn compare(a: &[u8], b: &[u8]) -> Ordering
     ensures { result ≡ order a.now b.now }
 {
     let n = smaller(a.len(), b.len());
@@ -35,9 +29,9 @@ pub fn compare(a: &[u8], b: &[u8]) -> Ordered
         let y = high_first(b, i);
         if x != y {
             if x < y {
-                return Ordered::Less;
+                return Ordering::Less;
             }
-            return Ordered::More;
+            return Ordering::Greater;
         }
         i += 8;
     }
@@ -45,7 +39,7 @@ pub fn compare(a: &[u8], b: &[u8]) -> Ordered
 }
 
 // The same of what is left of two names from `start` on, of which `n` is the smaller length.
-fn compare_from(a: &[u8], b: &[u8], n: usize, start: usize) -> Ordered
+fn compare_from(a: &[u8], b: &[u8], n: usize, start: usize) -> Ordering
     requires { (n ≡ min (length a.now) (length b.now)) × (start ≤ n) }
     ensures { result ≡ order (drop start a.now) (drop start b.now) }
 {
@@ -55,31 +49,31 @@ fn compare_from(a: &[u8], b: &[u8], n: usize, start: usize) -> Ordered
         let y = b[i];
         if x != y {
             if x < y {
-                return Ordered::Less;
+                return Ordering::Less;
             }
-            return Ordered::More;
+            return Ordering::Greater;
         }
         i += 1;
     }
     if i < b.len() {
-        return Ordered::Less;
+        return Ordering::Less;
     }
     if i < a.len() {
-        return Ordered::More;
+        return Ordering::Greater;
     }
-    Ordered::Same
+    Ordering::Equal
 }
 
-pub fn compare_numbers(x: u32, y: u32) -> Ordered
+pub fn compare_numbers(x: u32, y: u32) -> Ordering
     ensures { result ≡ numbers x y }
 {
     if x < y {
-        return Ordered::Less;
+        return Ordering::Less;
     }
     if y < x {
-        return Ordered::More;
+        return Ordering::Greater;
     }
-    Ordered::Same
+    Ordering::Equal
 }
 
 pub fn smaller(a: usize, b: usize) -> usize

@@ -1,5 +1,5 @@
 -- Laws of the names in a list of records. Assumes nothing.
-use Rattle.std.specs.Prelude.{ℕ, ◌+◌, ◌-◌, ◌<◌, ◌≤◌, Bool, length, leb}
+use Rattle.std.specs.Prelude.{ℕ, ◌+◌, ◌-◌, ◌<◌, ◌≤◌, Bool, length, leb, None, Option, Some}
 use mathlib.Core.List.{List, [], ◌∷◌}
 use Rattle.std.proofs.Math.Bool.{true, false, and-eq-true_iff}
 use Rattle.std.proofs.Math.Path.{◌≡◌, refl, ap}
@@ -7,11 +7,6 @@ use Rattle.std.proofs.Common.{sym, ap₂, ◌∙◌, length-take, length-drop, l
 use Rattle.record.specs.Bytes.{part}
 use Rattle.record.specs.Records.{body_len, next, whole, places, places_from, first_bad}
 use Rattle.record.proofs.RecordsLaws.{places_step, places_end, whole_is, first_pass, first_hit, first_good, first_place}
-use Rattle.record.specs.declared.Layout.TheVariants.{Good, Bad}
-use Rattle.names.specs.declared.Named.{Named}
-use Rattle.names.specs.declared.Named.TheVariants.{At, Missing}
-use Rattle.names.specs.declared.Repeat.{Repeat}
-use Rattle.names.specs.declared.Repeat.TheVariants.{Later}
 use Rattle.names.specs.Names.{name_of, has_name, first_where, is_at, first_later, is_first}
 
 -- what the test that a record has a name says, in facts
@@ -45,7 +40,7 @@ pub name_length : (skip : ℕ) (s : List ℕ) (at : ℕ) → HasNameIs skip s at
 name_length skip s at h = simp (length-take, length-drop) (omega (arith, h))
 
 -- where a test that implies a name passes at each place, each record has a name
-pub all_named : (ok named : ℕ → Bool) → ((p : ℕ) → ok p ≡ true → named p ≡ true) → (ps : List ℕ) → first_bad ok ps ≡ Good → first_bad named ps ≡ Good
+pub all_named : (ok named : ℕ → Bool) → ((p : ℕ) → ok p ≡ true → named p ≡ true) → (ps : List ℕ) → first_bad ok ps ≡ None → first_bad named ps ≡ None
 unfolding first_bad
 all_named ok named h [] g = refl
 all_named ok named h (p ∷ ps) g =
@@ -54,14 +49,14 @@ all_named ok named h (p ∷ ps) g =
 
 -- ---- the first record that passes a test, from a place on
 module _ (test : ℕ → Bool) where
-  abbrev pub where_from : List ℕ → ℕ → Named
+  abbrev pub where_from : List ℕ → ℕ → Option ℕ
   where_from s at = first_where test (places_from s at)
 
-  pub where_end : (s : List ℕ) (at : ℕ) → length s ≤ at → where_from s at ≡ Missing
+  pub where_end : (s : List ℕ) (at : ℕ) → length s ≤ at → where_from s at ≡ None
   unfolding first_where
   where_end s at h = rw (places_end s at h)
 
-  pub where_hit : (p : ℕ) (ps : List ℕ) → test p ≡ true → first_where test (p ∷ ps) ≡ At p
+  pub where_hit : (p : ℕ) (ps : List ℕ) → test p ≡ true → first_where test (p ∷ ps) ≡ Some p
   unfolding first_where
   where_hit p ps e = rw (e, first_where)
 
@@ -69,33 +64,33 @@ module _ (test : ℕ → Bool) where
   unfolding first_where
   where_pass p ps e = rw (e, first_where)
 
-  pub where_here : (s : List ℕ) (at : ℕ) → at < length s → whole s at ≡ true → test at ≡ true → where_from s at ≡ At at
+  pub where_here : (s : List ℕ) (at : ℕ) → at < length s → whole s at ≡ true → test at ≡ true → where_from s at ≡ Some at
   where_here s at h w e = ap (first_where test) (places_step s at h w) ∙ where_hit at (places_from s (next s at)) e
 
   pub where_next : (s : List ℕ) (at : ℕ) → at < length s → whole s at ≡ true → test at ≡ false → where_from s at ≡ where_from s (next s at)
   where_next s at h w e = ap (first_where test) (places_step s at h w) ∙ where_pass at (places_from s (next s at)) e
 
   -- the record that is found is one of those at the places, so what holds at each of them holds at it
-  pub named_ok : (ok : ℕ → Bool) (ps : List ℕ) (p : ℕ) → first_bad ok ps ≡ Good → first_where test ps ≡ At p → ok p ≡ true
+  pub named_ok : (ok : ℕ → Bool) (ps : List ℕ) (p : ℕ) → first_bad ok ps ≡ None → first_where test ps ≡ Some p → ok p ≡ true
   unfolding first_where
   named_ok ok [] p g e = let z : ◌≡◌ {A = ℕ} 0 1 = cc in absurd (omega arith)
   named_ok ok (q ∷ qs) p g e = go (test q) refl (named_ok ok qs p)
     where
-      go : (b : Bool) → test q ≡ b → (first_bad ok qs ≡ Good → first_where test qs ≡ At p → ok p ≡ true) → ok p ≡ true
+      go : (b : Bool) → test q ≡ b → (first_bad ok qs ≡ None → first_where test qs ≡ Some p → ok p ≡ true) → ok p ≡ true
       go true t ih =
           let hit : q ≡ p = cc (where_hit q qs t) in
           cc (first_good ok q qs g).0
       go false t ih = ih (first_good ok q qs g).1 (sym (where_pass q qs t) ∙ e)
 
 -- where two tests agree at each place, they find one record; where a test fails at each, it finds none
-pub where_agree : (ok f g : ℕ → Bool) → ((p : ℕ) → ok p ≡ true → f p ≡ g p) → (ps : List ℕ) → first_bad ok ps ≡ Good → first_where f ps ≡ first_where g ps
+pub where_agree : (ok f g : ℕ → Bool) → ((p : ℕ) → ok p ≡ true → f p ≡ g p) → (ps : List ℕ) → first_bad ok ps ≡ None → first_where f ps ≡ first_where g ps
 unfolding first_where
 where_agree ok f g h [] k = refl
 where_agree ok f g h (p ∷ ps) k =
     let t = first_good ok p ps k in
-    ap₂ (λ (b : Bool) (n : Named). elim b [ true ↦ At p | false ↦ n ]) (h p t.0) (where_agree ok f g h ps t.1)
+    ap₂ (λ (b : Bool) (n : Option ℕ). elim b [ true ↦ Some p | false ↦ n ]) (h p t.0) (where_agree ok f g h ps t.1)
 
-pub where_none : (ok f : ℕ → Bool) → ((p : ℕ) → ok p ≡ true → f p ≡ false) → (ps : List ℕ) → first_bad ok ps ≡ Good → first_where f ps ≡ Missing
+pub where_none : (ok f : ℕ → Bool) → ((p : ℕ) → ok p ≡ true → f p ≡ false) → (ps : List ℕ) → first_bad ok ps ≡ None → first_where f ps ≡ None
 unfolding first_where
 where_none ok f h [] k = refl
 where_none ok f h (p ∷ ps) k =
@@ -104,7 +99,7 @@ where_none ok f h (p ∷ ps) k =
 
 -- ---- the first record that is the same as an earlier one
 module _ (same : ℕ → ℕ → Bool) where
-  pub later_hit : (list : List ℕ) (p : ℕ) (ps : List ℕ) → is_first same list p ≡ false → first_later same list (p ∷ ps) ≡ Later p
+  pub later_hit : (list : List ℕ) (p : ℕ) (ps : List ℕ) → is_first same list p ≡ false → first_later same list (p ∷ ps) ≡ Some p
   unfolding first_later
   later_hit list p ps e = rw (e, first_later)
 
@@ -113,27 +108,27 @@ module _ (same : ℕ → ℕ → Bool) where
   later_pass list p ps e = rw (e, first_later)
 
   -- the later of two that are the same fails the test that it is the first
-  later_bad : (list ps : List ℕ) (p : ℕ) → first_later same list ps ≡ Later p → first_bad (is_first same list) ps ≡ Bad p
+  later_bad : (list ps : List ℕ) (p : ℕ) → first_later same list ps ≡ Some p → first_bad (is_first same list) ps ≡ Some p
   unfolding first_later
   later_bad list [] p e = let z : ◌≡◌ {A = ℕ} 0 1 = cc in absurd (omega arith)
   later_bad list (q ∷ qs) p e = go (is_first same list q) refl (later_bad list qs p)
     where
-      go : (b : Bool) → is_first same list q ≡ b → (first_later same list qs ≡ Later p → first_bad (is_first same list) qs ≡ Bad p) → first_bad (is_first same list) (q ∷ qs) ≡ Bad p
+      go : (b : Bool) → is_first same list q ≡ b → (first_later same list qs ≡ Some p → first_bad (is_first same list) qs ≡ Some p) → first_bad (is_first same list) (q ∷ qs) ≡ Some p
       go true f ih = first_pass (is_first same list) q qs f ∙ ih (sym (later_pass list q qs f) ∙ e)
       go false f ih =
           let h : q ≡ p = cc (later_hit list q qs f) in
-          first_hit (is_first same list) q qs f ∙ ap Bad h
+          first_hit (is_first same list) q qs f ∙ ap Some h
 
   -- and so its place is within the list
-  pub later_place : (s : List ℕ) (p : ℕ) → first_later same (places s) (places s) ≡ Later p → p ≤ length s
+  pub later_place : (s : List ℕ) (p : ℕ) → first_later same (places s) (places s) ≡ Some p → p ≤ length s
   later_place s p e = first_place (is_first same (places s)) s p (later_bad (places s) (places s) p e)
 
 pub later_agree : (ok : ℕ → Bool) (same other : ℕ → ℕ → Bool) → ((p q : ℕ) → ok p ≡ true → ok q ≡ true → same p q ≡ other p q)
-    → (list ps : List ℕ) → first_bad ok list ≡ Good → first_bad ok ps ≡ Good → first_later same list ps ≡ first_later other list ps
+    → (list ps : List ℕ) → first_bad ok list ≡ None → first_bad ok ps ≡ None → first_later same list ps ≡ first_later other list ps
 unfolding first_later
 later_agree ok same other h list [] k g = refl
 later_agree ok same other h list (p ∷ ps) k g =
     let t = first_good ok p ps g in
-    ap₂ (λ (n : Named) (r : Repeat). elim (is_at n p) [ true ↦ r | false ↦ Later p ])
+    ap₂ (λ (n : Option ℕ) (r : Option ℕ). elim (is_at n p) [ true ↦ r | false ↦ Some p ])
     (where_agree ok (same p) (other p) (λ q e. h p q t.0 e) list k)
     (later_agree ok same other h list ps k t.1)

@@ -1,9 +1,8 @@
 -- Laws of records of which some have an owner. Assumes nothing.
-use Rattle.std.specs.Prelude.{ℕ, ◌+◌, ◌≤◌, ◌<◌, List, Bool, true, false, ◌≡◌, refl, length}
+use Rattle.std.specs.Prelude.{ℕ, ◌+◌, ◌≤◌, ◌<◌, List, Bool, true, false, ◌≡◌, refl, length, None}
 use Rattle.std.proofs.Common.{arith}
 use Rattle.record.specs.Bytes.{le32}
 use Rattle.record.proofs.RecordsLaws.{layout_from, good_ok}
-use Rattle.record.specs.declared.Layout.TheVariants.{Good}
 use Rattle.names.proofs.NamesLaws.{HasNameIs, has_name_is}
 use Rattle.names.specs.Owners.{has_owner, for_all, owner_of, before_name, has_owned_name}
 
@@ -37,5 +36,5 @@ pub owned_is : (skip : ℕ) (s : List ℕ) (at : ℕ) → has_owned_name skip s 
 owned_is skip s at e = has_name_is (before_name skip s at) s at e
 
 -- where each record from `at` on has a name, the one at `at` has one
-pub good_owned : (skip : ℕ) (s : List ℕ) (at : ℕ) → at < length s → layout_from (has_owned_name skip s) s at ≡ Good → OwnedIs skip s at
+pub good_owned : (skip : ℕ) (s : List ℕ) (at : ℕ) → at < length s → layout_from (has_owned_name skip s) s at ≡ None → OwnedIs skip s at
 good_owned skip s at h g = owned_is skip s at (good_ok (has_owned_name skip s) s at h g)

@@ -1,5 +1,5 @@
 -- On a list without owners, owners are no part of an answer. Assumes nothing.
-use Rattle.std.specs.Prelude.{ℕ, List, Bool, true, ◌&&◌, not, ◌≡◌, eqb}
+use Rattle.std.specs.Prelude.{ℕ, List, Bool, true, ◌&&◌, not, ◌≡◌, eqb, None}
 use Rattle.std.proofs.Common.{ap, ap₂, ◌∙◌, ne_eqb}
 use Rattle.std.proofs.lemmas.Bool.{not-true}
 use Rattle.record.specs.Bytes.{same_bytes}
@@ -8,7 +8,6 @@ use Rattle.names.specs.Names.{name_of, has_name, is_named, same_named, first_nam
 use Rattle.names.proofs.NamesLaws.{where_agree, where_none, later_agree}
 use Rattle.names.specs.Owners.{has_owner, WithoutOwners, for_all, has_owned_name, is_owned, same_owned, first_owned, owned_repeat}
 use Rattle.names.proofs.OwnersLaws.{Without, without_owner}
-use Rattle.names.specs.declared.Named.TheVariants.{Missing}
 
 module _ (skip : ℕ) (s : List ℕ) where
   -- ---- of one record
@@ -34,7 +33,7 @@ module _ (skip : ℕ) (s : List ℕ) where
     pub straight_all : (name : List ℕ) → first_owned skip s for_all name ≡ first_named skip s name
     straight_all name = where_agree shared (is_owned skip s for_all name) (is_named skip s name) (shared_is for_all name) (places s) w
 
-    pub straight_owner : (owner : ℕ) (name : List ℕ) → (for_all ≡ owner → ⊥) → first_owned skip s owner name ≡ Missing
+    pub straight_owner : (owner : ℕ) (name : List ℕ) → (for_all ≡ owner → ⊥) → first_owned skip s owner name ≡ None
     straight_owner owner name h =
         where_none shared (is_owned skip s owner name)
         (λ p e. shared_is owner name p e ∙ ap (λ (b : Bool). b && is_named skip s name p) (ne_eqb for_all owner h)) (places s) w

@@ -1,11 +1,8 @@
 -- Names of records of which some have an owner (document 02, P6). Assumes nothing.
-use Rattle.std.specs.Prelude.{ℕ, ◌+◌, List, Bool, true, false, ◌&&◌, not, ◌≡◌, eqb}
+use Rattle.std.specs.Prelude.{ℕ, ◌+◌, List, Bool, true, false, ◌&&◌, not, ◌≡◌, eqb, None, Option}
 use Rattle.record.specs.Bytes.{le32, same_bytes}
 use Rattle.record.specs.Records.{kind_at, places, first_bad}
-use Rattle.record.specs.declared.Layout.TheVariants.{Good}
 use Rattle.names.specs.Names.{name_of, has_name, first_where, first_later}
-use Rattle.names.specs.declared.Named.{Named}
-use Rattle.names.specs.declared.Repeat.{Repeat}
 
 -- "a new kind 41 has a 4-byte owner after its address": behind the record's fixed fields, before its name
 abbrev pub has_owner : List ℕ → ℕ → Bool
@@ -13,7 +10,7 @@ has_owner s at = eqb (kind_at s at) 41
 
 -- no record of the list has one
 abbrev pub WithoutOwners : List ℕ → Type 0
-WithoutOwners s = first_bad (λ (p : ℕ). not (has_owner s p)) (places s) ≡ Good
+WithoutOwners s = first_bad (λ (p : ℕ). not (has_owner s p)) (places s) ≡ None
 
 -- "Kind 34 stays the label for all files"; "the owner (0xFFFFFFFF for all)"
 abbrev pub for_all : ℕ
@@ -37,12 +34,12 @@ has_owned_name skip s at = has_name (before_name skip s at) s at
 abbrev pub is_owned : ℕ → List ℕ → (owner : ℕ) → (name : List ℕ) → (at : ℕ) → Bool
 is_owned skip s owner name at = eqb (owner_of skip s at) owner && same_bytes (owned_name skip s at) name
 
-abbrev pub first_owned : ℕ → List ℕ → (owner : ℕ) → (name : List ℕ) → Named
+abbrev pub first_owned : ℕ → List ℕ → (owner : ℕ) → (name : List ℕ) → Option ℕ
 first_owned skip s owner name = first_where (is_owned skip s owner name) (places s)
 
 -- "Two labels of one name get refusal 2 only with the same owner or none."
 abbrev pub same_owned : ℕ → List ℕ → (p q : ℕ) → Bool
 same_owned skip s p = is_owned skip s (owner_of skip s p) (owned_name skip s p)
 
-abbrev pub owned_repeat : ℕ → List ℕ → Repeat
+abbrev pub owned_repeat : ℕ → List ℕ → Option ℕ
 owned_repeat skip s = first_later (same_owned skip s) (places s) (places s)

@@ -1,6 +1,5 @@
 -- What is asked for at a place of a line, and what reading it gives. Assumes nothing.
-use Rattle.std.specs.Prelude.{ℕ}
-use Rattle.std.proofs.Math.Option.{Option, none, some}
+use Rattle.std.specs.Prelude.{ℕ, Err, Ok, Result, Option, None, Some}
 use Rattle.registers.specs.declared.RegisterSlot.{RegisterSlot}
 use Rattle.registers.specs.declared.FPRegisterSlot.{FPRegisterSlot}
 use Rattle.address_label.specs.declared.AddressLabel.{AddressLabel}
@@ -13,8 +12,6 @@ use Rattle.operand.specs.declared.Want.{Want}
 use Rattle.operand.specs.declared.Want.TheVariants.{Register as a_register, FPRegister as an_fp_register, Code as a_code, Value as a_value, MaybeValue as maybe_value, Constant as a_constant, Label as a_label, OffsetOrLabel as an_offset, Nothing as nothing}
 use Rattle.operand.specs.declared.Operand.{Operand}
 use Rattle.operand.specs.declared.Operand.TheVariants.{Register, FPRegister, Code, Value, Constant, Label, Offset, Absent}
-use Rattle.operand.specs.declared.OperandAnswer.{OperandAnswer}
-use Rattle.operand.specs.declared.OperandAnswer.TheVariants.{Got as GotOperand, Missed as MissedOperand}
 
 -- what was read, or why nothing was
 pub data Answer (A : Type 0) : Type 0 where
@@ -39,22 +36,22 @@ operand_of a_register r = Register r
 operand_of an_fp_register r = FPRegister r
 operand_of a_code n = Code n
 operand_of a_value v = Value v
-operand_of maybe_value (some v) = Value v
-operand_of maybe_value none = Absent
+operand_of maybe_value (Some v) = Value v
+operand_of maybe_value None = Absent
 operand_of a_constant n = Constant n
 operand_of a_label l = Label l
 operand_of an_offset (LabelAlone l) = Label l
 operand_of an_offset (Based l r) = Offset l r
 operand_of nothing u = Absent
 
-abbrev pub answer_of : (w : Want) → Answer (Asked w) → OperandAnswer
-answer_of w (Got x) = GotOperand (operand_of w x)
-answer_of w (Missed m) = MissedOperand m
+abbrev pub answer_of : (w : Want) → Answer (Asked w) → Result Operand Miss
+answer_of w (Got x) = Ok (operand_of w x)
+answer_of w (Missed m) = Err m
 
 -- an answer at an index
 abbrev pub here : {A : Type 0} → A → ℕ → At A
 here x i = record { answer = x; index = i }
 
 -- a reading as its reader gives it
-abbrev pub given : (w : Want) → At (Answer (Asked w)) → At OperandAnswer
+abbrev pub given : (w : Want) → At (Answer (Asked w)) → At (Result Operand Miss)
 given w x = here (answer_of w x.answer) x.index

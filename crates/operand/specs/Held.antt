@@ -1,6 +1,5 @@
 -- What an operand holds, of each kind that may be asked for; of another kind a zero. Assumes nothing.
-use Rattle.std.specs.Prelude.{ℕ}
-use Rattle.std.proofs.Math.Option.{Option, none, some}
+use Rattle.std.specs.Prelude.{ℕ, Err, Ok, Result, Option, None, Some}
 use Rattle.registers.specs.declared.RegisterSlot.{RegisterSlot}
 use Rattle.registers.specs.declared.RegisterSlot.TheVariants.{Zero}
 use Rattle.registers.specs.declared.FPRegisterSlot.{FPRegisterSlot}
@@ -13,11 +12,10 @@ use Rattle.operand.specs.declared.OffsetOrLabel.{OffsetOrLabel}
 use Rattle.operand.specs.declared.OffsetOrLabel.TheVariants.{Label as LabelAlone, Offset as Based}
 use Rattle.operand.specs.declared.Want.{Want}
 use Rattle.operand.specs.declared.Want.TheVariants.{Register as a_register, FPRegister as an_fp_register, Code as a_code, Value as a_value, MaybeValue as maybe_value, Constant as a_constant, Label as a_label, OffsetOrLabel as an_offset, Nothing as nothing}
-use Rattle.operand.specs.declared.OperandAnswer.{OperandAnswer}
-use Rattle.operand.specs.declared.OperandAnswer.TheVariants.{Got as GotOperand, Missed as MissedOperand}
 use Rattle.operand.specs.Answers.{Answer, Got, Missed, Asked}
 use Rattle.operand.specs.declared.Operand.{Operand}
 use Rattle.operand.specs.declared.Operand.TheVariants.{Register, FPRegister, Code, Value, Constant, Label, Offset, Absent}
+use Rattle.operand.specs.declared.Miss.{Miss}
 
 abbrev pub slot_in : Operand → RegisterSlot
 slot_in (Register r) = r
@@ -60,14 +58,14 @@ value_in (Offset l r) = Slot Zero
 value_in Absent = Slot Zero
 
 abbrev pub maybe_value_in : Operand → Option InstructionValue
-maybe_value_in (Register r) = none
-maybe_value_in (FPRegister r) = none
-maybe_value_in (Code n) = none
-maybe_value_in (Value v) = some v
-maybe_value_in (Constant n) = none
-maybe_value_in (Label l) = none
-maybe_value_in (Offset l r) = none
-maybe_value_in Absent = none
+maybe_value_in (Register r) = None
+maybe_value_in (FPRegister r) = None
+maybe_value_in (Code n) = None
+maybe_value_in (Value v) = Some v
+maybe_value_in (Constant n) = None
+maybe_value_in (Label l) = None
+maybe_value_in (Offset l r) = None
+maybe_value_in Absent = None
 
 abbrev pub constant_in : Operand → ℕ
 constant_in (Register r) = 0
@@ -112,6 +110,6 @@ held an_offset o = offset_in o
 held nothing o = tt
 
 -- an answer, taken for what was asked for
-abbrev pub held_answer : (w : Want) → OperandAnswer → Answer (Asked w)
-held_answer w (GotOperand o) = Got (held w o)
-held_answer w (MissedOperand m) = Missed m
+abbrev pub held_answer : (w : Want) → Result Operand Miss → Answer (Asked w)
+held_answer w (Ok o) = Got (held w o)
+held_answer w (Err m) = Missed m

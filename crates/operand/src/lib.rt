@@ -58,16 +58,10 @@ pub enum Operand {
     Absent,
 }
 
-#[derive(Clone, Copy)]
-pub enum OperandAnswer {
-    Got(Operand),
-    Missed(Miss),
-}
-
 // What a reader answers, and the position behind what it read.
 #[derive(Clone, Copy)]
 pub struct OperandRead {
-    pub answer: OperandAnswer,
+    pub answer: Result<Operand, Miss>,
     pub cursor: Cursor,
 }
 

@@ -1,5 +1,5 @@
 -- Laws of what a line's operands hold: it is what was read. Assumes nothing.
-use Rattle.std.specs.Prelude.{ℕ, ◌≡◌, List}
+use Rattle.std.specs.Prelude.{ℕ, ◌≡◌, List, Err, Ok, Result}
 use Rattle.std.proofs.Common.{arith, sym, ap, subst, ◌∙◌}
 use Rattle.lexer.specs.Tokens.{tokens}
 use Rattle.cursor.specs.declared.Cursor.{Cursor}
@@ -11,8 +11,6 @@ use Rattle.operand.proofs.HeldLaws.{held_given}
 use Rattle.operands.proofs.OperandsLaws.{read_index}
 use Rattle.operand_list.specs.declared.Wants.{Wants}
 use Rattle.operand_list.specs.declared.Operands.{Operands}
-use Rattle.operand_list.specs.declared.OperandsAnswer.{OperandsAnswer}
-use Rattle.operand_list.specs.declared.OperandsAnswer.TheVariants.{Got as GotOperands, Missed as MissedOperands}
 use Rattle.operand_list.specs.OperandLists.{AskedAll, read_operands, operands_of, operands_answer, given_all}
 use Rattle.operand_list.specs.HeldOperands.{held_values}
 
@@ -23,26 +21,26 @@ held_all w x =
     ap (λ (a : Asked w.first). (a, o.1, o.2)) (held_given w.first x.0) ∙ ap (λ (b : Asked w.second). (x.0, b, o.2)) (held_given w.second x.1)
     ∙ ap (λ (c : Asked w.third). (x.0, x.1, c)) (held_given w.third x.2)
 
-all_held : (w : Wants) (a : Answer (AskedAll w)) (o : Operands) → GotOperands o ≡ operands_answer w a → a ≡ Got (held_values w o)
+all_held : (w : Wants) (a : Answer (AskedAll w)) (o : Operands) → Ok o ≡ operands_answer w a → a ≡ Got (held_values w o)
 all_held w (Got x) o e =
     let p : o ≡ operands_of w x = cc in
     ap Got (sym (ap (held_values w) p ∙ held_all w x))
 all_held w (Missed m) o e = let z : ◌≡◌ {A = ℕ} 0 1 = cc in absurd (omega arith)
 
-all_missed : (w : Wants) (a : Answer (AskedAll w)) (m : Miss) → MissedOperands m ≡ operands_answer w a → a ≡ Missed m
+all_missed : (w : Wants) (a : Answer (AskedAll w)) (m : Miss) → Err m ≡ operands_answer w a → a ≡ Missed m
 all_missed w (Got x) m e = let z : ◌≡◌ {A = ℕ} 0 1 = cc in absurd (omega arith)
 all_missed w (Missed n) m e = cc
 
-module _ (w : Wants) {s : List ℕ} (x : At (Answer (AskedAll w))) {answer : OperandsAnswer} {cursor : Cursor} (r : ReadAs s (given_all w x) answer cursor) where
-  pub all_given : (o : Operands) → answer ≡ GotOperands o → x ≡ here (Got (held_values w o)) cursor.index
+module _ (w : Wants) {s : List ℕ} (x : At (Answer (AskedAll w))) {answer : (Result Operands Miss)} {cursor : Cursor} (r : ReadAs s (given_all w x) answer cursor) where
+  pub all_given : (o : Operands) → answer ≡ Ok o → x ≡ here (Got (held_values w o)) cursor.index
   all_given o e =
       ap (λ (a : Answer (AskedAll w)). here a x.index) (all_held w x.answer o (sym e ∙ r.answer_is)) ∙ ap (here (Got (held_values w o))) (sym (read_index r))
 
-  pub none_given : (m : Miss) → answer ≡ MissedOperands m → x ≡ here (Missed m) cursor.index
+  pub none_given : (m : Miss) → answer ≡ Err m → x ≡ here (Missed m) cursor.index
   none_given m e =
       ap (λ (a : Answer (AskedAll w)). here a x.index) (all_missed w x.answer m (sym e ∙ r.answer_is)) ∙ ap (here (Missed m)) (sym (read_index r))
 
 -- what is read is what was asked for
-pub asked_as : {s : List ℕ} {w v : Wants} {answer : OperandsAnswer} {cursor : Cursor} (i : ℕ) → w ≡ v → ReadAs s (given_all w (read_operands w (tokens s) i)) answer cursor
+pub asked_as : {s : List ℕ} {w v : Wants} {answer : (Result Operands Miss)} {cursor : Cursor} (i : ℕ) → w ≡ v → ReadAs s (given_all w (read_operands w (tokens s) i)) answer cursor
     → ReadAs s (given_all v (read_operands v (tokens s) i)) answer cursor
 asked_as {s} {answer = answer} {cursor} i e r = subst (λ (u : Wants). ReadAs s (given_all u (read_operands u (tokens s) i)) answer cursor) e r

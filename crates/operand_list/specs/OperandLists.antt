@@ -1,5 +1,5 @@
 -- The operands of a line, read left to right (document 01: "4 to 8 as operands are read left to right"). Assumes nothing.
-use Rattle.std.specs.Prelude.{ℕ, List}
+use Rattle.std.specs.Prelude.{ℕ, List, Err, Ok, Result}
 use Rattle.lexer.specs.declared.Token.{Token}
 use Rattle.cursor.specs.Cursors.{At}
 use Rattle.operand.specs.declared.Want.{Want}
@@ -9,8 +9,7 @@ use Rattle.operands.specs.Operands.{get_register, get_fp_register, get_cc, get_v
 use Rattle.assembler_util.specs.LabelOperands.{get_label, get_offset_or_label}
 use Rattle.operand_list.specs.declared.Wants.{Wants}
 use Rattle.operand_list.specs.declared.Operands.{Operands}
-use Rattle.operand_list.specs.declared.OperandsAnswer.{OperandsAnswer}
-use Rattle.operand_list.specs.declared.OperandsAnswer.TheVariants.{Got as GotOperands, Missed as MissedOperands}
+use Rattle.operand.specs.declared.Miss.{Miss}
 
 -- the operand that is asked for, from an index on
 unfoldable pub read_operand : (w : Want) → List Token → ℕ → At (Answer (Asked w))
@@ -49,9 +48,9 @@ module _ (w : Wants) (ts : List Token) where
 abbrev pub operands_of : (w : Wants) → AskedAll w → Operands
 operands_of w x = record { first = operand_of w.first x.0; second = operand_of w.second x.1; third = operand_of w.third x.2 }
 
-abbrev pub operands_answer : (w : Wants) → Answer (AskedAll w) → OperandsAnswer
-operands_answer w (Got x) = GotOperands (operands_of w x)
-operands_answer w (Missed m) = MissedOperands m
+abbrev pub operands_answer : (w : Wants) → Answer (AskedAll w) → Result Operands Miss
+operands_answer w (Got x) = Ok (operands_of w x)
+operands_answer w (Missed m) = Err m
 
-abbrev pub given_all : (w : Wants) → At (Answer (AskedAll w)) → At OperandsAnswer
+abbrev pub given_all : (w : Wants) → At (Answer (AskedAll w)) → At (Result Operands Miss)
 given_all w x = here (operands_answer w x.answer) x.index

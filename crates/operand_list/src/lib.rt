@@ -8,7 +8,7 @@ ghost use Rattle.operand.specs.Answers.{given};
 ghost use Rattle.operand_list.specs.OperandLists.{read_operand, read_operands, given_all};
 
 use cursor::Cursor;
-use operand::{Miss, Operand, OperandAnswer, OperandRead, Want};
+use operand::{Miss, Operand, OperandRead, Want};
 
 // What an instruction asks for, left to right.
 #[derive(Clone, Copy)]
@@ -26,14 +26,8 @@ pub struct Operands {
 }
 
 #[derive(Clone, Copy)]
-pub enum OperandsAnswer {
-    Got(Operands),
-    Missed(Miss),
-}
-
-#[derive(Clone, Copy)]
 pub struct OperandsRead {
-    pub answer: OperandsAnswer,
+    pub answer: Result<Operands, Miss>,
     pub cursor: Cursor,
 }
 
@@ -52,17 +46,17 @@ fn read_operand(want: Want, list: &[u8], from: Cursor) -> OperandRead
         Want::Label => assembler_util::get_label(list, from),
         Want::OffsetOrLabel => assembler_util::get_offset_or_label(list, from),
         Want::Nothing => OperandRead {
-            answer: OperandAnswer::Got(Operand::Absent),
+            answer: Ok(Operand::Absent),
             cursor: from,
         },
     }
 }
 
 fn missed(miss: Miss, cursor: Cursor) -> OperandsRead
-    ensures { (result.answer ≡ OperandsAnswer.Missed miss) × (result.cursor ≡ cursor) }
+    ensures { (result.answer ≡ Err miss) × (result.cursor ≡ cursor) }
 {
     OperandsRead {
-        answer: OperandsAnswer::Missed(miss),
+        answer: Err(miss),
         cursor,
     }
 }
@@ -79,21 +73,21 @@ pub fn read_operands(wants: Wants, list: &[u8], from: Cursor) -> OperandsRead
     let behind_one = one.cursor;
     let one_answer = one.answer;
     match one_answer {
-        OperandAnswer::Missed(miss) => missed(miss, behind_one),
-        OperandAnswer::Got(first) => {
+        Err(miss) => missed(miss, behind_one),
+        Ok(first) => {
             let two = read_operand(second_want, list, behind_one);
             let behind_two = two.cursor;
             let two_answer = two.answer;
             match two_answer {
-                OperandAnswer::Missed(miss) => missed(miss, behind_two),
-                OperandAnswer::Got(second) => {
+                Err(miss) => missed(miss, behind_two),
+                Ok(second) => {
                     let three = read_operand(third_want, list, behind_two);
                     let behind_three = three.cursor;
                     let three_answer = three.answer;
                     match three_answer {
-                        OperandAnswer::Missed(miss) => missed(miss, behind_three),
-                        OperandAnswer::Got(third) => OperandsRead {
-                            answer: OperandsAnswer::Got(Operands {
+                        Err(miss) => missed(miss, behind_three),
+                        Ok(third) => OperandsRead {
+                            answer: Ok(Operands {
                                 first,
                                 second,
                                 third,

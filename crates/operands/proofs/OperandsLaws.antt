@@ -1,14 +1,12 @@
 -- Laws of the operand readers: a reading as an equation, and what each reader answers, case by case. Assumes nothing.
-use Rattle.std.specs.Prelude.{◌≡◌, ℕ, Bool, true, false, List, ◌≢◌, refl}
+use Rattle.std.specs.Prelude.{◌≡◌, ℕ, Bool, true, false, List, ◌≢◌, refl, Err, Ok, Option, Result, None}
 use Rattle.std.proofs.Common.{arith, sym, ◌∙◌}
 use Rattle.std.proofs.Math.Path.{ap}
-use Rattle.std.proofs.Math.Option.{none}
 use borrow.Author.Tests.{eq-eqb, ne_eqb}
 use Rattle.lexer.specs.declared.Token.{Token}
 use Rattle.lexer.specs.Tokens.{strip}
 use Rattle.lexer.specs.Views.{as_integer}
 use Rattle.cursor.specs.declared.Cursor.{Cursor}
-use Rattle.cursor.specs.declared.Seen.{Seen}
 use Rattle.cursor.specs.Cursors.{At, next_adjacent, peek_adjacent}
 use Rattle.cursor.proofs.CursorsLaws.{cursor_is}
 use Rattle.cursor.specs.Reads.{Placed, ReadAs}
@@ -17,8 +15,6 @@ use Rattle.operand.specs.declared.Want.TheVariants.{Value, MaybeValue}
 use Rattle.operand.specs.declared.InstructionValue.{InstructionValue}
 use Rattle.operand.specs.declared.Miss.{Miss}
 use Rattle.operand.specs.declared.Operand.{Operand}
-use Rattle.operand.specs.declared.OperandAnswer.{OperandAnswer}
-use Rattle.operand.specs.declared.OperandAnswer.TheVariants.{Got as GotOperand, Missed as MissedOperand}
 use Rattle.operand.specs.Answers.{Answer, Got, Missed, Asked, answer_of, here, given}
 use Rattle.operand.specs.Held.{held_answer}
 use Rattle.operand.proofs.HeldLaws.{answer_held}
@@ -43,31 +39,31 @@ module _ {A : Type 0} {s : List ℕ} {x : At A} {answer : A} {cursor : Cursor} (
   read_made f b e = record { answer_is = e ∙ ap f r.answer_is; cursor_is = r.cursor_is; placed = r.placed }
 
 -- what was read where this was asked for, by the operand that the reader gives
-pub reader_is : (w : Want) {s : List ℕ} {x : At (Answer (Asked w))} {answer : OperandAnswer} {cursor : Cursor} → ReadAs s (given w x) answer cursor
-    → (b : OperandAnswer) → answer ≡ b → x ≡ here (held_answer w b) cursor.index
+pub reader_is : (w : Want) {s : List ℕ} {x : At (Answer (Asked w))} {answer : (Result Operand Miss)} {cursor : Cursor} → ReadAs s (given w x) answer cursor
+    → (b : Result Operand Miss) → answer ≡ b → x ≡ here (held_answer w b) cursor.index
 reader_is w {x = x} r b e =
     ap (λ (a : Answer (Asked w)). here a x.index) (answer_held w (sym e ∙ r.answer_is)) ∙ ap (here (held_answer w b)) (sym (read_index r))
 
 -- what is made of what was read
-pub held_made : (w : Want) {B : Type 0} {s : List ℕ} {x : At (Answer (Asked w))} {answer : OperandAnswer} {cursor : Cursor} → ReadAs s (given w x) answer cursor
+pub held_made : (w : Want) {B : Type 0} {s : List ℕ} {x : At (Answer (Asked w))} {answer : (Result Operand Miss)} {cursor : Cursor} → ReadAs s (given w x) answer cursor
     → (f : Answer (Asked w) → B) (b : B) → b ≡ f (held_answer w answer) → ReadAs s (here (f x.answer) x.index) b cursor
 held_made w r f b e = record { answer_is = e ∙ ap f (sym (answer_held w r.answer_is)); cursor_is = r.cursor_is; placed = r.placed }
 
 -- ---- by what is met
 
 module _ (ts : List Token) (i : ℕ) where
-  module _ {seen : Seen} {j : ℕ} (e : next_adjacent ts i ≡ here seen j) where
+  module _ {seen : (Option Token)} {j : ℕ} (e : next_adjacent ts i ≡ here seen j) where
     pub signed_is : (minus : Bool) → signed minus ts i ≡ literal_seen minus i j seen
     unfolding signed
-    signed_is minus = ap (λ (x : At Seen). literal_seen minus i x.index x.answer) e
+    signed_is minus = ap (λ (x : At (Option Token)). literal_seen minus i x.index x.answer) e
 
     pub constant_is : get_constant ts i ≡ number_seen constant_met ts j seen
     unfolding get_constant
-    constant_is = ap (λ (x : At Seen). number_seen constant_met ts x.index x.answer) e
+    constant_is = ap (λ (x : At (Option Token)). number_seen constant_met ts x.index x.answer) e
 
     pub value_is : get_value ts i ≡ number_seen value_met ts j seen
     unfolding get_value
-    value_is = ap (λ (x : At Seen). number_seen value_met ts x.index x.answer) e
+    value_is = ap (λ (x : At (Option Token)). number_seen value_met ts x.index x.answer) e
 
   module _ (t : Token) where
     pub integer_plus : strip t.kind ≡ 9 → get_integer t ts i ≡ signed false ts i
@@ -84,19 +80,19 @@ module _ (ts : List Token) (i : ℕ) where
 
 -- ---- the optional operand, by what was read as a value
 
-some_made : (j i : ℕ) (a : Answer InstructionValue) {o : Operand} → GotOperand o ≡ answer_of Value a → given MaybeValue (maybe_met j i a) ≡ given Value (here a i)
+some_made : (j i : ℕ) (a : Answer InstructionValue) {o : Operand} → Ok o ≡ answer_of Value a → given MaybeValue (maybe_met j i a) ≡ given Value (here a i)
 some_made j i (Got v) e = refl
 some_made j i (Missed m) e = cc
 
-none_made : (j i : ℕ) (a : Answer InstructionValue) {m : Miss} → MissedOperand m ≡ answer_of Value a → maybe_met j i a ≡ here (Got none) j
+none_made : (j i : ℕ) (a : Answer InstructionValue) {m : Miss} → Err m ≡ answer_of Value a → maybe_met j i a ≡ here (Got None) j
 none_made j i (Got v) e = cc
 none_made j i (Missed m) e = refl
 
 module _ (ts : List Token) (i : ℕ) where
-  pub maybe_some : {o : Operand} → GotOperand o ≡ answer_of Value (get_value ts i).answer → given MaybeValue (maybe_get_value ts i) ≡ given Value (get_value ts i)
+  pub maybe_some : {o : Operand} → Ok o ≡ answer_of Value (get_value ts i).answer → given MaybeValue (maybe_get_value ts i) ≡ given Value (get_value ts i)
   unfolding maybe_get_value
   maybe_some e = some_made (peek_adjacent ts i).index (get_value ts i).index (get_value ts i).answer e
 
-  pub maybe_none : {m : Miss} → MissedOperand m ≡ answer_of Value (get_value ts i).answer → maybe_get_value ts i ≡ here (Got none) (peek_adjacent ts i).index
+  pub maybe_none : {m : Miss} → Err m ≡ answer_of Value (get_value ts i).answer → maybe_get_value ts i ≡ here (Got None) (peek_adjacent ts i).index
   unfolding maybe_get_value
   maybe_none e = none_made (peek_adjacent ts i).index (get_value ts i).index (get_value ts i).answer e

@@ -1,24 +1,15 @@
 -- The operand readers (assembler_util.rs) on a decoded token list and an index (document 01, 'Tokens'). Assumes nothing.
-use Rattle.std.specs.Prelude.{ℕ, ◌-◌, ◌%◌, ◌^◌, Bool, true, false, List, ◌==◌}
-use Rattle.std.proofs.Math.Option.{Option, none, some}
+use Rattle.std.specs.Prelude.{ℕ, ◌-◌, ◌%◌, ◌^◌, Bool, true, false, List, ◌==◌, None, Some, Option}
 use Rattle.registers.specs.declared.RegisterSlot.{RegisterSlot}
 use Rattle.registers.specs.declared.FPRegisterSlot.{FPRegisterSlot}
 use Rattle.lexer.specs.declared.Token.{Token}
 use Rattle.lexer.specs.Tokens.{strip}
-use Rattle.cursor.specs.declared.Seen.{Seen}
-use Rattle.cursor.specs.declared.Seen.TheVariants.{Met, End}
 use Rattle.cursor.specs.Cursors.{At, next_adjacent, peek_adjacent}
 use Rattle.operand.specs.declared.Miss.{Miss}
 use Rattle.operand.specs.declared.Miss.TheVariants.{EndOfFile, ExpectedRegister, ExpectedConstant}
 use Rattle.operand.specs.declared.InstructionValue.{InstructionValue}
 use Rattle.operand.specs.declared.InstructionValue.TheVariants.{Slot, Literal}
 use Rattle.operand.specs.Answers.{Answer, Got, Missed, here}
-use Rattle.lexer.specs.declared.MaybeRegister.{MaybeRegister}
-use Rattle.lexer.specs.declared.MaybeRegister.TheVariants.{Some as SomeRegister, Nothing as NoRegister}
-use Rattle.lexer.specs.declared.MaybeFPRegister.{MaybeFPRegister}
-use Rattle.lexer.specs.declared.MaybeFPRegister.TheVariants.{Some as SomeFPRegister, Nothing as NoFPRegister}
-use Rattle.lexer.specs.declared.MaybeInteger.{MaybeInteger}
-use Rattle.lexer.specs.declared.MaybeInteger.TheVariants.{Some as SomeInteger, Nothing as NoInteger}
 use Rattle.lexer.specs.Views.{as_register, as_fp_register, as_integer}
 
 -- the token is of the kind with that number
@@ -31,25 +22,25 @@ is_kind n t = strip t.kind == n
 abbrev pub no_register : Token → Miss
 no_register t = ExpectedRegister (strip t.kind) t.location
 
-abbrev pub register_met : Token → MaybeRegister → Answer RegisterSlot
-register_met t (SomeRegister r) = Got r
-register_met t NoRegister = Missed (no_register t)
+abbrev pub register_met : Token → Option RegisterSlot → Answer RegisterSlot
+register_met t (Some r) = Got r
+register_met t None = Missed (no_register t)
 
-abbrev pub register_seen : Seen → Answer RegisterSlot
-register_seen End = Missed EndOfFile
-register_seen (Met t) = register_met t (as_register t.kind)
+abbrev pub register_seen : Option Token → Answer RegisterSlot
+register_seen None = Missed EndOfFile
+register_seen (Some t) = register_met t (as_register t.kind)
 
 unfoldable pub get_register : List Token → ℕ → At (Answer RegisterSlot)
 unfolding next_adjacent
 get_register ts i = here (register_seen (next_adjacent ts i).answer) (next_adjacent ts i).index
 
-abbrev pub fp_register_met : Token → MaybeFPRegister → Answer FPRegisterSlot
-fp_register_met t (SomeFPRegister r) = Got r
-fp_register_met t NoFPRegister = Missed (no_register t)
+abbrev pub fp_register_met : Token → Option FPRegisterSlot → Answer FPRegisterSlot
+fp_register_met t (Some r) = Got r
+fp_register_met t None = Missed (no_register t)
 
-abbrev pub fp_register_seen : Seen → Answer FPRegisterSlot
-fp_register_seen End = Missed EndOfFile
-fp_register_seen (Met t) = fp_register_met t (as_fp_register t.kind)
+abbrev pub fp_register_seen : Option Token → Answer FPRegisterSlot
+fp_register_seen None = Missed EndOfFile
+fp_register_seen (Some t) = fp_register_met t (as_fp_register t.kind)
 
 unfoldable pub get_fp_register : List Token → ℕ → At (Answer FPRegisterSlot)
 unfolding next_adjacent
@@ -60,13 +51,13 @@ abbrev pub no_constant : Token → Miss
 no_constant t = ExpectedConstant (strip t.kind) t.location
 
 -- a condition code takes no sign
-abbrev pub code_met : Token → MaybeInteger → Answer ℕ
-code_met t (SomeInteger n) = Got n
-code_met t NoInteger = Missed (no_constant t)
+abbrev pub code_met : Token → Option ℕ → Answer ℕ
+code_met t (Some n) = Got n
+code_met t None = Missed (no_constant t)
 
-abbrev pub code_seen : Seen → Answer ℕ
-code_seen End = Missed EndOfFile
-code_seen (Met t) = code_met t (as_integer t.kind)
+abbrev pub code_seen : Option Token → Answer ℕ
+code_seen None = Missed EndOfFile
+code_seen (Some t) = code_met t (as_integer t.kind)
 
 unfoldable pub get_cc : List Token → ℕ → At (Answer ℕ)
 unfolding next_adjacent
@@ -79,34 +70,34 @@ abbrev pub with_sign : Bool → ℕ → ℕ
 with_sign minus n = elim minus [ true ↦ (2 ^ 64 - n) % 2 ^ 64 | false ↦ n ]
 
 -- "A sign must be followed by an IntegerLiteral ... After a failed sign the cursor is set back": to the index behind the sign
-abbrev pub literal_met : Bool → ℕ → ℕ → MaybeInteger → At MaybeInteger
-literal_met minus back next (SomeInteger n) = here (SomeInteger (with_sign minus n)) next
-literal_met minus back next NoInteger = here NoInteger back
+abbrev pub literal_met : Bool → ℕ → ℕ → Option ℕ → At (Option ℕ)
+literal_met minus back next (Some n) = here (Some (with_sign minus n)) next
+literal_met minus back next None = here None back
 
-abbrev pub literal_seen : Bool → ℕ → ℕ → Seen → At MaybeInteger
-literal_seen minus back next End = here NoInteger back
-literal_seen minus back next (Met t) = literal_met minus back next (as_integer t.kind)
+abbrev pub literal_seen : Bool → ℕ → ℕ → Option Token → At (Option ℕ)
+literal_seen minus back next None = here None back
+literal_seen minus back next (Some t) = literal_met minus back next (as_integer t.kind)
 
-unfoldable pub signed : Bool → List Token → ℕ → At MaybeInteger
+unfoldable pub signed : Bool → List Token → ℕ → At (Option ℕ)
 unfolding next_adjacent
 signed minus ts i = literal_seen minus i (next_adjacent ts i).index (next_adjacent ts i).answer
 
 -- the number whose first token is t, with i the index behind that token
-unfoldable pub get_integer : Token → List Token → ℕ → At MaybeInteger
+unfoldable pub get_integer : Token → List Token → ℕ → At (Option ℕ)
 unfolding signed
 get_integer t ts i =
     elim (is_kind 9 t) [ true ↦ signed false ts i | false ↦ elim (is_kind 10 t) [ true ↦ signed true ts i | false ↦ here (as_integer t.kind) i ] ]
 
 -- what is made of the next token and the number that begins with it
-abbrev pub number_seen : {A : Type 0} → (Token → MaybeInteger → Answer A) → List Token → ℕ → Seen → At (Answer A)
-number_seen make ts i End = here (Missed EndOfFile) i
-number_seen make ts i (Met t) = here (make t (get_integer t ts i).answer) (get_integer t ts i).index
+abbrev pub number_seen : {A : Type 0} → (Token → Option ℕ → Answer A) → List Token → ℕ → Option Token → At (Answer A)
+number_seen make ts i None = here (Missed EndOfFile) i
+number_seen make ts i (Some t) = here (make t (get_integer t ts i).answer) (get_integer t ts i).index
 
 -- ---- a constant
 
-abbrev pub constant_met : Token → MaybeInteger → Answer ℕ
-constant_met t (SomeInteger n) = Got n
-constant_met t NoInteger = Missed (no_constant t)
+abbrev pub constant_met : Token → Option ℕ → Answer ℕ
+constant_met t (Some n) = Got n
+constant_met t None = Missed (no_constant t)
 
 unfoldable pub get_constant : List Token → ℕ → At (Answer ℕ)
 unfolding next_adjacent get_integer
@@ -115,13 +106,13 @@ get_constant ts i = number_seen constant_met ts (next_adjacent ts i).index (next
 -- ---- a register or a number
 
 -- a register, or refusal 5
-abbrev pub slot_met : Token → MaybeRegister → Answer InstructionValue
-slot_met t (SomeRegister r) = Got (Slot r)
-slot_met t NoRegister = Missed (no_register t)
+abbrev pub slot_met : Token → Option RegisterSlot → Answer InstructionValue
+slot_met t (Some r) = Got (Slot r)
+slot_met t None = Missed (no_register t)
 
-abbrev pub value_met : Token → MaybeInteger → Answer InstructionValue
-value_met t (SomeInteger n) = Got (Literal n)
-value_met t NoInteger = slot_met t (as_register t.kind)
+abbrev pub value_met : Token → Option ℕ → Answer InstructionValue
+value_met t (Some n) = Got (Literal n)
+value_met t None = slot_met t (as_register t.kind)
 
 unfoldable pub get_value : List Token → ℕ → At (Answer InstructionValue)
 unfolding next_adjacent get_integer
@@ -129,8 +120,8 @@ get_value ts i = number_seen value_met ts (next_adjacent ts i).index (next_adjac
 
 -- the optional third operand of Inputs: a value, with i the index behind it, or none, with j that of the token that is not passed over
 abbrev pub maybe_met : ℕ → ℕ → Answer InstructionValue → At (Answer (Option InstructionValue))
-maybe_met j i (Got v) = here (Got (some v)) i
-maybe_met j i (Missed m) = here (Got none) j
+maybe_met j i (Got v) = here (Got (Some v)) i
+maybe_met j i (Missed m) = here (Got None) j
 
 unfoldable pub maybe_get_value : List Token → ℕ → At (Answer (Option InstructionValue))
 unfolding peek_adjacent get_value

@@ -7,13 +7,13 @@ ghost use Rattle.cursor.specs.Reads.{Placed, ReadAs};
 ghost use Rattle.operand.specs.Answers.{answer_of, given};
 ghost use Rattle.operands.specs.Operands.{no_register, no_constant, register_seen, fp_register_seen, code_seen, constant_met, value_met, get_register, get_fp_register, get_cc, with_sign, signed, get_integer, get_constant, get_value, maybe_get_value};
 
-use cursor::{Cursor, Seen};
-use lexer::{MaybeFPRegister, MaybeInteger, MaybeRegister, Token};
-use operand::{InstructionValue, Miss, Operand, OperandAnswer, OperandRead, Want};
+use cursor::Cursor;
+use lexer::Token;
+use operand::{InstructionValue, Miss, Operand, OperandRead, Want};
 
 #[derive(Clone, Copy)]
 pub struct IntegerRead {
-    pub answer: MaybeInteger,
+    pub answer: Option<u64>,
     pub cursor: Cursor,
 }
 
@@ -44,16 +44,16 @@ pub fn get_register(list: &[u8], from: Cursor) -> OperandRead
     OperandRead { answer, cursor }
 }
 
-fn register_seen(seen: Seen) -> OperandAnswer
+fn register_seen(seen: Option<Token>) -> Result<Operand, Miss>
     ensures { result ≡ answer_of Want.Register (register_seen seen) }
 {
     match seen {
-        Seen::End => OperandAnswer::Missed(Miss::EndOfFile),
-        Seen::Met(t) => {
+        None => Err(Miss::EndOfFile),
+        Some(t) => {
             let kind = t.kind;
             match lexer::as_register(kind) {
-                MaybeRegister::Some(slot) => OperandAnswer::Got(Operand::Register(slot)),
-                MaybeRegister::Nothing => OperandAnswer::Missed(expected_register(t)),
+                Some(slot) => Ok(Operand::Register(slot)),
+                None => Err(expected_register(t)),
             }
         }
     }
@@ -70,16 +70,16 @@ pub fn get_fp_register(list: &[u8], from: Cursor) -> OperandRead
     OperandRead { answer, cursor }
 }
 
-fn fp_register_seen(seen: Seen) -> OperandAnswer
+fn fp_register_seen(seen: Option<Token>) -> Result<Operand, Miss>
     ensures { result ≡ answer_of Want.FPRegister (fp_register_seen seen) }
 {
     match seen {
-        Seen::End => OperandAnswer::Missed(Miss::EndOfFile),
-        Seen::Met(t) => {
+        None => Err(Miss::EndOfFile),
+        Some(t) => {
             let kind = t.kind;
             match lexer::as_fp_register(kind) {
-                MaybeFPRegister::Some(slot) => OperandAnswer::Got(Operand::FPRegister(slot)),
-                MaybeFPRegister::Nothing => OperandAnswer::Missed(expected_register(t)),
+                Some(slot) => Ok(Operand::FPRegister(slot)),
+                None => Err(expected_register(t)),
             }
         }
     }
@@ -97,16 +97,16 @@ pub fn get_cc(list: &[u8], from: Cursor) -> OperandRead
     OperandRead { answer, cursor }
 }
 
-fn code_seen(seen: Seen) -> OperandAnswer
+fn code_seen(seen: Option<Token>) -> Result<Operand, Miss>
     ensures { result ≡ answer_of Want.Code (code_seen seen) }
 {
     match seen {
-        Seen::End => OperandAnswer::Missed(Miss::EndOfFile),
-        Seen::Met(t) => {
+        None => Err(Miss::EndOfFile),
+        Some(t) => {
             let kind = t.kind;
             match lexer::as_integer(kind) {
-                MaybeInteger::Some(n) => OperandAnswer::Got(Operand::Code(n)),
-                MaybeInteger::Nothing => OperandAnswer::Missed(expected_constant(t)),
+                Some(n) => Ok(Operand::Code(n)),
+                None => Err(expected_constant(t)),
             }
         }
     }
@@ -132,17 +132,17 @@ fn signed(minus: bool, list: &[u8], from: Cursor) -> IntegerRead
     let seen = read.answer;
     let next = read.cursor;
     let nothing = IntegerRead {
-        answer: MaybeInteger::Nothing,
+        answer: None,
         cursor: from,
     };
     match seen {
-        Seen::End => nothing,
-        Seen::Met(t) => {
+        None => nothing,
+        Some(t) => {
             let kind = t.kind;
             match lexer::as_integer(kind) {
-                MaybeInteger::Nothing => nothing,
-                MaybeInteger::Some(n) => IntegerRead {
-                    answer: MaybeInteger::Some(with_sign(minus, n)),
+                None => nothing,
+                Some(n) => IntegerRead {
+                    answer: Some(with_sign(minus, n)),
                     cursor: next,
                 },
             }
@@ -178,11 +178,11 @@ pub fn get_constant(list: &[u8], from: Cursor) -> OperandRead
     let seen = read.answer;
     let cursor = read.cursor;
     match seen {
-        Seen::End => OperandRead {
-            answer: OperandAnswer::Missed(Miss::EndOfFile),
+        None => OperandRead {
+            answer: Err(Miss::EndOfFile),
             cursor,
         },
-        Seen::Met(t) => {
+        Some(t) => {
             let read = get_integer(t, list, cursor);
             let number = read.answer;
             let cursor = read.cursor;
@@ -192,12 +192,12 @@ pub fn get_constant(list: &[u8], from: Cursor) -> OperandRead
     }
 }
 
-fn constant_met(t: Token, number: MaybeInteger) -> OperandAnswer
+fn constant_met(t: Token, number: Option<u64>) -> Result<Operand, Miss>
     ensures { result ≡ answer_of Want.Constant (constant_met t number) }
 {
     match number {
-        MaybeInteger::Some(n) => OperandAnswer::Got(Operand::Constant(n)),
-        MaybeInteger::Nothing => OperandAnswer::Missed(expected_constant(t)),
+        Some(n) => Ok(Operand::Constant(n)),
+        None => Err(expected_constant(t)),
     }
 }
 
@@ -209,11 +209,11 @@ pub fn get_value(list: &[u8], from: Cursor) -> OperandRead
     let seen = read.answer;
     let cursor = read.cursor;
     match seen {
-        Seen::End => OperandRead {
-            answer: OperandAnswer::Missed(Miss::EndOfFile),
+        None => OperandRead {
+            answer: Err(Miss::EndOfFile),
             cursor,
         },
-        Seen::Met(t) => {
+        Some(t) => {
             let read = get_integer(t, list, cursor);
             let number = read.answer;
             let cursor = read.cursor;
@@ -223,18 +223,18 @@ pub fn get_value(list: &[u8], from: Cursor) -> OperandRead
     }
 }
 
-fn value_met(t: Token, number: MaybeInteger) -> OperandAnswer
+fn value_met(t: Token, number: Option<u64>) -> Result<Operand, Miss>
     ensures { result ≡ answer_of Want.Value (value_met t number) }
 {
     match number {
-        MaybeInteger::Some(n) => OperandAnswer::Got(Operand::Value(InstructionValue::Literal(n))),
-        MaybeInteger::Nothing => {
+        Some(n) => Ok(Operand::Value(InstructionValue::Literal(n))),
+        None => {
             let kind = t.kind;
             match lexer::as_register(kind) {
-                MaybeRegister::Some(slot) => OperandAnswer::Got(Operand::Value(
+                Some(slot) => Ok(Operand::Value(
                     InstructionValue::Slot(slot),
                 )),
-                MaybeRegister::Nothing => OperandAnswer::Missed(expected_register(t)),
+                None => Err(expected_register(t)),
             }
         }
     }
@@ -248,12 +248,12 @@ pub fn maybe_get_value(list: &[u8], from: Cursor) -> OperandRead
     let read = get_value(list, from);
     let value = read.answer;
     match value {
-        OperandAnswer::Got(_) => read,
-        OperandAnswer::Missed(_) => {
+        Ok(_) => read,
+        Err(_) => {
             let ahead = cursor::peek_adjacent(list, from);
             let cursor = ahead.cursor;
             OperandRead {
-                answer: OperandAnswer::Got(Operand::Absent),
+                answer: Ok(Operand::Absent),
                 cursor,
             }
         }

@@ -1,12 +1,10 @@
 -- Laws of a page's checks, and of the count of its lines. Assumes nothing.
-use Rattle.std.specs.Prelude.{◌≡◌, ℕ, ◌+◌, ◌-◌, ◌*◌, ◌/◌, ◌<◌, ◌≤◌, List, [], map, length}
+use Rattle.std.specs.Prelude.{◌≡◌, ℕ, ◌+◌, ◌-◌, ◌*◌, ◌/◌, ◌<◌, ◌≤◌, List, [], map, length, None, Option, Some}
 use Rattle.std.proofs.Common.{arith, sym, ap, length-take, length-drop, le-leb}
 use Rattle.std.proofs.lemmas.Bool.{lt-leb}
 use Rattle.record.specs.Bytes.{part}
 use Rattle.record.specs.Records.{body_len, next, places_from, places}
 use Rattle.record.proofs.RecordsLaws.{places_all, places_step, places_end}
-use Rattle.record.specs.declared.Layout.{Layout}
-use Rattle.record.specs.declared.Layout.TheVariants.{Good, Bad}
 use Rattle.refusal.specs.Verdicts.{and_then, layout_verdict}
 use Rattle.name_index.proofs.CountLaws.{count_at_least}
 use Rattle.labels.specs.Labels.{label_ok, label_layout}
@@ -18,15 +16,15 @@ use Rattle.page_outcome.proofs.Length.{page_length, page_most}
 use Rattle.page_outcome.specs.Page.{line_count}
 use Rattle.page_outcome.specs.Outcome.{page_limit, page_layout, layout_verdicts}
 
-pub page_long : (size : ℕ) → page_limit < size → page_layout size ≡ Bad page_limit
+pub page_long : (size : ℕ) → page_limit < size → page_layout size ≡ Some page_limit
 unfolding page_layout
 page_long size h = rw (lt-leb size page_limit h, page_layout)
 
-pub page_within : (size : ℕ) → size ≤ page_limit → page_layout size ≡ Good
+pub page_within : (size : ℕ) → size ≤ page_limit → page_layout size ≡ None
 unfolding page_layout
 page_within size h = rw (le-leb size page_limit h, page_layout)
 
-pub layouts_are : (labels regions : List ℕ) (size : ℕ) (a b c : Layout) → label_layout labels ≡ a → region_layout regions ≡ b → page_layout size ≡ c
+pub layouts_are : (labels regions : List ℕ) (size : ℕ) (a b c : Option ℕ) → label_layout labels ≡ a → region_layout regions ≡ b → page_layout size ≡ c
     → layout_verdicts labels regions size ≡ and_then (layout_verdict 0 a) (and_then (layout_verdict 1 b) (layout_verdict 2 c))
 unfolding layout_verdicts
 layouts_are labels regions size a b c e f g = rw (e, f, g)
@@ -50,9 +48,9 @@ pub lines_end : (s : List ℕ) (at : ℕ) → length s ≤ at → lines_from s a
 unfolding line_count
 lines_end s at h = ap (λ (ps : List ℕ). line_count (map (image_region s) ps)) (places_end s at h)
 
-pub lines_most : (s : List ℕ) → region_layout s ≡ Good → line_count (image_of s) < 16384
+pub lines_most : (s : List ℕ) → region_layout s ≡ None → line_count (image_of s) < 16384
 lines_most s g = omega (arith, page_length [] s, page_most [] s g)
 
 -- ---- a label has nine bytes at least
-pub labels_few : (s : List ℕ) → label_layout s ≡ Good → length (places s) * 9 ≤ length s
+pub labels_few : (s : List ℕ) → label_layout s ≡ None → length (places s) * 9 ≤ length s
 labels_few s g = count_at_least 9 s (label_ok s) (λ p e. let l = label_is s p e in (l.whole_at, omega (arith, l.least))) (labels_good s g)

@@ -1,27 +1,22 @@
 -- The outcome of a page by its checks. Assumes nothing.
-use Rattle.std.specs.Prelude.{◌≡◌, ℕ, ◌*◌, ◌<◌, ◌≤◌, List, length}
+use Rattle.std.specs.Prelude.{◌≡◌, ℕ, ◌*◌, ◌<◌, ◌≤◌, List, length, Err, None, Ok, Some}
 use Rattle.std.proofs.Common.{arith, ◌∙◌, le-leb}
 use Rattle.std.proofs.Math.Path.{ap}
 use Rattle.std.proofs.lemmas.Bool.{lt-leb}
 use Rattle.record.specs.Stores.{append}
-use Rattle.record.specs.declared.Layout.TheVariants.{Good}
-use Rattle.names.specs.declared.Repeat.TheVariants.{None, Later}
-use Rattle.refusal.specs.Verdicts.{and_then, layout_verdict, name_verdict}
+use Rattle.refusal.specs.Verdicts.{and_then, layout_verdict, name_verdict, Verdict}
 use Rattle.refusal.proofs.VerdictsLaws.{both_pass, layout_pass}
 use Rattle.refusal.specs.declared.Refusal.{Refusal}
 use Rattle.refusal.specs.declared.Refusal.TheVariants.{DuplicateName, NoPageSpace}
-use Rattle.refusal.specs.declared.Verdict.{Verdict}
-use Rattle.refusal.specs.declared.Verdict.TheVariants.{Pass, Stop}
 use Rattle.labels.specs.Labels.{label_layout, label_repeat}
 use Rattle.regions.specs.Regions.{region_layout}
 use Rattle.reading.specs.Reading.{image_of}
 use Rattle.page_outcome.specs.Page.{page_of, line_count}
 use Rattle.page_outcome.proofs.Length.{page_length}
 use Rattle.page_outcome.specs.Outcome.{PageOutcome, page_layout, layout_verdicts, room_verdict, page_verdict, outcome_by, page_outcome}
-use Rattle.page_outcome.specs.declared.LaidOut.TheVariants.{Length, Refused}
 
 -- where the layouts pass, both lists are good
-pub lists_good : (labels regions : List ℕ) (size : ℕ) → layout_verdicts labels regions size ≡ Pass → (label_layout labels ≡ Good) × (region_layout regions ≡ Good)
+pub lists_good : (labels regions : List ℕ) (size : ℕ) → layout_verdicts labels regions size ≡ Ok tt → (label_layout labels ≡ None) × (region_layout regions ≡ None)
 unfolding layout_verdicts
 lists_good labels regions size p =
     let a = both_pass (layout_verdict 0 (label_layout labels)) (and_then (layout_verdict 1 (region_layout regions)) (layout_verdict 2 (page_layout size))) p in
@@ -30,7 +25,7 @@ lists_good labels regions size p =
 
 module _ (labels regions page : List ℕ) where
   abbrev refused : Refusal → PageOutcome
-  refused r = record { answer = Refused r; page = page }
+  refused r = record { answer = Err r; page = page }
 
   -- what is looked at behind the layouts
   abbrev behind : Verdict
@@ -44,21 +39,21 @@ module _ (labels regions page : List ℕ) where
   unfolding page_outcome
   outcome_is v e = ap (λ (u : Verdict). outcome_by u (page_of labels regions) page) e
 
-  pub layout_stops : (r : Refusal) → layout_verdicts labels regions (length page) ≡ Stop r → page_outcome labels regions page ≡ refused r
-  layout_stops r e = outcome_is (Stop r) (verdict_is (Stop r) e)
+  pub layout_stops : (r : Refusal) → layout_verdicts labels regions (length page) ≡ Err r → page_outcome labels regions page ≡ refused r
+  layout_stops r e = outcome_is (Err r) (verdict_is (Err r) e)
 
   -- ---- where the layouts pass
-  module _ (p : layout_verdicts labels regions (length page) ≡ Pass) where
-    pub name_stops : (place : ℕ) → label_repeat labels ≡ Later place → page_outcome labels regions page ≡ refused (DuplicateName 0 place)
-    name_stops place e = outcome_is (Stop (DuplicateName 0 place)) (verdict_is Pass p ∙ rw e)
+  module _ (p : layout_verdicts labels regions (length page) ≡ Ok tt) where
+    pub name_stops : (place : ℕ) → label_repeat labels ≡ Some place → page_outcome labels regions page ≡ refused (DuplicateName 0 place)
+    name_stops place e = outcome_is (Err (DuplicateName 0 place)) (verdict_is (Ok tt) p ∙ rw e)
 
     pub room_stops : label_repeat labels ≡ None → length page < 73 * line_count (image_of regions) → page_outcome labels regions page ≡ refused NoPageSpace
     room_stops e h =
         let l : length page < length (page_of labels regions) = omega (arith, page_length labels regions) in
-        outcome_is (Stop NoPageSpace) (verdict_is Pass p ∙ rw e (rw (lt-leb (length (page_of labels regions)) (length page) l, room_verdict)))
+        outcome_is (Err NoPageSpace) (verdict_is (Ok tt) p ∙ rw e (rw (lt-leb (length (page_of labels regions)) (length page) l, room_verdict)))
 
     pub all_pass : label_repeat labels ≡ None → 73 * line_count (image_of regions) ≤ length page
-        → page_outcome labels regions page ≡ record { answer = Length (length (page_of labels regions)); page = append page 0 (page_of labels regions) }
+        → page_outcome labels regions page ≡ record { answer = Ok (length (page_of labels regions)); page = append page 0 (page_of labels regions) }
     all_pass e h =
         let l : length (page_of labels regions) ≤ length page = omega (arith, page_length labels regions) in
-        outcome_is Pass (verdict_is Pass p ∙ rw e (rw (le-leb (length (page_of labels regions)) (length page) l, room_verdict)))
+        outcome_is (Ok tt) (verdict_is (Ok tt) p ∙ rw e (rw (le-leb (length (page_of labels regions)) (length page) l, room_verdict)))

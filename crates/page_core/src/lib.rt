@@ -14,10 +14,7 @@ ghost use Rattle.page_outcome.specs.Outcome.{layout_verdicts, page_outcome};
 ghost use Rattle.page_labels.specs.Slots.{Shows};
 ghost use Rattle.page_core.specs.Texts.{data_text, region_text};
 
-use names::Repeat;
-use page_outcome::LaidOut;
-use record::Layout;
-use refusal::{Refusal, Verdict};
+use refusal::Refusal;
 
 // "the page buffer, alone allowed up to 1,195,959 bytes"
 pub const LIMIT: usize = 1_195_959;
@@ -65,7 +62,7 @@ fn put_region(
     number: usize,
     slots: &mut [u16],
 ) -> usize
-    requires labels_value { (label_layout labels.now ≡ Layout.Good) × (region_layout regions.now ≡ Layout.Good) }
+    requires labels_value { (label_layout labels.now ≡ None) × (region_layout regions.now ≡ None) }
     requires index_of { IndexOf 4 labels.now index.now × (length regions.now ≤ 4 * length slots.old) }
     requires number_bound { number < region_count regions.now }
     requires number_in_bounds { at + length (region_text (label_at labels.now) number (image_region regions.now (region_place regions.now number))) ≤ length out.old }
@@ -96,7 +93,7 @@ fn put_page(
     regions: &[u8],
     slots: &mut [u16],
 ) -> usize
-    requires labels_value { (label_layout labels.now ≡ Layout.Good) × (region_layout regions.now ≡ Layout.Good) }
+    requires labels_value { (label_layout labels.now ≡ None) × (region_layout regions.now ≡ None) }
     requires index_of { IndexOf 4 labels.now index.now × (length regions.now ≤ 4 * length slots.old) }
     requires regions_in_bounds { length (page_of labels.now regions.now) ≤ length out.old }
     ensures { Put out.old 0 (page_of labels.now regions.now) out.new result }
@@ -113,7 +110,7 @@ fn put_page(
 
 // How many lines a page has: one for each region, for which the four bytes of its address are counted, and one for each of its words.
 fn count_lines(regions: &[u8]) -> usize
-    requires { region_layout regions.now ≡ Layout.Good }
+    requires { region_layout regions.now ≡ None }
     ensures { (result ≡ line_count (image_of regions.now)) × (result < 16384) }
 {
     let mut count: usize = 0;
@@ -126,19 +123,19 @@ fn count_lines(regions: &[u8]) -> usize
 }
 
 // Refusal 1: the first buffer that breaks its layout.
-fn check_layouts(labels: &[u8], regions: &[u8], page: &[u8]) -> Verdict
+fn check_layouts(labels: &[u8], regions: &[u8], page: &[u8]) -> Result<(), Refusal>
     ensures { result ≡ layout_verdicts labels.now regions.now (length page.now) }
 {
-    if let Layout::Bad(place) = labels::first_bad_label(labels) {
-        return Verdict::Stop(Refusal::BadLayout(0, place as u32));
+    if let Some(place) = labels::first_bad_label(labels) {
+        return Err(Refusal::BadLayout(0, place as u32));
     }
-    if let Layout::Bad(place) = regions::first_bad_region(regions) {
-        return Verdict::Stop(Refusal::BadLayout(1, place as u32));
+    if let Some(place) = regions::first_bad_region(regions) {
+        return Err(Refusal::BadLayout(1, place as u32));
     }
     if page.len() > LIMIT {
-        return Verdict::Stop(Refusal::BadLayout(2, LIMIT as u32));
+        return Err(Refusal::BadLayout(2, LIMIT as u32));
     }
-    Verdict::Pass
+    Ok(())
 }
 
 // What the call does with lists that keep their layouts, in the lent arrays: the slots are scratch while the index is made.
@@ -148,27 +145,27 @@ fn lay_out_in(
     page: &mut [u8],
     index: &mut [u16],
     slots: &mut [u16],
-) -> LaidOut
-    requires page_value { layout_verdicts labels.now regions.now (length page.old) ≡ Verdict.Pass }
+) -> Result<u32, Refusal>
+    requires page_value { layout_verdicts labels.now regions.now (length page.old) ≡ Ok tt }
     requires labels_in_bounds { (length (places labels.now) ≤ length index.old) × (length (places labels.now) ≤ length slots.old) × (length regions.now ≤ 4 * length slots.old) }
     ensures { page_outcome labels.now regions.now page.old ≡ (record { answer = result; page = page.new }) }
 {
     let n = name_index::make(labels, 4, &mut *index, &mut *slots);
-    if let Repeat::Later(place) = labels::first_repeat(labels, &index[..n]) {
-        return LaidOut::Refused(Refusal::DuplicateName(0, place as u32));
+    if let Some(place) = labels::first_repeat(labels, &index[..n]) {
+        return Err(Refusal::DuplicateName(0, place as u32));
     }
     if page.len() < 73 * count_lines(regions) {
-        return LaidOut::Refused(Refusal::NoPageSpace);
+        return Err(Refusal::NoPageSpace);
     }
-    LaidOut::Length(put_page(page, labels, &index[..n], regions, slots) as u32)
+    Ok(put_page(page, labels, &index[..n], regions, slots) as u32)
 }
 
 // Lays the image out and gives the page's length, or refuses and leaves every byte as it was. Short lists have small arrays.
-pub fn lay_out(labels: &[u8], regions: &[u8], page: &mut [u8]) -> LaidOut
+pub fn lay_out(labels: &[u8], regions: &[u8], page: &mut [u8]) -> Result<u32, Refusal>
     ensures { page_outcome labels.now regions.now page.old ≡ (record { answer = result; page = page.new }) }
 {
-    if let Verdict::Stop(refusal) = check_layouts(labels, regions, &*page) {
-        return LaidOut::Refused(refusal);
+    if let Err(refusal) = check_layouts(labels, regions, &*page) {
+        return Err(refusal);
     }
     if labels.len() + regions.len() <= SHORT {
         let mut index = [0u16; SHORT / 9];

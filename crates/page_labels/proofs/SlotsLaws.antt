@@ -1,17 +1,14 @@
 -- The slots on their way: the labels of an index are put in from the last to the first, so that the smallest name is the last. Assumes nothing.
-use Rattle.std.specs.Prelude.{◌≡◌, ℕ, zero, suc, ◌+◌, ◌-◌, ◌*◌, ◌<◌, ◌≤◌, Bool, true, false, List, [], ◌∷◌, length, ◌==◌, ◌≢◌, slice_index, slice_index_or, slice_set, refl}
+use Rattle.std.specs.Prelude.{◌≡◌, ℕ, zero, suc, ◌+◌, ◌-◌, ◌*◌, ◌<◌, ◌≤◌, Bool, true, false, List, [], ◌∷◌, length, ◌==◌, ◌≢◌, slice_index, slice_index_or, slice_set, refl, None}
 use Rattle.std.proofs.Common.{add-one, arith, ⊎_elim, sym, ap, ◌∙◌, subst, get_or-set_same, get_or-set_other, below_more, eqb-true}
 use mathlib.Core.List.Memᴰ
 use mathlib.Core.List.{Memᴰ}
 use Rattle.std.proofs.lemmas.Bool.{eqb-false}
 use Rattle.record.specs.Bytes.{le32}
 use Rattle.record.specs.Records.{places}
-use Rattle.record.specs.declared.Layout.TheVariants.{Good}
 use Rattle.names.specs.Owners.{owned_name, owner_of, has_owned_name}
 use Rattle.name_order.specs.Order.{then_by, numbers, order, Key, key_order}
 use Rattle.name_order.proofs.OrderLaws.{key_same, key_trans}
-use Rattle.name_order.specs.declared.Ordered.{Ordered}
-use Rattle.name_order.specs.declared.Ordered.TheVariants.{Less}
 use Rattle.name_sort.specs.Sorting.{In}
 use Rattle.name_sort.proofs.SortingLaws.{in_head, in_tail, in_cons, not_in, at_in}
 use Rattle.name_index.specs.Index.{IndexOf}
@@ -22,6 +19,8 @@ use Rattle.labels.proofs.LabelsLaws.{LabelIs, label_is, labels_good, labels_name
 use Rattle.page_outcome.specs.Page.{label_at}
 use Rattle.page_outcome.proofs.Shown.{Stands, shown_smallest, shown_none}
 use Rattle.page_labels.specs.Slots.{SlotOk, name_in, pc_of, WordOf, Empty, Shows}
+use Rattle.std.specs.declared.cmp.Ordering.TheVariants.{Less}
+use Rattle.std.specs.declared.cmp.Ordering.{Ordering}
 
 never : {A : Type 0} → ◌≡◌ {A = ℕ} 0 1 → A
 never z = absurd (omega arith)
@@ -60,7 +59,7 @@ pub record Slotted (labels l : List ℕ) (address size : ℕ) (slots : List ℕ)
   pub within : i ≤ length l
   pub each : (j : ℕ) → 4 * j < size → Slot labels l (pc_of address j) i (slice_index slots j)
 
-module _ (labels l : List ℕ) (g : label_layout labels ≡ Good) (ix : IndexOf 4 labels l) where
+module _ (labels l : List ℕ) (g : label_layout labels ≡ None) (ix : IndexOf 4 labels l) where
   pub label_at_lem : (i : ℕ) → i < length l → LabelIs labels (slice_index l i)
   label_at_lem i h = label_is labels (slice_index l i) (all_ok (label_ok labels) (places labels) (labels_good labels g) (slice_index l i) (at_list 4 labels l ix i h))
 
@@ -79,7 +78,7 @@ module _ (labels l : List ℕ) (g : label_layout labels ≡ Good) (ix : IndexOf 
       a = key_at 4 labels l ix m
 
       less : key_order (key_at 4 labels l ix k) a ≡ Less
-      less = ap (λ (x : Ordered). then_by x (numbers (owner_of 4 labels (slice_index l k)) (owner_of 4 labels (slice_index l m)))) o
+      less = ap (λ (x : Ordering). then_by x (numbers (owner_of 4 labels (slice_index l k)) (owner_of 4 labels (slice_index l m)))) o
 
       irreflexive : key_order a a ≡ Less → ◌≡◌ {A = ℕ} 0 1
       irreflexive e = let s = key_same a in cc

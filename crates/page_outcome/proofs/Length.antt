@@ -1,5 +1,5 @@
 -- Every line of a page has 73 bytes, so a page has 73 for each region and each word, part words too, and 1,195,959 at most. Assumes nothing.
-use Rattle.std.specs.Prelude.{ℕ, ◌+◌, ◌-◌, ◌*◌, ◌/◌, ◌≤◌, ◌⊎◌, ◌≡◌, refl, length}
+use Rattle.std.specs.Prelude.{ℕ, ◌+◌, ◌-◌, ◌*◌, ◌/◌, ◌≤◌, ◌⊎◌, ◌≡◌, refl, length, None}
 use Rattle.std.proofs.Common.{arith, ⊎_elim, sym, ap, ◌∙◌, length-append, length-take}
 use mathlib.Core.List.Memᴰ
 use mathlib.Core.List.{List, [], ◌∷◌, ◌++◌, map, Memᴰ, flatten}
@@ -7,7 +7,6 @@ use Rattle.std.proofs.lemmas.List.{length-map}
 use Rattle.record.specs.Bytes.{part}
 use Rattle.record.specs.Records.{body_len, next, places, places_from, first_bad}
 use Rattle.record.proofs.RecordsLaws.{places_all, places_cons, first_good}
-use Rattle.record.specs.declared.Layout.TheVariants.{Good}
 use Rattle.regions.specs.Regions.{region_ok, region_layout}
 use Rattle.regions.proofs.RegionsLaws.{RegionIs, region_is, region_good}
 use Rattle.reading.specs.Reading.{Image, image_region, image_of}
@@ -77,7 +76,7 @@ one_most s at i =
     let b : length (part s (at + 8) (body_len s at - 4)) ≤ body_len s at - 4 = simp length-take (omega arith) in
     omega (arith, i.least)
 
-all_most : (s : List ℕ) (at : ℕ) (ps : List ℕ) → places_from s at ≡ ps → first_bad (region_ok s) ps ≡ Good → at ≤ length s
+all_most : (s : List ℕ) (at : ℕ) (ps : List ℕ) → places_from s at ≡ ps → first_bad (region_ok s) ps ≡ None → at ≤ length s
     → 4 * line_count (map (image_region s) ps) + length ps + at ≤ length s
 unfolding line_count
 all_most s at [] e g h = omega arith
@@ -92,7 +91,7 @@ all_most s at (p ∷ ps) e g h =
     c.2
 
 -- "up to 1,195,959 bytes": no page is longer
-pub page_most : (labels regions : List ℕ) → region_layout regions ≡ Good → length (page_of labels regions) ≤ 1195959
+pub page_most : (labels regions : List ℕ) → region_layout regions ≡ None → length (page_of labels regions) ≤ 1195959
 unfolding image_of
 page_most labels regions g =
     let r = region_good regions g in

@@ -1,5 +1,5 @@
 -- The longest page: one region of 65,528 bytes fills a region list, and its page has 1,195,959 bytes. Assumes nothing.
-use Rattle.std.specs.Prelude.{ℕ, ◌+◌, ◌-◌, true, ◌≡◌, replicate}
+use Rattle.std.specs.Prelude.{ℕ, ◌+◌, ◌-◌, true, ◌≡◌, replicate, None}
 use Rattle.std.proofs.Common.{arith, ◌∙◌, length-take, length-drop}
 use mathlib.Core.List.{List, [], ◌∷◌, ◌++◌, map}
 use Rattle.std.proofs.Math.Path.{ap}
@@ -11,7 +11,6 @@ use Rattle.record.specs.Records.{body_len, next, whole, places, first_bad_of}
 use Rattle.record.proofs.RecordsLaws.{places_all, places_step, places_end, limit_kept}
 use Rattle.record.proofs.OneMoreLaws.{is_whole}
 use Rattle.record.specs.Stores.{le32_bytes, record_bytes}
-use Rattle.record.specs.declared.Layout.TheVariants.{Good}
 use Rattle.regions.specs.Regions.{region_ok, region_records, region_layout}
 use Rattle.reading.specs.Reading.{image_region, image_of}
 use Rattle.page_outcome.specs.Page.{page_of, line_count}
@@ -39,7 +38,7 @@ module _ (bytes : List ℕ) (h : length bytes ≡ 65528) where
   unfolding region_ok
   full_ok = rw (full_whole, le-leb 4 (body_len full 0) (omega (arith, full_body)))
 
-  full_good : region_layout full ≡ Good
+  full_good : region_layout full ≡ None
   unfolding region_layout region_records first_bad_of
   full_good =
       limit_kept full (region_records full (places full)) (omega (arith, full_length))
@@ -55,7 +54,7 @@ module _ (bytes : List ℕ) (h : length bytes ≡ 65528) where
   full_page labels = omega (arith, page_length labels full, full_count)
 
 -- whatever the labels are, a region list that is no refusal 1 reaches the limit
-pub longest : (labels : List ℕ) → (regions : List ℕ) × (region_layout regions ≡ Good) × (length (page_of labels regions) ≡ 1195959)
+pub longest : (labels : List ℕ) → (regions : List ℕ) × (region_layout regions ≡ None) × (length (page_of labels regions) ≡ 1195959)
 longest labels =
     let zeros : length (replicate {A = ℕ} 65528 0) ≡ 65528 = length-replicate {A = ℕ} 65528 0 in
     (full (replicate 65528 0) zeros, full_good (replicate 65528 0) zeros, full_page (replicate 65528 0) zeros labels)

@@ -10,9 +10,9 @@ use Rattle.record.specs.Records.{places}
 use Rattle.names.specs.Owners.{owned_name}
 use Rattle.name_order.specs.Order.{order, then_by}
 use Rattle.name_order.proofs.OrderLaws.{same_is, key_turned, key_trans, turned}
-use Rattle.name_order.specs.declared.Ordered.{Ordered}
-use Rattle.name_order.specs.declared.Ordered.TheVariants.{Less, Same, More}
 use Rattle.page_outcome.specs.Page.{blanks, columns, cut, names_at, smaller, smallest, shown, label_at}
+use Rattle.std.specs.declared.cmp.Ordering.TheVariants.{Less, Equal, Greater}
+use Rattle.std.specs.declared.cmp.Ordering.{Ordering}
 
 -- the one name is the other, or goes before it
 abbrev pub AtMost : List ℕ → List ℕ → Type 0
@@ -31,12 +31,12 @@ pub record Smallest (labels : List ℕ) (pc : ℕ) (name : List ℕ) : Type 0 wh
   pub least : (q : ℕ) → Stands labels pc q → AtMost name (owned_name 4 labels q)
 
 -- ---- the order of names, from that of names with owners
-then_same : (o : Ordered) → then_by o Same ≡ o
+then_same : (o : Ordering) → then_by o Equal ≡ o
 then_same Less = refl
-then_same Same = refl
-then_same More = refl
+then_same Equal = refl
+then_same Greater = refl
 
-turn : (a b : List ℕ) → order b a ≡ More → order a b ≡ Less
+turn : (a b : List ℕ) → order b a ≡ Greater → order a b ≡ Less
 turn a b e =
     let k = key_turned (b, 0) (a, 0) in
     sym (then_same (order a b)) ∙ k ∙ ap turned (then_same (order b a) ∙ e)
@@ -56,14 +56,14 @@ smaller_is : (a b : List ℕ) → Smaller a b (smaller a b)
 unfolding smaller
 smaller_is a b = go (order b a) refl
   where
-    go : (o : Ordered) → order b a ≡ o → Smaller a b (smaller a b)
+    go : (o : Ordering) → order b a ≡ o → Smaller a b (smaller a b)
     go Less e =
         let s : smaller a b ≡ b = rw (e, smaller) in
         rw s (record { one = inr refl; first = inr e; second = inl refl })
-    go Same e =
+    go Equal e =
         let s : smaller a b ≡ a = rw (e, smaller) in
         rw s (record { one = inl refl; first = inl refl; second = inl (sym (same_is b a e)) })
-    go More e =
+    go Greater e =
         let s : smaller a b ≡ a = rw (e, smaller) in
         rw s (record { one = inl refl; first = inl refl; second = inr (turn a b e) })
 

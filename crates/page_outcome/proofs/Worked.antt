@@ -1,6 +1,6 @@
 -- Pages computed: two regions, one whose pc wraps and that ends in a part word; labels of both kinds at one pc, one inside a word and one at a
 -- region's end, names of 20 and 21 bytes. Accepted at the exact length and with bytes behind it, 18 one byte short of it, 2 before 18. Assumes nothing.
-use Rattle.std.specs.Prelude.{ℕ, ◌+◌, ◌≡◌, refl, replicate}
+use Rattle.std.specs.Prelude.{ℕ, ◌+◌, ◌≡◌, refl, replicate, Err, Ok}
 use mathlib.Core.List.{List, [], ◌∷◌, ◌++◌, flatten}
 use Rattle.pseudo_names.specs.PseudoNames.{bytes_of}
 use Rattle.record.specs.Bytes.{all, same_bytes}
@@ -16,7 +16,6 @@ use Rattle.finished_words.proofs.ListedLaws.{of_bytes}
 use Rattle.reading.specs.Reading.{image_of}
 use Rattle.reading.specs.Rows.{rows}
 use Rattle.text.specs.Text.{hex_bytes, word_text}
-use Rattle.page_outcome.specs.declared.LaidOut.TheVariants.{Length, Refused}
 use Rattle.page_outcome.specs.Page.{blanks, region_line, word_line, names_at, smaller, smallest, label_at, page_lines, page_of}
 use Rattle.page_outcome.specs.Outcome.{page_layout, layout_verdicts, page_verdict, page_outcome}
 use Rattle.page_outcome.proofs.Determined.{SameData, page_determines}
@@ -63,12 +62,12 @@ unfolding page_of flatten page_lines label_at names_at smallest smaller order ro
 page = refl
 
 pub record Worked : Type 0 where
-  pub laid_out : page_outcome labels regions (sevens 514) ≡ record { answer = Length 511; page = text ++ sevens 3 }
-  pub exact : page_outcome labels regions (sevens 511) ≡ record { answer = Length 511; page = text }
-  pub one_short : page_outcome labels regions (sevens 510) ≡ record { answer = Refused NoPageSpace; page = sevens 510 }
+  pub laid_out : page_outcome labels regions (sevens 514) ≡ record { answer = Ok 511; page = text ++ sevens 3 }
+  pub exact : page_outcome labels regions (sevens 511) ≡ record { answer = Ok 511; page = text }
+  pub one_short : page_outcome labels regions (sevens 510) ≡ record { answer = Err NoPageSpace; page = sevens 510 }
   -- one name twice for all, and no room for the page: 2
-  pub twice : page_outcome (for_all 0 (bytes_of "a") ++ for_all 4 (bytes_of "a")) regions (sevens 1) ≡ record { answer = Refused (DuplicateName 0 9); page = sevens 1 }
-  pub no_region : page_outcome labels [] (sevens 1) ≡ record { answer = Refused (BadLayout 1 0); page = sevens 1 }
+  pub twice : page_outcome (for_all 0 (bytes_of "a") ++ for_all 4 (bytes_of "a")) regions (sevens 1) ≡ record { answer = Err (DuplicateName 0 9); page = sevens 1 }
+  pub no_region : page_outcome labels [] (sevens 1) ≡ record { answer = Err (BadLayout 1 0); page = sevens 1 }
 
 pub worked : Worked
 unfolding page_outcome page_verdict layout_verdicts page_layout append page_of flatten page_lines label_at names_at smallest smaller order rows word_text word_line region_line blanks image_of places places_from places_f hex_bytes label_layout label_ok region_layout region_records region_ok first_bad first_bad_of within_limit first_later first_where all same_bytes

@@ -1,17 +1,12 @@
 -- A whole call that lays out a page: its answer and every byte of the page buffer (document 02, P3). Assumes nothing.
-use Rattle.std.specs.Prelude.{ℕ, List, true, false, leb, length}
+use Rattle.std.specs.Prelude.{ℕ, List, true, false, leb, length, Err, None, Ok, Option, Result, Some}
 use Rattle.record.specs.Stores.{append}
-use Rattle.record.specs.declared.Layout.{Layout}
-use Rattle.record.specs.declared.Layout.TheVariants.{Good, Bad}
-use Rattle.refusal.specs.Verdicts.{and_then, layout_verdict, name_verdict}
+use Rattle.refusal.specs.Verdicts.{and_then, layout_verdict, name_verdict, Verdict}
 use Rattle.refusal.specs.declared.Refusal.TheVariants.{NoPageSpace}
-use Rattle.refusal.specs.declared.Verdict.{Verdict}
-use Rattle.refusal.specs.declared.Verdict.TheVariants.{Pass, Stop}
 use Rattle.labels.specs.Labels.{label_layout, label_repeat}
 use Rattle.regions.specs.Regions.{region_layout}
-use Rattle.page_outcome.specs.declared.LaidOut.{LaidOut}
-use Rattle.page_outcome.specs.declared.LaidOut.TheVariants.{Length, Refused}
 use Rattle.page_outcome.specs.Page.{page_of}
+use Rattle.refusal.specs.declared.Refusal.{Refusal}
 
 -- ---- the checks in order; the page buffer is looked at by its length alone
 
@@ -19,8 +14,8 @@ use Rattle.page_outcome.specs.Page.{page_of}
 abbrev pub page_limit : ℕ
 page_limit = 1195959
 
-unfoldable pub page_layout : (size : ℕ) → Layout
-page_layout size = elim (leb size page_limit) [ true ↦ Good | false ↦ Bad page_limit ]
+unfoldable pub page_layout : (size : ℕ) → Option ℕ
+page_layout size = elim (leb size page_limit) [ true ↦ None | false ↦ Some page_limit ]
 
 -- refusal 1: labels are buffer 0, regions 1 and the page 2
 unfoldable pub layout_verdicts : (labels regions : List ℕ) (size : ℕ) → Verdict
@@ -30,7 +25,7 @@ layout_verdicts labels regions size =
 
 -- "18, the page buffer ... is too short"
 abbrev pub room_verdict : (text : List ℕ) (size : ℕ) → Verdict
-room_verdict text size = elim (leb (length text) size) [ true ↦ Pass | false ↦ Stop NoPageSpace ]
+room_verdict text size = elim (leb (length text) size) [ true ↦ Ok tt | false ↦ Err NoPageSpace ]
 
 -- "Checks go by rising number": 1, 2, 18
 unfoldable pub page_verdict : (labels regions : List ℕ) (size : ℕ) → Verdict
@@ -41,13 +36,13 @@ page_verdict labels regions size =
 -- ---- what the call leaves
 
 pub record PageOutcome : Type 0 where
-  pub answer : LaidOut
+  pub answer : Result ℕ Refusal
   pub page : List ℕ
 
 -- what is refused leaves every byte; a page leaves those behind it
 abbrev pub outcome_by : Verdict → (text page : List ℕ) → PageOutcome
-outcome_by Pass text page = record { answer = Length (length text); page = append page 0 text }
-outcome_by (Stop refusal) text page = record { answer = Refused refusal; page = page }
+outcome_by (Ok tt) text page = record { answer = Ok (length text); page = append page 0 text }
+outcome_by (Err refusal) text page = record { answer = Err refusal; page = page }
 
 unfoldable pub page_outcome : (labels regions page : List ℕ) → PageOutcome
 unfolding page_verdict page_of append

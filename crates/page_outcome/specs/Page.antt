@@ -7,11 +7,11 @@ use Rattle.record.specs.Records.{places}
 use Rattle.pseudo_names.specs.PseudoNames.{bytes_of}
 use Rattle.names.specs.Owners.{owned_name}
 use Rattle.name_order.specs.Order.{order}
-use Rattle.name_order.specs.declared.Ordered.TheVariants.{Less, Same, More}
 use Rattle.reading.specs.Reading.{Image, image_of}
 use Rattle.reading.specs.Rows.{Row, rows}
 use Rattle.text.specs.Text.{word_text}
 use mathlib.Core.List.Memᴰ
+use Rattle.std.specs.declared.cmp.Ordering.TheVariants.{Less, Equal, Greater}
 
 -- ---- lines
 
@@ -51,7 +51,7 @@ names_at labels pc (p ∷ ps) =
 -- "Of several labels at a pc, the smallest by bytes is shown."
 unfoldable pub smaller : List ℕ → List ℕ → List ℕ
 unfolding order
-smaller a b = elim (order b a) [ Less ↦ b | Same ↦ a | More ↦ a ]
+smaller a b = elim (order b a) [ Less ↦ b | Equal ↦ a | Greater ↦ a ]
 
 unfoldable pub smallest : List ℕ → List (List ℕ) → List ℕ
 unfolding smaller

@@ -1,5 +1,5 @@
 -- What is printed depends on the page buffer by its length alone, and one byte more than the limit is as good as any more. Assumes nothing.
-use Rattle.std.specs.Prelude.{ℕ, ◌+◌, ◌≤◌, ◌<◌, min, Bool, take, replicate}
+use Rattle.std.specs.Prelude.{ℕ, ◌+◌, ◌≤◌, ◌<◌, min, Bool, take, replicate, Err, Ok, Option}
 use Rattle.std.proofs.Common.{arith, sym, ◌∙◌, length-take-le}
 use mathlib.Core.List.{List, ◌++◌, append_assoc}
 use Rattle.std.proofs.Math.Bool.{true, false}
@@ -11,19 +11,15 @@ use Rattle.std.proofs.Math.Seq.{take-append_seam}
 use borrow.Author.Tests.{leb-true, leb-false, le-leb, lt-leb}
 use Rattle.record.specs.Bytes.{le32}
 use Rattle.record.specs.Stores.{append}
-use Rattle.record.specs.declared.Layout.{Layout}
-use Rattle.refusal.specs.Verdicts.{and_then, layout_verdict, name_verdict}
+use Rattle.refusal.specs.Verdicts.{and_then, layout_verdict, name_verdict, Verdict}
 use Rattle.refusal.proofs.VerdictsLaws.{both_pass}
 use Rattle.refusal.specs.Numbers.{numbered}
 use Rattle.refusal.specs.declared.Refusal.{Refusal}
 use Rattle.refusal.specs.declared.Refusal.TheVariants.{BadLayout, NoPageSpace}
-use Rattle.refusal.specs.declared.Verdict.{Verdict}
-use Rattle.refusal.specs.declared.Verdict.TheVariants.{Pass, Stop}
 use Rattle.labels.specs.Labels.{label_layout, label_repeat}
 use Rattle.regions.specs.Regions.{region_layout}
 use Rattle.text.specs.Text.{Put, refused_line}
 use Rattle.page_outcome.specs.Page.{page_of}
-use Rattle.page_outcome.specs.declared.LaidOut.TheVariants.{Length, Refused}
 use Rattle.page_outcome.specs.Outcome.{PageOutcome, page_limit, layout_verdicts, room_verdict, page_verdict, outcome_by, page_outcome}
 use Rattle.page_core.proofs.ChecksLaws.{page_long}
 use Rattle.page_text.specs.PageText.{length_in, outcome_text}
@@ -37,13 +33,13 @@ length_there rest h = rw (le-leb 4 (length rest) h, length_in)
 
 -- ---- the text by the verdict
 abbrev text_by : Verdict → (text : List ℕ) → List ℕ
-text_by Pass text = text
-text_by (Stop r) text = refused_line (numbered r)
+text_by (Ok tt) text = text
+text_by (Err r) text = refused_line (numbered r)
 
 text_by_lem : (v : Verdict) (text page : List ℕ) → outcome_text (outcome_by v text page) ≡ text_by v text
 unfolding append
-text_by_lem Pass text page = take-append_seam text _
-text_by_lem (Stop r) text page = refl
+text_by_lem (Ok tt) text page = take-append_seam text _
+text_by_lem (Err r) text page = refl
 
 -- a text put into the first bytes of a space
 append_part : (space text : List ℕ) (room : ℕ) → length text ≤ length (take room space) → append (take room space) 0 text ++ drop room space ≡ append space 0 text
@@ -53,10 +49,10 @@ append_part space text room h =
     ∙ ap (λ (l : List ℕ). text ++ l) (sym (drop-append-le (0 + length text) (take room space) (drop room space) (omega arith)) ∙ ap (drop (0 + length text)) (take-append-drop room space))
 
 -- a refusal of the page, behind which nothing is looked at
-stopped : (a b : Verdict) (r : Refusal) (x y : Verdict) → and_then (and_then a (and_then b (Stop r))) x ≡ and_then (and_then a (and_then b (Stop r))) y
-stopped Pass Pass r x y = refl
-stopped Pass (Stop q) r x y = refl
-stopped (Stop q) b r x y = refl
+stopped : (a b : Verdict) (r : Refusal) (x y : Verdict) → and_then (and_then a (and_then b (Err r))) x ≡ and_then (and_then a (and_then b (Err r))) y
+stopped (Ok tt) (Ok tt) r x y = refl
+stopped (Ok tt) (Err q) r x y = refl
+stopped (Err q) b r x y = refl
 
 module _ (labels regions : List ℕ) where
   text_is : (page : List ℕ) → outcome_text (page_outcome labels regions page) ≡ text_by (page_verdict labels regions (length page)) (page_of labels regions)
@@ -70,9 +66,9 @@ module _ (labels regions : List ℕ) where
   abbrev behind : (size : ℕ) → Verdict
   behind size = and_then (name_verdict 0 (label_repeat labels)) (room_verdict (page_of labels regions) size)
 
-  over : (size : ℕ) → page_limit < size → page_verdict labels regions size ≡ and_then (lists (Stop (BadLayout 2 page_limit))) (behind size)
+  over : (size : ℕ) → page_limit < size → page_verdict labels regions size ≡ and_then (lists (Err (BadLayout 2 page_limit))) (behind size)
   unfolding page_verdict layout_verdicts
-  over size h = ap (λ (c : Layout). and_then (lists (layout_verdict 2 c)) (behind size)) (page_long size h)
+  over size h = ap (λ (c : Option ℕ). and_then (lists (layout_verdict 2 c)) (behind size)) (page_long size h)
 
   over_limit : (m n : ℕ) → page_limit < m → page_limit < n → page_verdict labels regions m ≡ page_verdict labels regions n
   over_limit m n h k =
@@ -95,49 +91,49 @@ module _ (labels regions : List ℕ) where
       go false f = let h = leb-false n page_limit f in over_limit (length (take room space)) (length (replicate {A = ℕ} n 0)) (omega (arith, t)) (omega (arith, u))
 
   -- ---- a page put into the first bytes of a space
-  pass_room : (size : ℕ) → page_verdict labels regions size ≡ Pass → length (page_of labels regions) ≤ size
+  pass_room : (size : ℕ) → page_verdict labels regions size ≡ Ok tt → length (page_of labels regions) ≤ size
   unfolding page_verdict
   pass_room size e = go (leb (length (page_of labels regions)) size) refl (both_pass (name_verdict 0 (label_repeat labels)) _ (both_pass (layout_verdicts labels regions size) _ e).1).1
     where
-      go : (b : Bool) → leb (length (page_of labels regions)) size ≡ b → room_verdict (page_of labels regions) size ≡ Pass → length (page_of labels regions) ≤ size
+      go : (b : Bool) → leb (length (page_of labels regions)) size ≡ b → room_verdict (page_of labels regions) size ≡ Ok tt → length (page_of labels regions) ≤ size
       go true f p = leb-true (length (page_of labels regions)) size f
       go false f p =
-          let q : room_verdict (page_of labels regions) size ≡ Stop NoPageSpace = rw (f, room_verdict) in
+          let q : room_verdict (page_of labels regions) size ≡ Err NoPageSpace = rw (f, room_verdict) in
           let z : ◌≡◌ {A = ℕ} 0 1 = cc in
           absurd (omega arith)
 
   pub page_put : (space part : List ℕ) (room n : ℕ) → room ≤ length space
-      → page_outcome labels regions (take room space) ≡ (record { answer = Length n; page = part })
+      → page_outcome labels regions (take room space) ≡ (record { answer = Ok n; page = part })
       → Put space 0 (outcome_text (page_outcome labels regions (take room space))) (part ++ drop room space) n
   unfolding page_outcome
   page_put space part room n h e = go (page_verdict labels regions (length (take room space))) refl e
     where
-      go : (v : Verdict) → page_verdict labels regions (length (take room space)) ≡ v → outcome_by v (page_of labels regions) (take room space) ≡ (record { answer = Length n; page = part })
+      go : (v : Verdict) → page_verdict labels regions (length (take room space)) ≡ v → outcome_by v (page_of labels regions) (take room space) ≡ (record { answer = Ok n; page = part })
           → Put space 0 (outcome_text (outcome_by v (page_of labels regions) (take room space))) (part ++ drop room space) n
-      go Pass f g =
+      go (Ok tt) f g =
           let l = pass_room (length (take room space)) f in
           let q = ap (λ (o : PageOutcome). o.answer) g in
           let a : length (page_of labels regions) ≡ n = cc q in
           let b = ap (λ (o : PageOutcome). o.page) g in
-          rw (text_by_lem Pass (page_of labels regions) (take room space))
+          rw (text_by_lem (Ok tt) (page_of labels regions) (take room space))
           (record {
             fits = omega (arith, l, length-take room space);
             ends = omega arith;
             bytes = ap (λ (q : List ℕ). q ++ drop room space) (sym b) ∙ append_part space (page_of labels regions) room l;
           })
-      go (Stop r) f g =
+      go (Err r) f g =
           let q = ap (λ (o : PageOutcome). o.answer) g in
           let z : ◌≡◌ {A = ℕ} 0 1 = cc q in
           absurd (omega arith)
 
-  pub page_refused : (space part : List ℕ) (room : ℕ) (r : Refusal) → page_outcome labels regions (take room space) ≡ (record { answer = Refused r; page = part })
+  pub page_refused : (space part : List ℕ) (room : ℕ) (r : Refusal) → page_outcome labels regions (take room space) ≡ (record { answer = Err r; page = part })
       → (part ++ drop room space ≡ space) × (outcome_text (page_outcome labels regions (take room space)) ≡ refused_line (numbered r))
   unfolding page_outcome
   page_refused space part room r e = (go (page_verdict labels regions (length (take room space))) e, ap outcome_text e)
     where
-      go : (v : Verdict) → outcome_by v (page_of labels regions) (take room space) ≡ (record { answer = Refused r; page = part }) → part ++ drop room space ≡ space
-      go Pass g =
+      go : (v : Verdict) → outcome_by v (page_of labels regions) (take room space) ≡ (record { answer = Err r; page = part }) → part ++ drop room space ≡ space
+      go (Ok tt) g =
           let q = ap (λ (o : PageOutcome). o.answer) g in
           let z : ◌≡◌ {A = ℕ} 0 1 = cc q in
           absurd (omega arith)
-      go (Stop s) g = ap (λ (l : List ℕ). l ++ drop room space) (sym (ap (λ (o : PageOutcome). o.page) g)) ∙ take-append-drop room space
+      go (Err s) g = ap (λ (l : List ℕ). l ++ drop room space) (sym (ap (λ (o : PageOutcome). o.page) g)) ∙ take-append-drop room space

@@ -1,17 +1,16 @@
 -- What `page` prints (document 02, P3), as docs/DECISIONS.md has it. Assumes nothing.
-use Rattle.std.specs.Prelude.{ℕ, true, false, List, leb, length, take, replicate}
+use Rattle.std.specs.Prelude.{ℕ, true, false, List, leb, length, take, replicate, Err, Ok, Result}
 use Rattle.record.specs.Bytes.{le32}
 use Rattle.refusal.specs.Numbers.{numbered}
 use Rattle.input.specs.Input.{behind_lists, list_of}
 use Rattle.text.specs.Text.{refused_line}
-use Rattle.page_outcome.specs.declared.LaidOut.{LaidOut}
-use Rattle.page_outcome.specs.declared.LaidOut.TheVariants.{Length, Refused}
 use Rattle.page_outcome.specs.Outcome.{PageOutcome, page_limit, page_outcome}
+use Rattle.refusal.specs.declared.Refusal.{Refusal}
 
 -- the page itself; "A refusal prints alone"
-abbrev pub answer_text : LaidOut → (page : List ℕ) → List ℕ
-answer_text (Length length) page = take length page
-answer_text (Refused r) page = refused_line (numbered r)
+abbrev pub answer_text : Result ℕ Refusal → (page : List ℕ) → List ℕ
+answer_text (Ok length) page = take length page
+answer_text (Err r) page = refused_line (numbered r)
 
 abbrev pub outcome_text : PageOutcome → List ℕ
 outcome_text o = answer_text o.answer o.page

@@ -6,7 +6,6 @@ ghost use Rattle.page_outcome.specs.Outcome.{page_outcome};
 ghost use Rattle.text.specs.Text.{Put};
 ghost use Rattle.page_text.specs.PageText.{length_in, outcome_text, page_text};
 
-use page_outcome::LaidOut;
 
 // Room for a page buffer of one byte more than its limit.
 pub const MOST: usize = page_core::LIMIT + 1;
@@ -28,8 +27,8 @@ fn put_page(out: &mut [u8], room: usize, labels: &[u8], regions: &[u8]) -> usize
         (outcome_text (page_outcome labels.now regions.now (take room out.old))) out.new result }
 {
     match page_core::lay_out(labels, regions, &mut out[..room]) {
-        LaidOut::Length(length) => length as usize,
-        LaidOut::Refused(refusal) => text::put_refusal(out, 0, refusal::numbers(refusal)),
+        Ok(length) => length as usize,
+        Err(refusal) => text::put_refusal(out, 0, refusal::numbers(refusal)),
     }
 }
 

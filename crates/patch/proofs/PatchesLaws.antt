@@ -1,6 +1,6 @@
 -- Laws of one patch: its field fits and reads back by its kind, its destination by its label, its word by its kind, and what it has that passes
 -- its checks. Assumes nothing.
-use Rattle.std.specs.Prelude.{◌≡◌, ℕ, ◌+◌, ◌-◌, ◌*◌, ◌/◌, ◌%◌, ◌^◌, ◌<◌, ◌≤◌, Bool, true, false, List, nat_le, refl}
+use Rattle.std.specs.Prelude.{◌≡◌, ℕ, ◌+◌, ◌-◌, ◌*◌, ◌/◌, ◌%◌, ◌^◌, ◌<◌, ◌≤◌, Bool, true, false, List, nat_le, refl, Err, None, Ok, Option, Some}
 use native.Mathlib.Omega.{arith}
 use Rattle.std.proofs.Math.Bool.{and-eq-true_iff}
 use Rattle.std.proofs.Common.{sym, subst, ◌∙◌, eqb-true, leb-true, leb-false, le-leb}
@@ -12,10 +12,7 @@ use Rattle.field.specs.Field.{get_field, set_field}
 use Rattle.field.proofs.FieldLaws.{get_set_same}
 use Rattle.record.specs.Bytes.{part}
 use Rattle.refusal.specs.declared.Refusal.TheVariants.{PatchPastEnd, UnknownLabel, JumpOutOfRange}
-use Rattle.refusal.specs.declared.Verdict.TheVariants.{Pass, Stop}
 use Rattle.labels.specs.Labels.{Table}
-use Rattle.labels.specs.declared.Address.{Address}
-use Rattle.labels.specs.declared.Address.TheVariants.{Known, Unknown}
 use Rattle.address_label.specs.declared.AddressLabel.{AddressLabel}
 use Rattle.address_label.specs.declared.AddressLabel.TheVariants.{Constant, Label}
 use Rattle.address_label.specs.declared.NamedLabel.{NamedLabel}
@@ -54,14 +51,14 @@ patched_field kind pc dest word hd =
     ∙ get_set_same word 0 (field_width kind) (field_value kind pc dest) (value_fits kind pc dest hd)
 
 -- a destination is a number of 32 bits
-pub destination_lt : (labels : Table) (s : List ℕ) (l : AddressLabel) (d : ℕ) → destination labels s l ≡ Known d → d < 2 ^ 32
+pub destination_lt : (labels : Table) (s : List ℕ) (l : AddressLabel) (d : ℕ) → destination labels s l ≡ Some d → d < 2 ^ 32
 unfolding destination
 destination_lt labels s (Constant v) d e = let z : v % 2 ^ 32 ≡ d = cc in omega arith
 destination_lt labels s (Label n) d e = go (labels.address n.location.source (part s n.name_at n.name_len)) e
   where
-    go : (a : Address) → plus_offset a n.offset ≡ Known d → d < 2 ^ 32
-    go (Known a) k = let z : (a + n.offset) % 2 ^ 32 ≡ d = cc in omega arith
-    go Unknown k = let z : ◌≡◌ {A = ℕ} 0 1 = cc in absurd (omega arith)
+    go : (a : Option ℕ) → plus_offset a n.offset ≡ Some d → d < 2 ^ 32
+    go (Some a) k = let z : (a + n.offset) % 2 ^ 32 ≡ d = cc in omega arith
+    go None k = let z : ◌≡◌ {A = ℕ} 0 1 = cc in absurd (omega arith)
 
 pub jump_page : (job : Job) (pc dest : ℕ) → in_range job Jump pc dest ≡ true → dest / 2 ^ 28 ≡ after pc / 2 ^ 28
 unfolding in_range jump_in_range
@@ -80,14 +77,14 @@ manual_near job m pc dest e =
 
 -- ---- a destination, by its label
 
-pub destination_constant : (labels : Table) (s : List ℕ) (value : ℕ) → destination labels s (Constant value) ≡ Known (wrap32 value)
+pub destination_constant : (labels : Table) (s : List ℕ) (value : ℕ) → destination labels s (Constant value) ≡ Some (wrap32 value)
 unfolding destination
 destination_constant labels s value = refl
 
 -- an offset's low 32 bits are enough
-pub wrapped_offset : (a : Address) (offset : ℕ) → plus_offset a (wrap32 offset) ≡ plus_offset a offset
-wrapped_offset (Known a) offset = ap Known (omega arith)
-wrapped_offset Unknown offset = refl
+pub wrapped_offset : (a : Option ℕ) (offset : ℕ) → plus_offset a (wrap32 offset) ≡ plus_offset a offset
+wrapped_offset (Some a) offset = ap Some (omega arith)
+wrapped_offset None offset = refl
 
 pub destination_label : (labels : Table) (s : List ℕ) (name : NamedLabel)
     → destination labels s (Label name) ≡ plus_offset (labels.address name.location.source (part s name.name_at name.name_len)) (wrap32 name.offset)
@@ -123,50 +120,50 @@ module _ (pc dest word : ℕ) where
 pub record Reached (job : Job) (labels : Table) (pending : List ℕ) (g : Region) (p : Pending) : Type 0 where
   pub dest : ℕ
   pub inside : p.offset + 4 ≤ g.size
-  pub known : destination labels pending p.label ≡ Known dest
+  pub known : destination labels pending p.label ≡ Some dest
   pub range : in_range job p.kind (pc_of g p) dest ≡ true
 
 -- the four outcomes of a patch's checks
 module _ (job : Job) (g : Region) (p : Pending) where
-  pub stops_past : (a : Address) → g.size < p.offset + 4 → patch_stop job g p a ≡ Stop (PatchPastEnd p.location)
+  pub stops_past : (a : Option ℕ) → g.size < p.offset + 4 → patch_stop job g p a ≡ Err (PatchPastEnd p.location)
   stops_past a h = rw (lt-leb (p.offset + 4) g.size h, patch_stop)
 
-  inside_is : (a : Address) → p.offset + 4 ≤ g.size → patch_stop job g p a ≡ reach_verdict job p (pc_of g p) a
+  inside_is : (a : Option ℕ) → p.offset + 4 ≤ g.size → patch_stop job g p a ≡ reach_verdict job p (pc_of g p) a
   inside_is a h = rw (le-leb (p.offset + 4) g.size h, patch_stop)
 
-  pub stops_unknown : p.offset + 4 ≤ g.size → patch_stop job g p Unknown ≡ Stop (UnknownLabel (name_location p.label))
+  pub stops_unknown : p.offset + 4 ≤ g.size → patch_stop job g p None ≡ Err (UnknownLabel (name_location p.label))
   unfolding reach_verdict
-  stops_unknown h = inside_is Unknown h
+  stops_unknown h = inside_is None h
 
   pub stops_far : (d : ℕ) → p.offset + 4 ≤ g.size → in_range job p.kind (pc_of g p) d ≡ false
-      → patch_stop job g p (Known d) ≡ Stop (JumpOutOfRange p.location d (pc_of g p))
+      → patch_stop job g p (Some d) ≡ Err (JumpOutOfRange p.location d (pc_of g p))
   unfolding reach_verdict
-  stops_far d h r = inside_is (Known d) h ∙ rw (r, reach_verdict)
+  stops_far d h r = inside_is (Some d) h ∙ rw (r, reach_verdict)
 
-  pub passes : (d : ℕ) → p.offset + 4 ≤ g.size → in_range job p.kind (pc_of g p) d ≡ true → patch_stop job g p (Known d) ≡ Pass
+  pub passes : (d : ℕ) → p.offset + 4 ≤ g.size → in_range job p.kind (pc_of g p) d ≡ true → patch_stop job g p (Some d) ≡ Ok tt
   unfolding reach_verdict
-  passes d h r = inside_is (Known d) h ∙ rw (r, reach_verdict)
+  passes d h r = inside_is (Some d) h ∙ rw (r, reach_verdict)
 
 module _ (job : Job) (labels : Table) (pending : List ℕ) (g : Region) (p : Pending) where
-  pub verdict_is : (a : Address) → destination labels pending p.label ≡ a → pending_verdict job labels pending g p ≡ patch_stop job g p a
+  pub verdict_is : (a : Option ℕ) → destination labels pending p.label ≡ a → pending_verdict job labels pending g p ≡ patch_stop job g p a
   unfolding pending_verdict
   verdict_is a e = ap (patch_stop job g p) e
 
-  pub reached : pending_verdict job labels pending g p ≡ Pass → Reached job labels pending g p
+  pub reached : pending_verdict job labels pending g p ≡ Ok tt → Reached job labels pending g p
   reached e = go (nat_le (p.offset + 4) g.size) refl (destination labels pending p.label) refl
     where
-      far : (d : ℕ) → p.offset + 4 ≤ g.size → destination labels pending p.label ≡ Known d
+      far : (d : ℕ) → p.offset + 4 ≤ g.size → destination labels pending p.label ≡ Some d
           → (b : Bool) → in_range job p.kind (pc_of g p) d ≡ b → in_range job p.kind (pc_of g p) d ≡ true
       far d h k true r = r
-      far d h k false r = cc (verdict_is (Known d) k ∙ stops_far job g p d h r)
+      far d h k false r = cc (verdict_is (Some d) k ∙ stops_far job g p d h r)
 
-      go : (b : Bool) → nat_le (p.offset + 4) g.size ≡ b → (a : Address) → destination labels pending p.label ≡ a → Reached job labels pending g p
-      go true f (Known d) k =
+      go : (b : Bool) → nat_le (p.offset + 4) g.size ≡ b → (a : Option ℕ) → destination labels pending p.label ≡ a → Reached job labels pending g p
+      go true f (Some d) k =
           let h : p.offset + 4 ≤ g.size = leb-true (p.offset + 4) g.size f in
           record { dest = d; inside = h; known = k; range = far d h k (in_range job p.kind (pc_of g p) d) refl }
-      go true f Unknown k =
+      go true f None k =
           let h : p.offset + 4 ≤ g.size = leb-true (p.offset + 4) g.size f in
-          let s = verdict_is Unknown k ∙ stops_unknown job g p h in
+          let s = verdict_is None k ∙ stops_unknown job g p h in
           let z : ◌≡◌ {A = ℕ} 0 1 = cc in
           absurd (omega arith)
       go false f a k =

@@ -1,6 +1,6 @@
 -- One patch: its destination, its field, its range, its place, its checks and its word (document 01, 'Label 34, region 35, entry 38', 'Where
 -- the work stops'). Assumes nothing.
-use Rattle.std.specs.Prelude.{ℕ, ◌+◌, ◌-◌, ◌/◌, ◌%◌, ◌^◌, Bool, true, false, ◌&&◌, List, ◌==◌, nat_le}
+use Rattle.std.specs.Prelude.{ℕ, ◌+◌, ◌-◌, ◌/◌, ◌%◌, ◌^◌, Bool, true, false, ◌&&◌, List, ◌==◌, nat_le, Err, None, Ok, Option, Some}
 use Rattle.field.specs.Field.{set_field}
 use Rattle.jobs.specs.declared.Job.{Job}
 use Rattle.jobs.specs.Jobs.{most_back, most_ahead}
@@ -9,11 +9,7 @@ use Rattle.record.specs.Stores.{le32_bytes, append}
 use Rattle.record.specs.declared.Location.{Location}
 use Rattle.refusal.specs.Numbers.{zero_location}
 use Rattle.refusal.specs.declared.Refusal.TheVariants.{PatchPastEnd, UnknownLabel, JumpOutOfRange}
-use Rattle.refusal.specs.declared.Verdict.{Verdict}
-use Rattle.refusal.specs.declared.Verdict.TheVariants.{Pass, Stop}
 use Rattle.labels.specs.Labels.{Table}
-use Rattle.labels.specs.declared.Address.{Address}
-use Rattle.labels.specs.declared.Address.TheVariants.{Known, Unknown}
 use Rattle.address_label.specs.declared.AddressLabel.{AddressLabel}
 use Rattle.address_label.specs.declared.AddressLabel.TheVariants.{Constant, Label}
 use Rattle.pending.specs.declared.InstructionLabelKind.{InstructionLabelKind}
@@ -21,19 +17,20 @@ use Rattle.pending.specs.declared.InstructionLabelKind.TheVariants.{Branch, Jump
 use Rattle.pending.specs.declared.Pending.{Pending}
 use Rattle.regions.specs.declared.Region.{Region}
 use Rattle.regions.specs.Regions.{region_place, region_at}
+use Rattle.refusal.specs.Verdicts.{Verdict}
 
 abbrev pub wrap32 : ℕ → ℕ
 wrap32 n = n % 2 ^ 32
 
 -- "label address plus offset. The sum wraps at 2^32."
-abbrev pub plus_offset : Address → ℕ → Address
-plus_offset (Known address) offset = Known (wrap32 (address + offset))
-plus_offset Unknown offset = Unknown
+abbrev pub plus_offset : Option ℕ → ℕ → Option ℕ
+plus_offset (Some address) offset = Some (wrap32 (address + offset))
+plus_offset None offset = None
 
 -- "A destination is a constant's low 32 bits, or label address plus offset." The name stands in the list s, and resolves by "the source in
 -- the name's location" (document 02, P6).
-unfoldable pub destination : (labels : Table) (s : List ℕ) → AddressLabel → Address
-destination labels s (Constant value) = Known (wrap32 value)
+unfoldable pub destination : (labels : Table) (s : List ℕ) → AddressLabel → Option ℕ
+destination labels s (Constant value) = Some (wrap32 value)
 destination labels s (Label name) = plus_offset (labels.address name.location.source (part s name.name_at name.name_len)) name.offset
 
 -- where the name ends in its list
@@ -103,17 +100,17 @@ name_location (Constant value) = zero_location
 name_location (Label name) = name.location
 
 -- "15. That patch's name is unknown. 16. Its branch or jump is out of range (a: destination, b: pc)."
-unfoldable pub reach_verdict : Job → Pending → ℕ → Address → Verdict
+unfoldable pub reach_verdict : Job → Pending → ℕ → Option ℕ → Verdict
 unfolding in_range
-reach_verdict job p pc Unknown = Stop (UnknownLabel (name_location p.label))
-reach_verdict job p pc (Known dest) = elim (in_range job p.kind pc dest) [ true ↦ Pass | false ↦ Stop (JumpOutOfRange p.location dest pc) ]
+reach_verdict job p pc None = Err (UnknownLabel (name_location p.label))
+reach_verdict job p pc (Some dest) = elim (in_range job p.kind pc dest) [ true ↦ Ok tt | false ↦ Err (JumpOutOfRange p.location dest pc) ]
 
 -- "14. A patch, taken in patch order, ends past its region's data"; its destination is given
-abbrev pub patch_stop : Job → Region → Pending → Address → Verdict
+abbrev pub patch_stop : Job → Region → Pending → Option ℕ → Verdict
 patch_stop job region p address =
     elim (nat_le (p.offset + 4) region.size) [
       | true ↦ reach_verdict job p (pc_of region p) address
-      | false ↦ Stop (PatchPastEnd p.location)
+      | false ↦ Err (PatchPastEnd p.location)
     ]
 
 unfoldable pub pending_verdict : Job → (labels : Table) (pending : List ℕ) → Region → Pending → Verdict
@@ -123,12 +120,12 @@ pending_verdict job labels pending region p = patch_stop job region p (destinati
 -- ---- the word written
 
 -- what is known of an address; an unknown one has been refused
-abbrev pub address_or : ℕ → Address → ℕ
-address_or other (Known address) = address
-address_or other Unknown = other
+abbrev pub address_or : ℕ → Option ℕ → ℕ
+address_or other (Some address) = address
+address_or other None = other
 
 -- the region list with the patch's word stored; its destination is given
-abbrev pub write_word : Region → Pending → Address → List ℕ → List ℕ
+abbrev pub write_word : Region → Pending → Option ℕ → List ℕ → List ℕ
 write_word region p address d =
     append d (region.start + p.offset)
     (le32_bytes (patched_word p.kind (pc_of region p) (address_or 0 address) (le32 d (region.start + p.offset))))

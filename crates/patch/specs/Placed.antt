@@ -1,11 +1,7 @@
 -- The destination of a patch by the place of its label, which is looked up once (document 02, P13). Assumes nothing.
-use Rattle.std.specs.Prelude.{ℕ, ◌+◌, true, false, List, ◌==◌, ◌≤◌, length, ◌≢◌}
+use Rattle.std.specs.Prelude.{ℕ, ◌+◌, true, false, List, ◌==◌, ◌≤◌, length, ◌≢◌, None, Option, Some}
 use Rattle.record.specs.Bytes.{le32, part}
-use Rattle.names.specs.declared.Named.{Named}
-use Rattle.names.specs.declared.Named.TheVariants.{At, Missing}
 use Rattle.labels.specs.Labels.{labelled}
-use Rattle.labels.specs.declared.Address.{Address}
-use Rattle.labels.specs.declared.Address.TheVariants.{Known, Unknown}
 use Rattle.address_label.specs.declared.AddressLabel.{AddressLabel}
 use Rattle.address_label.specs.declared.AddressLabel.TheVariants.{Constant, Label}
 use Rattle.patch.specs.Patches.{wrap32, plus_offset}
@@ -14,20 +10,20 @@ use Rattle.patch.specs.Patches.{wrap32, plus_offset}
 abbrev pub no_place : ℕ
 no_place = 0xFFFF
 
-abbrev pub place_of : Named → ℕ
-place_of (At p) = p
-place_of Missing = no_place
+abbrev pub place_of : Option ℕ → ℕ
+place_of (Some p) = p
+place_of None = no_place
 
 -- the place of the label that a name in the list s resolves to
 unfoldable pub label_place : (labels s : List ℕ) → AddressLabel → ℕ
 label_place labels s (Constant value) = no_place
 label_place labels s (Label name) = place_of (labelled labels name.location.source (part s name.name_at name.name_len))
 
-abbrev pub address_at : List ℕ → ℕ → Address
-address_at labels place = elim (place == no_place) [ true ↦ Unknown | false ↦ Known (le32 labels (place + 4)) ]
+abbrev pub address_at : List ℕ → ℕ → Option ℕ
+address_at labels place = elim (place == no_place) [ true ↦ None | false ↦ Some (le32 labels (place + 4)) ]
 
-unfoldable pub placed_destination : List ℕ → AddressLabel → (place : ℕ) → Address
-placed_destination labels (Constant value) place = Known (wrap32 value)
+unfoldable pub placed_destination : List ℕ → AddressLabel → (place : ℕ) → Option ℕ
+placed_destination labels (Constant value) place = Some (wrap32 value)
 placed_destination labels (Label name) place = plus_offset (address_at labels place) name.offset
 
 -- a place that a label may be read at

@@ -11,21 +11,19 @@ ghost use Rattle.patch.specs.Placed.{Placed};
 
 use address_label::AddressLabel;
 use jobs::Job;
-use labels::Address;
-use names::Named;
 use pending::{InstructionLabelKind, Pending};
 use record::Location;
-use refusal::{Refusal, Verdict};
+use refusal::Refusal;
 use regions::Region;
 
 // The destination of a constant, or of a name that stands in `list`.
-pub fn get_address(label: AddressLabel, list: &[u8], labels: &[u8], index: &[u16]) -> Address
+pub fn get_address(label: AddressLabel, list: &[u8], labels: &[u8], index: &[u16]) -> Option<u32>
     requires indexed { Indexed labels.now index.now }
     requires label_in_bounds { name_end label ≤ length list.now }
     ensures { result ≡ destination (table_of labels.now) list.now label }
 {
     match label {
-        AddressLabel::Constant(value) => Address::Known((value % 0x1_0000_0000) as u32),
+        AddressLabel::Constant(value) => Some((value % 0x1_0000_0000) as u32),
         AddressLabel::Label(name) => {
             let at = name.name_at;
             let end = at + name.name_len;
@@ -51,38 +49,38 @@ pub fn label_place(label: AddressLabel, list: &[u8], labels: &[u8], index: &[u16
             let looked = labels::look_up(labels, index, name.location.source, &list[at..end]);
             let named = looked.named;
             match named {
-                Named::At(place) => place as u16,
-                Named::Missing => NO_PLACE,
+                Some(place) => place as u16,
+                None => NO_PLACE,
             }
         }
     }
 }
 
 // The destination of a constant, or of a name whose label stands at `place`.
-pub fn address_at(label: AddressLabel, labels: &[u8], place: u16) -> Address
+pub fn address_at(label: AddressLabel, labels: &[u8], place: u16) -> Option<u32>
     requires { Placed labels.now place }
     ensures { result ≡ placed_destination labels.now label place }
 {
     match label {
-        AddressLabel::Constant(value) => Address::Known((value % 0x1_0000_0000) as u32),
+        AddressLabel::Constant(value) => Some((value % 0x1_0000_0000) as u32),
         AddressLabel::Label(name) => {
             if place == NO_PLACE {
-                return Address::Unknown;
+                return None;
             }
             let offset = (name.offset % 0x1_0000_0000) as u32;
             let address = record::word_at(labels, place as usize + 4);
-            Address::Known(std::num::wrapping_add_u32(address, offset))
+            Some(std::num::wrapping_add_u32(address, offset))
         }
     }
 }
 
 // "The sum wraps at 2^32."
-fn plus_offset(address: Address, offset: u32) -> Address
+fn plus_offset(address: Option<u32>, offset: u32) -> Option<u32>
     ensures { result ≡ plus_offset address offset }
 {
     match address {
-        Address::Known(value) => Address::Known(std::num::wrapping_add_u32(value, offset)),
-        Address::Unknown => Address::Unknown,
+        Some(value) => Some(std::num::wrapping_add_u32(value, offset)),
+        None => None,
     }
 }
 
@@ -154,7 +152,7 @@ fn add_label(instruction: u32, kind: InstructionLabelKind, span: Span) -> u32
 }
 
 // The checks of one patch, of which the destination is given: 14, 15, 16.
-pub fn check_pending(job: Job, region: Region, patch: Pending, address: Address) -> Verdict
+pub fn check_pending(job: Job, region: Region, patch: Pending, address: Option<u32>) -> Result<(), Refusal>
     ensures { result ≡ patch_stop job region patch address }
 {
     let location = patch.location;
@@ -162,32 +160,32 @@ pub fn check_pending(job: Job, region: Region, patch: Pending, address: Address)
     let kind = patch.kind;
     let end = patch.offset as usize + 4;
     if end > region.size {
-        return Verdict::Stop(Refusal::PatchPastEnd(location));
+        return Err(Refusal::PatchPastEnd(location));
     }
     let pc = std::num::wrapping_add_u32(region.address, patch.offset);
     match address {
-        Address::Unknown => Verdict::Stop(Refusal::UnknownLabel(name_location(label))),
-        Address::Known(destination) => {
+        None => Err(Refusal::UnknownLabel(name_location(label))),
+        Some(destination) => {
             if in_range(job, kind, pc, destination) {
-                Verdict::Pass
+                Ok(())
             } else {
-                Verdict::Stop(Refusal::JumpOutOfRange(location, destination, pc))
+                Err(Refusal::JumpOutOfRange(location, destination, pc))
             }
         }
     }
 }
 
-fn address_or_zero(address: Address) -> u32
+fn address_or_zero(address: Option<u32>) -> u32
     ensures { result ≡ address_or 0 address }
 {
     match address {
-        Address::Known(value) => value,
-        Address::Unknown => 0,
+        Some(value) => value,
+        None => 0,
     }
 }
 
 // Writes one patch, of which the destination is given, into the region list.
-pub fn write_pending(regions: &mut [u8], region: Region, patch: Pending, address: Address)
+pub fn write_pending(regions: &mut [u8], region: Region, patch: Pending, address: Option<u32>)
     requires { region.start + patch.offset + 4 ≤ length regions.old }
     ensures { regions.new ≡ write_word region patch address regions.old }
 {

@@ -9,28 +9,27 @@ ghost use Rattle.breakpoints.specs.Breakpoints.{filled_layout};
 ghost use Rattle.binary_builder.specs.Steps.{PendingList, most_pendings};
 ghost use Rattle.patching_outcome.specs.Patching.{has_patched};
 
-use record::Layout;
 
 // Whether the buffer is within the limit and the fill count within the buffer.
-fn filled(buffer: &[u8], fill: usize) -> Layout
-    ensures { result ≡ filled_layout fill buffer.now Layout.Good }
+fn filled(buffer: &[u8], fill: usize) -> Option<usize>
+    ensures { result ≡ filled_layout fill buffer.now None }
 {
     if buffer.len() > record::LIMIT {
-        return Layout::Bad(record::LIMIT);
+        return Some(record::LIMIT);
     }
     if fill > buffer.len() {
-        return Layout::Bad(buffer.len());
+        return Some(buffer.len());
     }
-    Layout::Good
+    None
 }
 
 // The layout of the first `fill` bytes as a list of regions.
-pub fn check_regions(buffer: &[u8], fill: usize) -> Layout
+pub fn check_regions(buffer: &[u8], fill: usize) -> Option<usize>
     ensures { result ≡ filled_layout fill buffer.now (region_layout (take fill buffer.now)) }
 {
     match filled(buffer, fill) {
-        Layout::Bad(p) => Layout::Bad(p),
-        Layout::Good => regions::first_bad_region(&buffer[..fill]),
+        Some(p) => Some(p),
+        None => regions::first_bad_region(&buffer[..fill]),
     }
 }
 
@@ -49,36 +48,36 @@ pub fn count_pendings(pending: &[u8]) -> usize
 }
 
 // The layout of a list of pendings, of which `patches` are patched.
-fn check_patched(pending: &[u8], regions: usize, patches: usize) -> Layout
+fn check_patched(pending: &[u8], regions: usize, patches: usize) -> Option<usize>
     ensures { result ≡ has_patched patches pending.now (pending_layout regions pending.now) }
 {
     match pending::first_bad_pending(pending, regions) {
-        Layout::Bad(p) => Layout::Bad(p),
-        Layout::Good => {
+        Some(p) => Some(p),
+        None => {
             if patches <= count_pendings(pending) {
-                Layout::Good
+                None
             } else {
-                Layout::Bad(pending.len())
+                Some(pending.len())
             }
         }
     }
 }
 
 // The layout of the first `fill` bytes as a list of pendings, of which `patches` are patched.
-pub fn check_pendings(buffer: &[u8], fill: usize, regions: usize, patches: usize) -> Layout
+pub fn check_pendings(buffer: &[u8], fill: usize, regions: usize, patches: usize) -> Option<usize>
     ensures { result ≡ filled_layout fill buffer.now
         (has_patched patches (take fill buffer.now) (pending_layout regions (take fill buffer.now))) }
 {
     match filled(buffer, fill) {
-        Layout::Bad(p) => Layout::Bad(p),
-        Layout::Good => check_patched(&buffer[..fill], regions, patches),
+        Some(p) => Some(p),
+        None => check_patched(&buffer[..fill], regions, patches),
     }
 }
 
 // Whether there are four bytes for each pending.
-pub fn check_kept(kept: &[u8], pending: &[u8]) -> Layout
+pub fn check_kept(kept: &[u8], pending: &[u8]) -> Option<usize>
     requires { PendingList pending.now }
-    ensures { result ≡ filled_layout (4 * length (places pending.now)) kept.now Layout.Good }
+    ensures { result ≡ filled_layout (4 * length (places pending.now)) kept.now None }
 {
     filled(kept, 4 * count_pendings(pending))
 }

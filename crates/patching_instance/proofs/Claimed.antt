@@ -3,10 +3,9 @@
 use mathlib.Core.List.Memᴰ
 use Rattle.std.proofs.Common.{⊎_elim, arith, sym, subst}
 use mathlib.Core.List.{[], ◌∷◌, Memᴰ}
-use Rattle.std.specs.Prelude.{ℕ, ◌+◌, ◌≤◌, ◌≡◌, refl}
+use Rattle.std.specs.Prelude.{ℕ, ◌+◌, ◌≤◌, ◌≡◌, refl, Err, Ok}
 use Rattle.jobs.specs.declared.Job.TheVariants.{Commit}
 use Rattle.refusal.specs.declared.Refusal.TheVariants.{PatchPastEnd}
-use Rattle.build_outcome.specs.declared.Built.TheVariants.{Entry as BuiltEntry, Refused as BuiltRefused}
 use Rattle.record.specs.Bytes.{all}
 use Rattle.record.specs.Records.{places_f, places_from, places}
 use Rattle.pending.specs.Pendings.{pending_at}
@@ -33,7 +32,7 @@ unfolding all
 all_bytes = (tt, (tt, ((of_bytes (b 0).token_list refl, of_bytes (b 0).mnemonic refl), (tt, tt))))
 
 pub built : build_first Commit labels [] three start
-    ≡ (record { answer = BuiltRefused (PatchPastEnd (place 90)); regions = regions_of (step_outcome Commit labels [] (run Commit labels [] three start)).after })
+    ≡ (record { answer = Err (PatchPastEnd (place 90)); regions = regions_of (step_outcome Commit labels [] (run Commit labels [] three start)).after })
 built = (all_finish Commit labels [] three start all_bytes started).refused (PatchPastEnd (place 90)) computed.refuses
 
 pub good_start : Start good
@@ -45,7 +44,7 @@ good_start = record {
   kept_within = (omega arith, omega arith);
 }
 
-pub ended : build_first Commit labels [] three good ≡ (record { answer = BuiltEntry 0x00400000; regions = regions_of (run Commit labels [] three good) })
+pub ended : build_first Commit labels [] three good ≡ (record { answer = Ok 0x00400000; regions = regions_of (run Commit labels [] three good) })
 ended = (all_finish Commit labels [] three good all_bytes good_start).ended 0x00400000 computed.ends
 
 -- and the premise of the request's own sentence
@@ -76,5 +75,5 @@ good_inside at m =
     (λ t. ⊎_elim (λ e. subst InsideAt (sym e) second_inside) (λ u. elim u [ ]) (Memᴰ.cases_cons t))
     (Memᴰ.cases_cons (subst (Memᴰ at) waits m))
 
-pub requested : ((build_first Commit labels [] three good).answer ≡ BuiltEntry 0x00400000) × ((build_first Commit labels [] three good).regions ≡ regions_of (run Commit labels [] three good))
+pub requested : ((build_first Commit labels [] three good).answer ≡ Ok 0x00400000) × ((build_first Commit labels [] three good).regions ≡ regions_of (run Commit labels [] three good))
 requested = (as_requested Commit labels [] three good all_bytes good_start good_inside).finished_image 0x00400000 computed.ends

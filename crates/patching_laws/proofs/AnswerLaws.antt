@@ -1,5 +1,5 @@
 -- A line that is not late is answered as by the accepted lines alone: 29 is all that patching adds (document 02, P12). Assumes nothing.
-use Rattle.std.specs.Prelude.{ℕ, ◌+◌, ◌≤◌, ◌<◌, Bool, ◌||◌, ◌≡◌, refl, length, take, drop}
+use Rattle.std.specs.Prelude.{ℕ, ◌+◌, ◌≤◌, ◌<◌, Bool, ◌||◌, ◌≡◌, refl, length, take, drop, Err, Ok, Option, Some}
 use Rattle.std.proofs.Common.{arith, ◌∙◌, length-append, length-drop, length-take-le}
 use mathlib.Core.List.{List, []}
 use Rattle.std.proofs.Math.Bool.{true, false}
@@ -7,11 +7,7 @@ use Rattle.std.proofs.Math.Path.{sym, ap, ap₂}
 use Rattle.std.proofs.Math.Dec.{ltb, eqb}
 use Rattle.jobs.specs.declared.Job.{Job}
 use Rattle.record.specs.Bytes.{part}
-use Rattle.record.specs.declared.Layout.{Layout}
-use Rattle.record.specs.declared.Layout.TheVariants.{Bad}
-use Rattle.refusal.specs.Verdicts.{and_then, layout_verdict}
-use Rattle.refusal.specs.declared.Verdict.{Verdict}
-use Rattle.refusal.specs.declared.Verdict.TheVariants.{Pass, Stop}
+use Rattle.refusal.specs.Verdicts.{and_then, layout_verdict, Verdict}
 use Rattle.lexer.specs.Tokens.{token_layout}
 use Rattle.descriptors.specs.Mnemonics.{mnemonic_layout}
 use Rattle.descriptors.specs.Descriptors.{descriptor_layout}
@@ -46,7 +42,7 @@ module _ (job : Job) (labels : Table) (entry : List ℕ) (of : Job) (g : LineGiv
       let f = h.regions_fill in
       let w = h.regions_within in
       let n : is_listed (regions_of q) r ≡ is_listed (regions_of b) r = ap (λ (n : ℕ). eqb r no_region || ltb r n) (count_same job labels entry q b h) in
-      ap (λ (x : Layout). elim (region_number_ok r) [ true ↦ x | false ↦ Bad 0 ])
+      ap (λ (x : Option ℕ). elim (region_number_ok r) [ true ↦ x | false ↦ Some 0 ])
       (filled_kept q.counts.regions q.regions (only_listed (is_listed (regions_of q) r) (region_layout (regions_of q))) (omega arith) (omega arith)
       ∙ ap₂ only_listed n ((image_kept job labels entry q b h).layout_good ∙ sym h.good)
       ∙ sym (filled_kept b.counts.regions b.regions (only_listed (is_listed (regions_of b) r) (region_layout (regions_of b))) w.0 w.1))
@@ -58,7 +54,7 @@ module _ (job : Job) (labels : Table) (entry : List ℕ) (of : Job) (g : LineGiv
   lists_same : line_layouts g q ≡ line_layouts g b
   unfolding line_layouts
   lists_same =
-      ap₂ (λ (x y : Layout).
+      ap₂ (λ (x y : Option ℕ).
       and_then (layout_verdict 0 (token_layout g.token_list))
       (and_then (layout_verdict 1 (mnemonic_layout g.mnemonic))
       (and_then (layout_verdict 2 (descriptor_layout g.descriptors))
@@ -110,7 +106,7 @@ module _ (job : Job) (labels : Table) (entry : List ℕ) (of : Job) (g : LineGiv
   pub answers_same : is_late q g.region ≡ false → (line_outcome of g q).answer ≡ (line_outcome of g b).answer
   answers_same timely = by (line_layouts g b) refl
     where
-      selected : line_layouts g b ≡ Pass → (n : Bool) → eqb g.region no_region ≡ n → (line_outcome of g q).answer ≡ (line_outcome of g b).answer
+      selected : line_layouts g b ≡ Ok tt → (n : Bool) → eqb g.region no_region ≡ n → (line_outcome of g q).answer ≡ (line_outcome of g b).answer
       selected v true n =
           answer_none of g q (lists_same ∙ v) n ∙ ap (λ (c : Call). (emit_outcome of c).answer) none_same ∙ sym (answer_none of g b v n)
       selected v false n =
@@ -119,5 +115,5 @@ module _ (job : Job) (labels : Table) (entry : List ℕ) (of : Job) (g : LineGiv
           ∙ sym (answer_timely of g b v n (fresh_timely b g.region h.none_patched h.base_runs))
 
       by : (v : Verdict) → line_layouts g b ≡ v → (line_outcome of g q).answer ≡ (line_outcome of g b).answer
-      by (Stop s) v = answer_stopped of g q s (lists_same ∙ v) ∙ sym (answer_stopped of g b s v)
-      by Pass v = selected v (eqb g.region no_region) refl
+      by (Err s) v = answer_stopped of g q s (lists_same ∙ v) ∙ sym (answer_stopped of g b s v)
+      by (Ok tt) v = selected v (eqb g.region no_region) refl

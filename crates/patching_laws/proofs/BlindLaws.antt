@@ -1,6 +1,6 @@
 -- An emit call is blind to the data that stands in its region: calls that differ in data bytes only have one answer, and append the same
 -- (document 02, P12). And an accepted call, taken apart. Assumes nothing.
-use Rattle.std.specs.Prelude.{ℕ, ◌+◌, ◌-◌, ◌*◌, ◌≤◌, ◌<◌, List, true, false, ◌&&◌, ◌≡◌, refl, take}
+use Rattle.std.specs.Prelude.{ℕ, ◌+◌, ◌-◌, ◌*◌, ◌≤◌, ◌<◌, List, true, false, ◌&&◌, ◌≡◌, refl, take, Err, None, Ok, Option, Some}
 use Rattle.std.proofs.Common.{arith, sym, subst, ◌∙◌}
 use Rattle.std.proofs.Math.Path.{ap}
 use Rattle.std.proofs.Math.ListN.{length}
@@ -9,12 +9,8 @@ use Rattle.jobs.specs.declared.Job.{Job}
 use Rattle.record.specs.Bytes.{part}
 use Rattle.record.specs.Records.{limit, within_limit}
 use Rattle.record.specs.Stores.{append}
-use Rattle.record.specs.declared.Layout.{Layout}
-use Rattle.record.specs.declared.Layout.TheVariants.{Good, Bad}
 use Rattle.record.specs.declared.Location.{Location}
-use Rattle.refusal.specs.Verdicts.{and_then, layout_verdict, name_verdict}
-use Rattle.refusal.specs.declared.Verdict.{Verdict}
-use Rattle.refusal.specs.declared.Verdict.TheVariants.{Pass, Stop}
+use Rattle.refusal.specs.Verdicts.{and_then, layout_verdict, name_verdict, Verdict}
 use Rattle.lexer.specs.Tokens.{token_layout, tokens}
 use Rattle.descriptors.specs.Mnemonics.{mnemonic_layout, mnemonic_name, mnemonic_location}
 use Rattle.descriptors.specs.Descriptors.{descriptor_layout, descriptor_repeat}
@@ -63,13 +59,13 @@ with_data c d = record {
 data_same : (region fill : ℕ) (d e : List ℕ) → length d ≡ length e → data_buffer_layout region fill d ≡ data_buffer_layout region fill e
 unfolding data_buffer_layout filled_layout within_limit
 data_same region fill d e l =
-    ap (λ (n : ℕ). elim (region_number_ok region) [ true ↦ elim (leb n limit) [ true ↦ elim (leb fill n) [ true ↦ Good | false ↦ Bad n ] | false ↦ Bad limit ] | false ↦ Bad 0 ]) l
+    ap (λ (n : ℕ). elim (region_number_ok region) [ true ↦ elim (leb n limit) [ true ↦ elim (leb fill n) [ true ↦ None | false ↦ Some n ] | false ↦ Some limit ] | false ↦ Some 0 ]) l
 
 module _ (c : Call) (d : List ℕ) (same : length d ≡ length c.lent.region_data) where
   stop_same : call_stop (with_data c d) ≡ call_stop c
   unfolding list_stop layout_stop
   stop_same =
-      ap (λ (l : Layout).
+      ap (λ (l : Option ℕ).
       and_then
       (and_then (layout_verdict 0 (token_layout c.token_list))
       (and_then (layout_verdict 1 (mnemonic_layout c.mnemonic))
@@ -103,8 +99,8 @@ module _ (c : Call) (d : List ℕ) (same : length d ≡ length c.lent.region_dat
   answer_stop_lem pairs (OutOfRange fault) = refl
 
   by_verdict : (made : Line) (v : Verdict) → (accept_or c.token_list line c.numbers (with_data c d).lent made v).answer ≡ (accept_or c.token_list line c.numbers c.lent made v).answer
-  by_verdict made Pass = refl
-  by_verdict made (Stop r) = refl
+  by_verdict made (Ok tt) = refl
+  by_verdict made (Err r) = refl
 
   line_answer : (made : Line) → (call_line (with_data c d) made).answer ≡ (call_line c made).answer
   unfolding line_outcome
@@ -119,8 +115,8 @@ module _ (c : Call) (d : List ℕ) (same : length d ≡ length c.lent.region_dat
     by_meaning Neither = refl
 
     by_list : (v : Verdict) → (list_outcome job (with_data c d) v).answer ≡ (list_outcome job c v).answer
-    by_list Pass = by_meaning (meaning c.descriptors (mnemonic_name c.mnemonic))
-    by_list (Stop r) = refl
+    by_list (Ok tt) = by_meaning (meaning c.descriptors (mnemonic_name c.mnemonic))
+    by_list (Err r) = refl
 
     -- the law
     pub emit_blind : (emit_outcome job (with_data c d)).answer ≡ (emit_outcome job c).answer

@@ -1,18 +1,14 @@
 -- Before the first step that passes its checks the two are one; a step then passes a build's checks, or is refused as a build is
 -- (document 02, P12). Assumes nothing.
-use Rattle.std.specs.Prelude.{ℕ, ◌≡◌, take}
+use Rattle.std.specs.Prelude.{ℕ, ◌≡◌, take, Err, None, Ok, Option, Some}
 use Rattle.std.proofs.Common.{arith, subst, ◌∙◌, length-take}
 use mathlib.Core.List.{List, [], Memᴰ}
 use Rattle.std.proofs.Math.Path.{refl, sym, ap, ap₂}
 use Rattle.jobs.specs.declared.Job.{Job}
 use Rattle.record.specs.Records.{places}
-use Rattle.record.specs.declared.Layout.{Layout}
-use Rattle.record.specs.declared.Layout.TheVariants.{Good, Bad}
-use Rattle.refusal.specs.Verdicts.{and_then, layout_verdict, name_verdict}
+use Rattle.refusal.specs.Verdicts.{and_then, layout_verdict, name_verdict, Verdict}
 use Rattle.refusal.proofs.VerdictsLaws.{both_pass, layout_pass}
 use Rattle.refusal.specs.declared.Refusal.{Refusal}
-use Rattle.refusal.specs.declared.Verdict.{Verdict}
-use Rattle.refusal.specs.declared.Verdict.TheVariants.{Pass, Stop}
 use Rattle.labels.specs.Labels.{Table}
 use Rattle.regions.specs.Regions.{region_layout, region_count}
 use Rattle.address_label.specs.Entries.{entry_layout, entry_of}
@@ -27,15 +23,15 @@ use Rattle.build_outcome.proofs.BuildLaws.{then_pass}
 use Rattle.patching_laws.proofs.StepLaws.{Opened, regions_pass, pendings_pass, kept_pass}
 
 -- a check that stops, whatever follows the last
-stop_then : (l n e x : Verdict) (r : Refusal) → and_then l (and_then n e) ≡ Stop r → and_then l (and_then n (and_then e x)) ≡ Stop r
-stop_then (Stop s) n e x r h = h
-stop_then Pass (Stop s) e x r h = h
-stop_then Pass Pass (Stop s) x r h = h
-stop_then Pass Pass Pass x r h = let z : ◌≡◌ {A = ℕ} 0 1 = cc in absurd (omega arith)
+stop_then : (l n e x : Verdict) (r : Refusal) → and_then l (and_then n e) ≡ Err r → and_then l (and_then n (and_then e x)) ≡ Err r
+stop_then (Err s) n e x r h = h
+stop_then (Ok tt) (Err s) e x r h = h
+stop_then (Ok tt) (Ok tt) (Err s) x r h = h
+stop_then (Ok tt) (Ok tt) (Ok tt) x r h = let z : ◌≡◌ {A = ℕ} 0 1 = cc in absurd (omega arith)
 
 module _ (job : Job) (labels : Table) (entry : List ℕ) where
   -- a step's checks, by the layouts of the lists
-  abbrev checks_by : Layout → Layout → Layout → Verdict
+  abbrev checks_by : Option ℕ → Option ℕ → Option ℕ → Verdict
   checks_by regions pending kept =
       and_then
       (and_then (layout_verdict 0 labels.layout)
@@ -49,13 +45,13 @@ module _ (job : Job) (labels : Table) (entry : List ℕ) where
   checks_are q = refl
 
   -- lists that keep their layouts have no part in them
-  pub checks_same : (q b : Patching) → Held job labels entry q b → step_checks labels entry q ≡ checks_by Good Good Good
+  pub checks_same : (q b : Patching) → Held job labels entry q b → step_checks labels entry q ≡ checks_by None None None
   checks_same q b h =
-      checks_are q ∙ ap₂ (λ (x y : Layout). checks_by x y (kept_layout q)) (regions_pass job labels entry q b h) (pendings_pass job labels entry q b h)
-      ∙ ap (checks_by Good Good) (kept_pass job labels entry q b h)
+      checks_are q ∙ ap₂ (λ (x y : Option ℕ). checks_by x y (kept_layout q)) (regions_pass job labels entry q b h) (pendings_pass job labels entry q b h)
+      ∙ ap (checks_by None None) (kept_pass job labels entry q b h)
 
   module _ (q : Patching) (s : Start q) where
-    kept_enough : pending_layout (region_count (regions_of q)) (pendings_of q) ≡ Good → kept_layout q ≡ Good
+    kept_enough : pending_layout (region_count (regions_of q)) (pendings_of q) ≡ None → kept_layout q ≡ None
     kept_enough g =
         let w = s.pending_within in
         kept_is q (s.kept_within.0, omega (arith, few (region_count (regions_of q)) (pendings_of q) g, length-take q.counts.pending q.pending, s.kept_within.1))
@@ -66,20 +62,20 @@ module _ (job : Job) (labels : Table) (entry : List ℕ) where
     pendings_are : pendings_layout q ≡ pending_layout (region_count (regions_of q)) (pendings_of q)
     pendings_are = pendings_is q s.pending_within (omega (arith, s.none_patched))
 
-    kept_no_part : (l : Layout) → pending_layout (region_count (regions_of q)) (pendings_of q) ≡ l → and_then (layout_verdict 3 l) (layout_verdict 4 (kept_layout q)) ≡ layout_verdict 3 l
-    kept_no_part Good e = ap (layout_verdict 4) (kept_enough e)
-    kept_no_part (Bad place) e = refl
+    kept_no_part : (l : Option ℕ) → pending_layout (region_count (regions_of q)) (pendings_of q) ≡ l → and_then (layout_verdict 3 l) (layout_verdict 4 (kept_layout q)) ≡ layout_verdict 3 l
+    kept_no_part None e = ap (layout_verdict 4) (kept_enough e)
+    kept_no_part (Some place) e = refl
 
     -- a step's layouts are a build's
     layouts_same : step_layouts labels entry q ≡ layout_verdicts labels entry (regions_of q) (pendings_of q)
     unfolding step_layouts layout_verdicts
     layouts_same =
-        ap₂ (λ (x y : Layout). and_then (layout_verdict 0 labels.layout) (and_then (layout_verdict 1 (entry_layout entry)) (and_then (layout_verdict 2 x) (and_then (layout_verdict 3 y) (layout_verdict 4 (kept_layout q)))))) regions_are pendings_are
+        ap₂ (λ (x y : Option ℕ). and_then (layout_verdict 0 labels.layout) (and_then (layout_verdict 1 (entry_layout entry)) (and_then (layout_verdict 2 x) (and_then (layout_verdict 3 y) (layout_verdict 4 (kept_layout q)))))) regions_are pendings_are
         ∙ ap (λ (v : Verdict). and_then (layout_verdict 0 labels.layout) (and_then (layout_verdict 1 (entry_layout entry)) (and_then (layout_verdict 2 (region_layout (regions_of q))) v)))
         (kept_no_part (pending_layout (region_count (regions_of q)) (pendings_of q)) refl)
 
     -- refused as a build is
-    pub checks_stop : (r : Refusal) → step_checks labels entry q ≡ Stop r → build_verdict job labels entry (regions_of q) (pendings_of q) ≡ Stop r
+    pub checks_stop : (r : Refusal) → step_checks labels entry q ≡ Err r → build_verdict job labels entry (regions_of q) (pendings_of q) ≡ Err r
     unfolding step_checks build_verdict
     checks_stop r e =
         stop_then (layout_verdicts labels entry (regions_of q) (pendings_of q)) (name_verdict 0 labels.repeat) (entry_verdict labels entry (entry_of entry (places entry))) (patches_verdict job labels (regions_of q) (pendings_of q)) r
@@ -88,10 +84,10 @@ module _ (job : Job) (labels : Table) (entry : List ℕ) where
     -- passed as a build's are
     pub record Passed : Type 0 where
       pub opened : Opened job labels entry
-      pub good : region_layout (regions_of q) ≡ Good
-      pub pendings_good : pending_layout (region_count (regions_of q)) (pendings_of q) ≡ Good
+      pub good : region_layout (regions_of q) ≡ None
+      pub pendings_good : pending_layout (region_count (regions_of q)) (pendings_of q) ≡ None
 
-    pub checks_passed : step_checks labels entry q ≡ Pass → Passed
+    pub checks_passed : step_checks labels entry q ≡ Ok tt → Passed
     unfolding step_checks step_layouts
     checks_passed e =
         let c = both_pass (step_layouts labels entry q) _ e in
@@ -114,7 +110,7 @@ module _ (job : Job) (labels : Table) (entry : List ℕ) where
     nothing_done : take q.counts.patches (order_of q) ≡ []
     nothing_done = ap (λ (n : ℕ). take n (order_of q)) s.none_patched
 
-    pub fresh_held : region_layout (regions_of q) ≡ Good → pending_layout (region_count (regions_of q)) (pendings_of q) ≡ Good → Held job labels entry q q
+    pub fresh_held : region_layout (regions_of q) ≡ None → pending_layout (region_count (regions_of q)) (pendings_of q) ≡ None → Held job labels entry q q
     unfolding write_patches put_back
     fresh_held g p = record {
       none_patched = s.none_patched;
@@ -143,7 +139,7 @@ module _ (job : Job) (labels : Table) (entry : List ℕ) where
   pub build_is : (q b : Patching) → Held job labels entry q b → Opened job labels entry → build_verdict job labels entry (regions_of b) (pendings_of b) ≡ patches_verdict job labels (regions_of b) (pendings_of b)
   unfolding build_verdict layout_verdicts
   build_is q b h o =
-      let l : layout_verdicts labels entry (regions_of b) (pendings_of b) ≡ Pass =
+      let l : layout_verdicts labels entry (regions_of b) (pendings_of b) ≡ (Ok tt) =
       then_pass (layout_verdict 0 labels.layout) _ (ap (layout_verdict 0) o.labels_good)
       (then_pass (layout_verdict 1 (entry_layout entry)) _ (ap (layout_verdict 1) o.entry_good)
       (then_pass (layout_verdict 2 (region_layout (regions_of b))) _ (ap (layout_verdict 2) h.good) (ap (layout_verdict 3) h.pendings_good))) in

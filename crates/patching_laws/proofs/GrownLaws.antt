@@ -1,6 +1,6 @@
 -- A region list of which one region's data has grown: it keeps its layout and its regions, the grown one's size and the places of those
 -- behind it apart (document 02, P12). Assumes nothing.
-use Rattle.std.specs.Prelude.{ℕ, zero, suc, ◌+◌, ◌-◌, ◌^◌, ◌≤◌, ◌<◌, Bool, true, false, ◌&&◌, ◌≡◌, refl, get_or, ltb, eqb}
+use Rattle.std.specs.Prelude.{ℕ, zero, suc, ◌+◌, ◌-◌, ◌^◌, ◌≤◌, ◌<◌, Bool, true, false, ◌&&◌, ◌≡◌, refl, get_or, ltb, eqb, None}
 use native.Mathlib.Omega.{arith}
 use mathlib.Core.List.{List, [], ◌∷◌, map, Memᴰ}
 use Rattle.std.proofs.Common.{inl, inr, sym, ap₂, ◌∙◌}
@@ -16,7 +16,6 @@ use Rattle.record.proofs.RecordsLaws.{whole_is, limit_kept, first_pass, first_go
 use Rattle.record.specs.Stores.{le16_bytes, append}
 use Rattle.record.proofs.BehindLaws.{digits16}
 use Rattle.record.proofs.OneMoreLaws.{is_whole}
-use Rattle.record.specs.declared.Layout.TheVariants.{Good}
 use Rattle.record_growth.proofs.PutLaws.{put_length, put_in_lem, put_out, insert_length, insert_before, insert_behind}
 use Rattle.record_growth.proofs.ChainLaws.{Grows, shift, shift_up, shift_not, grown_places}
 use Rattle.regions.specs.declared.Region.{Region}
@@ -68,7 +67,7 @@ get_d_map f (p ∷ ps) zero h = refl
 get_d_map f (p ∷ ps) (suc n) h = get_d_map f ps n (omega arith)
 
 -- where each passes and there are no more than may be, all pass
-of_each : (n : ℕ) (ok : ℕ → Bool) (ps : List ℕ) → length ps ≤ n → ((k : ℕ) → k < length ps → ok (get_or ps k 0) ≡ true) → first_bad_of n ok ps ≡ Good
+of_each : (n : ℕ) (ok : ℕ → Bool) (ps : List ℕ) → length ps ≤ n → ((k : ℕ) → k < length ps → ok (get_or ps k 0) ≡ true) → first_bad_of n ok ps ≡ None
 unfolding first_bad_of
 of_each zero ok [] l e = refl
 of_each (suc n) ok [] l e = refl
@@ -76,12 +75,12 @@ of_each zero ok (p ∷ ps) l e = absurd (omega arith)
 of_each (suc n) ok (p ∷ ps) l e = rw (e 0 (omega arith), first_bad_of) (of_each n ok ps (omega arith) (λ k h. e (suc k) (omega arith)))
 
 -- a list whose records are all good has whole records
-all_whole : (s : List ℕ) (ps : List ℕ) → first_bad (region_ok s) ps ≡ Good → first_bad (whole s) ps ≡ Good
+all_whole : (s : List ℕ) (ps : List ℕ) → first_bad (region_ok s) ps ≡ None → first_bad (whole s) ps ≡ None
 unfolding first_bad
 all_whole s [] g = refl
 all_whole s (p ∷ ps) g = let f = first_good (region_ok s) p ps g in first_pass (whole s) p ps (region_is s p f.0).whole_at ∙ all_whole s ps f.1
 
-records_pass : (s ps : List ℕ) → 0 < length ps → length ps ≤ 16 → ((k : ℕ) → k < length ps → region_ok s (get_or ps k 0) ≡ true) → region_records s ps ≡ Good
+records_pass : (s ps : List ℕ) → 0 < length ps → length ps ≤ 16 → ((k : ℕ) → k < length ps → region_ok s (get_or ps k 0) ≡ true) → region_records s ps ≡ None
 unfolding region_records
 records_pass s [] h l e = absurd (omega arith)
 records_pass s (p ∷ ps) h l e = of_each 16 (region_ok s) (p ∷ ps) l e
@@ -95,7 +94,7 @@ abbrev pub region_of : (address start size : ℕ) → Region
 region_of address start size = record { address = address; start = start; size = size }
 
 pub record GrownList (s t : List ℕ) (r k : ℕ) : Type 0 where
-  pub keeps : region_layout t ≡ Good
+  pub keeps : region_layout t ≡ None
   pub count_same : region_count t ≡ region_count s
   pub place_before : (n : ℕ) → n < region_count s → n ≤ r → region_place t n ≡ region_place s n
   pub place_behind : (n : ℕ) → n < region_count s → r < n → region_place t n ≡ region_place s n + k
@@ -103,7 +102,7 @@ pub record GrownList (s t : List ℕ) (r k : ℕ) : Type 0 where
   pub region_here : region_in t r ≡ region_of (region_in s r).address (region_in s r).start ((region_in s r).size + k)
   pub region_behind : (n : ℕ) → n < region_count s → r < n → region_in t n ≡ region_of (region_in s n).address ((region_in s n).start + k) (region_in s n).size
 
-module _ (s t : List ℕ) (r k : ℕ) (good : region_layout s ≡ Good) (hr : r < region_count s) (g : Grows s t (region_place s r) k) (short : length t ≤ limit) where
+module _ (s t : List ℕ) (r k : ℕ) (good : region_layout s ≡ None) (hr : r < region_count s) (g : Grows s t (region_place s r) k) (short : length t ≤ limit) where
   abbrev from : ℕ
   from = region_place s r
 
@@ -225,7 +224,7 @@ module _ (s t : List ℕ) (r k : ℕ) (good : region_layout s ≡ Good) (hr : r 
           let b : body_len t (region_place t n) ≡ body_len s (region_place s n) = ap (body_len t) p ∙ body_above n h l in
           passes (region_place t n) (omega (arith, i, g.longer)) (omega (arith, i, g.longer)) kind (omega (arith, i))
 
-  layout : region_layout t ≡ Good
+  layout : region_layout t ≡ None
   unfolding region_layout
   layout =
       let c = region_good s good in

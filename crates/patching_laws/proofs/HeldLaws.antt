@@ -1,14 +1,12 @@
 -- Where a script has come to and the accepted lines alone: what holds between the two once a step has passed its checks (document 02, P12).
 -- Assumes nothing.
-use Rattle.std.specs.Prelude.{ℕ, zero, suc, ◌+◌, ◌*◌, ◌/◌, ◌≤◌, ◌<◌, ◌≡◌, length, get_or, take, drop}
+use Rattle.std.specs.Prelude.{ℕ, zero, suc, ◌+◌, ◌*◌, ◌/◌, ◌≤◌, ◌<◌, ◌≡◌, length, get_or, take, drop, None, Ok}
 use mathlib.Core.List.Memᴰ
 use mathlib.Core.List.{List, [], ◌∷◌, Memᴰ}
 use Rattle.std.proofs.Common.{⊎_elim, sym, ap, ap₂, subst, ◌∙◌}
 use Rattle.jobs.specs.declared.Job.{Job}
 use Rattle.record.specs.Records.{places, limit}
 use Rattle.record.proofs.OneMoreLaws.{good_each}
-use Rattle.record.specs.declared.Layout.TheVariants.{Good}
-use Rattle.refusal.specs.declared.Verdict.TheVariants.{Pass}
 use Rattle.labels.specs.Labels.{Table}
 use Rattle.regions.specs.declared.Region.{Region}
 use Rattle.regions.specs.Regions.{region_layout, region_count, region_place, region_at}
@@ -26,7 +24,7 @@ use Rattle.patching_outcome.proofs.LayoutLaws.{Within}
 use Rattle.patching_laws.proofs.UndoLaws.{Holds, Wrote, wrote, write_taken}
 
 -- the place of a pending in patch order is one of the list's, so its region is listed
-pub order_listed : (regions pending : List ℕ) → pending_layout (region_count regions) pending ≡ Good → (at : ℕ) → Memᴰ at (order_from (region_count regions) pending 0)
+pub order_listed : (regions pending : List ℕ) → pending_layout (region_count regions) pending ≡ None → (at : ℕ) → Memᴰ at (order_from (region_count regions) pending 0)
     → Memᴰ at (places pending) × ((pending_at pending at).region < region_count regions)
 order_listed regions pending g at m =
     let i = ordered_in regions pending at m in
@@ -53,10 +51,10 @@ module _ (job : Job) (labels : Table) (entry : List ℕ) where
     pub regions_within : Within b.counts.regions b.regions
     pub pending_within : Within b.counts.pending b.pending
     pub kept_within : (length q.kept ≤ limit) × (4 * (length b.pending / 36) ≤ length q.kept)
-    pub good : region_layout (regions_of b) ≡ Good
-    pub pendings_good : pending_layout (region_count (regions_of b)) (pendings_of b) ≡ Good
+    pub good : region_layout (regions_of b) ≡ None
+    pub pendings_good : pending_layout (region_count (regions_of b)) (pendings_of b) ≡ None
     pub count : q.counts.patches ≤ length (order_of b)
-    pub passed : (at : ℕ) → Memᴰ at (done_in q b) → patch_verdict job labels (regions_of b) (pendings_of b) at ≡ Pass
+    pub passed : (at : ℕ) → Memᴰ at (done_in q b) → patch_verdict job labels (regions_of b) (pendings_of b) at ≡ Ok tt
     pub image : q.regions ≡ write_patches labels (regions_of b) (pendings_of b) (done_in q b) b.regions
     pub undo : put_back (regions_of b) (pendings_of b) q.kept 0 (done_in q b) q.regions ≡ b.regions
 

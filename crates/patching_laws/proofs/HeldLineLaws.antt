@@ -1,5 +1,5 @@
 -- An accepted line is accepted by the accepted lines alone too, appends the same there, and keeps what holds (document 02, P12). Assumes nothing.
-use Rattle.std.specs.Prelude.{ℕ, ◌+◌, ◌-◌, ◌*◌, ◌/◌, ◌≤◌, ◌<◌, Bool, true, false, ◌&&◌, ◌||◌, not, ◌≡◌, refl, length, get_or, take, drop, ltb, eqb}
+use Rattle.std.specs.Prelude.{ℕ, ◌+◌, ◌-◌, ◌*◌, ◌/◌, ◌≤◌, ◌<◌, Bool, true, false, ◌&&◌, ◌||◌, not, ◌≡◌, refl, length, get_or, take, drop, ltb, eqb, None}
 use Rattle.std.proofs.Common.{arith, inl, inr, sym, ap, ap₂, subst, ◌∙◌, length-append, length-take, length-drop, length-take-le, ltb-true, ltb-false, lt-ltb, eq-eqb, eqb-true}
 use mathlib.Core.List.{List, ◌++◌, Memᴰ}
 use Rattle.std.proofs.lemmas.List.{take-append-le}
@@ -8,7 +8,6 @@ use Rattle.record.specs.Bytes.{part}
 use Rattle.record.specs.Records.{body_len, next, places}
 use Rattle.record.specs.Stores.{append}
 use Rattle.record.proofs.StoresLaws.{filled_append}
-use Rattle.record.specs.declared.Layout.TheVariants.{Good}
 use Rattle.labels.specs.Labels.{Table}
 use Rattle.regions.specs.declared.Region.{Region}
 use Rattle.regions.specs.Regions.{region_count, region_place}
@@ -310,7 +309,7 @@ module _ (job : Job) (labels : Table) (entry : List ℕ) (of : Job) (g : LineGiv
   more : More (region_count (regions_of b)) (pendings_of b) (pendings_of (target b)) g.region
   more = done_b.more (region_count base) below keeps_old
 
-  pendings_then : pending_layout (region_count (regions_of (target b))) (pendings_of (target b)) ≡ Good
+  pendings_then : pending_layout (region_count (regions_of (target b))) (pendings_of (target b)) ≡ None
   pendings_then =
       let w = h.pending_within in
       ap (λ (n : ℕ). pending_layout n (pendings_of (target b))) list_then.count_same

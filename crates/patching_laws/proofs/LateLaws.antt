@@ -1,17 +1,15 @@
 -- What a late line answers: 29 where it would be accepted or get 11 or 12, at the position behind its operands, and else what it would get;
 -- nothing changes (document 02, P12). Assumes nothing.
-use Rattle.std.specs.Prelude.{ℕ, zero, suc, ◌+◌, ◌*◌, ◌-◌, ◌^◌, Bool, ◌&&◌, length, leb, eqb}
+use Rattle.std.specs.Prelude.{ℕ, zero, suc, ◌+◌, ◌*◌, ◌-◌, ◌^◌, Bool, ◌&&◌, length, leb, eqb, Err, Ok}
 use Rattle.std.proofs.Common.{arith, subst, ◌∙◌}
 use mathlib.Core.List.{List, []}
 use Rattle.std.proofs.Math.Bool.{true, false}
 use Rattle.std.proofs.Math.Path.{◌≡◌, refl, sym, ap}
 use Rattle.jobs.specs.declared.Job.{Job}
 use Rattle.record.specs.declared.Location.{Location}
-use Rattle.refusal.specs.Verdicts.{and_then, layout_verdict, name_verdict}
+use Rattle.refusal.specs.Verdicts.{and_then, layout_verdict, name_verdict, Verdict}
 use Rattle.refusal.proofs.VerdictsLaws.{both_pass}
 use Rattle.refusal.specs.declared.Refusal.TheVariants.{MissingRegion, OverwriteEdge, LateLine}
-use Rattle.refusal.specs.declared.Verdict.{Verdict}
-use Rattle.refusal.specs.declared.Verdict.TheVariants.{Pass, Stop}
 use Rattle.lexer.specs.Tokens.{token_layout, tokens}
 use Rattle.descriptors.specs.Mnemonics.{mnemonic_layout, mnemonic_name, mnemonic_location}
 use Rattle.descriptors.specs.Descriptors.{descriptor_layout, descriptor_repeat}
@@ -47,19 +45,19 @@ use Rattle.build_outcome.proofs.BuildLaws.{then_pass}
 -- ---- of the checks of room with a region selected, each refusal is 11 or 12
 
 abbrev OfRoom : Verdict → Type 0
-OfRoom Pass = Unit {0}
-OfRoom (Stop r) = is_room r ≡ true
+OfRoom (Ok tt) = Unit {0}
+OfRoom (Err r) = is_room r ≡ true
 
 then_room : (a b : Verdict) → OfRoom a → OfRoom b → OfRoom (and_then a b)
-then_room Pass b x y = y
-then_room (Stop r) b x y = x
+then_room (Ok tt) b x y = y
+then_room (Err r) b x y = x
 
 edge_room : (line : Location) (address n size : ℕ) → OfRoom (edge_stop line address n size)
 unfolding edge_stop
 edge_room line address zero size = tt
 edge_room line address (suc n) size = by (leb (address + size) (2 ^ 32 - 1)) (edge_room line address n (size + 4))
   where
-    by : (b : Bool) → OfRoom (edge_stop line address n (size + 4)) → OfRoom (elim b [ true ↦ edge_stop line address n (size + 4) | false ↦ Stop (OverwriteEdge line address size) ])
+    by : (b : Bool) → OfRoom (edge_stop line address n (size + 4)) → OfRoom (elim b [ true ↦ edge_stop line address n (size + 4) | false ↦ Err (OverwriteEdge line address size) ])
     by true more = more
     by false more = refl
 
@@ -72,13 +70,13 @@ unfolding room_stop
 room_room token_list line numbers lent pairs e =
     let counts = numbers.counts in
     let filled = counts.data_len + 4 * length pairs in
-    then_room (region_stop line numbers.place.region) _ (subst (λ (b : Bool). OfRoom (elim b [ true ↦ Stop (MissingRegion line) | false ↦ Pass ])) (sym e) tt)
+    then_room (region_stop line numbers.place.region) _ (subst (λ (b : Bool). OfRoom (elim b [ true ↦ Err (MissingRegion line) | false ↦ Ok tt ])) (sym e) tt)
     (then_room (edge_stop line numbers.place.address (length pairs) counts.data_len) _ (edge_room line numbers.place.address (length pairs) counts.data_len)
     (then_room (space_stop line 0 (leb filled (length lent.region_data) && leb filled most_data)) _ (space_room line 0 (leb filled (length lent.region_data) && leb filled most_data))
     (then_room (space_stop line 1 (leb (counts.pending + length (new_pending token_list line numbers pairs)) (length lent.pending))) _ (space_room line 1 (leb (counts.pending + length (new_pending token_list line numbers pairs)) (length lent.pending)))
     (space_room line 2 (leb (counts.breakpoints + length (new_breakpoint line numbers pairs)) (length lent.breakpoints))))))
 
-module _ (job : Job) (g : LineGiven) (p : Patching) (pass : line_layouts g p ≡ Pass) (selected : eqb g.region no_region ≡ false) where
+module _ (job : Job) (g : LineGiven) (p : Patching) (pass : line_layouts g p ≡ Ok tt) (selected : eqb g.region no_region ≡ false) where
   abbrev on : Call
   on = emit_call g p
 
@@ -110,8 +108,8 @@ module _ (job : Job) (g : LineGiven) (p : Patching) (pass : line_layouts g p ≡
   made_late made = by (room_stop g.token_list line on.numbers on.lent made.pairs) (room_room g.token_list line on.numbers on.lent made.pairs selected)
     where
       by : (v : Verdict) → OfRoom v → ◌≡◌ {A = EmitAnswer} (Refused (LateLine line) made.index) (instead line (accept_or g.token_list line on.numbers on.lent made v).answer)
-      by Pass e = refl
-      by (Stop r) e = ap (λ (b : Bool). Refused (elim b [ true ↦ LateLine line | false ↦ r ]) made.index) (sym e)
+      by (Ok tt) e = refl
+      by (Err r) e = ap (λ (b : Bool). Refused (elim b [ true ↦ LateLine line | false ↦ r ]) made.index) (sym e)
 
   line_instead : (made : Line) → late_answer (call_line (none_call g p) made).answer ≡ instead line (call_line (emit_call g p) made).answer
   unfolding emit_line
@@ -128,7 +126,7 @@ module _ (job : Job) (g : LineGiven) (p : Patching) (pass : line_layouts g p ≡
   by_meaning Neither = refl
 
   -- its lists pass too
-  none_passes : call_stop (emit_call g p) ≡ Pass → call_stop (none_call g p) ≡ Pass
+  none_passes : call_stop (emit_call g p) ≡ Ok tt → call_stop (none_call g p) ≡ Ok tt
   unfolding list_stop layout_stop
   none_passes s =
       let l = line_lists g p pass in
@@ -143,7 +141,7 @@ module _ (job : Job) (g : LineGiven) (p : Patching) (pass : line_layouts g p ≡
       n
 
   -- the law, of a line whose lists pass: 1 and 2 are not due
-  pub late_answer_lem : call_stop (emit_call g p) ≡ Pass → is_late p g.region ≡ true
+  pub late_answer_lem : call_stop (emit_call g p) ≡ Ok tt → is_late p g.region ≡ true
       → line_outcome job g p ≡ (record { answer = instead (mnemonic_location g.mnemonic) (emit_outcome job (emit_call g p)).answer; after = p })
   unfolding emit_outcome
   late_answer_lem s l =
@@ -161,5 +159,5 @@ module _ (job : Job) (g : LineGiven) (p : Patching) (pass : line_layouts g p ≡
     where
       by : (v : Verdict) → call_stop (emit_call g p) ≡ v → (list_outcome job (emit_call g p) v).answer ≡ Done position loaded
           → line_outcome job g p ≡ (record { answer = Refused (LateLine (mnemonic_location g.mnemonic)) position; after = p })
-      by (Stop r) s x = let z : ◌≡◌ {A = ℕ} 0 1 = cc in absurd (omega arith)
-      by Pass s x = late_answer_lem s l ∙ ap (λ (a : EmitAnswer). record { answer = instead line a; after = p }) e
+      by (Err r) s x = let z : ◌≡◌ {A = ℕ} 0 1 = cc in absurd (omega arith)
+      by (Ok tt) s x = late_answer_lem s l ∙ ap (λ (a : EmitAnswer). record { answer = instead line a; after = p }) e

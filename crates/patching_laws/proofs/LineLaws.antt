@@ -1,13 +1,11 @@
 -- A line that is accepted, and one that is refused (document 02, P12). Assumes nothing.
-use Rattle.std.specs.Prelude.{ℕ, Bool, ◌≡◌}
+use Rattle.std.specs.Prelude.{ℕ, Bool, ◌≡◌, Err, Ok}
 use Rattle.std.proofs.Common.{arith, ◌∙◌}
 use Rattle.std.proofs.Math.Bool.{true, false}
 use Rattle.std.proofs.Math.Path.{refl, ap, ap₂}
 use Rattle.std.proofs.Math.Dec.{eqb}
 use Rattle.jobs.specs.declared.Job.{Job}
 use Rattle.refusal.specs.declared.Refusal.{Refusal}
-use Rattle.refusal.specs.declared.Verdict.{Verdict}
-use Rattle.refusal.specs.declared.Verdict.TheVariants.{Pass, Stop}
 use Rattle.emit_outcome.specs.Room.{no_region}
 use Rattle.emit_outcome.specs.Call.{EmitOutcome}
 use Rattle.emit_outcome.specs.Emit.{emit_outcome}
@@ -18,6 +16,7 @@ use Rattle.loading.specs.declared.LoadForm.{LoadForm}
 use Rattle.routine.proofs.LineFits.{line_fits}
 use Rattle.patching_outcome.specs.Patching.{Patching}
 use Rattle.patching_outcome.specs.Line.{LineGiven, line_layouts, emit_call, none_call, is_late, late_answer, LineOutcome, lined, lined_by, line_by, line_outcome}
+use Rattle.refusal.specs.Verdicts.{Verdict}
 
 module _ (job : Job) (g : LineGiven) (p : Patching) where
   abbrev pub emitted : EmitOutcome
@@ -35,7 +34,7 @@ module _ (job : Job) (g : LineGiven) (p : Patching) where
       ]
 
   pub record LineDone (position : ℕ) (loaded : LoadForm) : Type 0 where
-    pub lists_pass : line_layouts g p ≡ Pass
+    pub lists_pass : line_layouts g p ≡ Ok tt
     pub selected : eqb g.region no_region ≡ false
     pub timely : is_late p g.region ≡ false
     pub answers : emitted.answer ≡ Done position loaded
@@ -45,7 +44,7 @@ module _ (job : Job) (g : LineGiven) (p : Patching) where
   line_from position loaded d = ap (line_by job g p) d.lists_pass ∙ ap₂ chosen d.selected d.timely ∙ ap (lined_by p g.region emitted) d.answers
 
   -- a late line answers as with no region selected, 29 for 10, and changes nothing
-  pub line_late : line_layouts g p ≡ Pass → eqb g.region no_region ≡ false → is_late p g.region ≡ true
+  pub line_late : line_layouts g p ≡ Ok tt → eqb g.region no_region ≡ false → is_late p g.region ≡ true
       → line_outcome job g p ≡ (record { answer = late_answer (emit_outcome job (none_call g p)).answer; after = p })
   unfolding line_outcome
   line_late v n l = ap (line_by job g p) v ∙ ap₂ chosen n l
@@ -63,11 +62,11 @@ module _ (job : Job) (g : LineGiven) (p : Patching) where
   late_done (Refused r i) position loaded e = let z : ◌≡◌ {A = ℕ} 0 1 = cc in absurd (omega arith)
 
   -- the answer, by case
-  pub answer_stopped : (r : Refusal) → line_layouts g p ≡ Stop r → (line_outcome job g p).answer ≡ Refused r g.position
+  pub answer_stopped : (r : Refusal) → line_layouts g p ≡ Err r → (line_outcome job g p).answer ≡ Refused r g.position
   unfolding line_outcome
   answer_stopped r v = ap (λ (x : Verdict). (line_by job g p x).answer) v
 
-  pub answer_none : line_layouts g p ≡ Pass → eqb g.region no_region ≡ true → (line_outcome job g p).answer ≡ (emit_outcome job (none_call g p)).answer
+  pub answer_none : line_layouts g p ≡ Ok tt → eqb g.region no_region ≡ true → (line_outcome job g p).answer ≡ (emit_outcome job (none_call g p)).answer
   unfolding line_outcome
   answer_none v n = ap (λ (x : Verdict). (line_by job g p x).answer) v ∙ ap (λ (x : Bool). (chosen x (is_late p g.region)).answer) n
 
@@ -75,7 +74,7 @@ module _ (job : Job) (g : LineGiven) (p : Patching) where
   lined_answer o (Done i l) = refl
   lined_answer o (Refused r i) = refl
 
-  pub answer_timely : line_layouts g p ≡ Pass → eqb g.region no_region ≡ false → is_late p g.region ≡ false → (line_outcome job g p).answer ≡ (emit_outcome job (emit_call g p)).answer
+  pub answer_timely : line_layouts g p ≡ Ok tt → eqb g.region no_region ≡ false → is_late p g.region ≡ false → (line_outcome job g p).answer ≡ (emit_outcome job (emit_call g p)).answer
   unfolding line_outcome
   answer_timely v n l =
       ap (λ (x : Verdict). (line_by job g p x).answer) v ∙ ap₂ (λ (x y : Bool). (chosen x y).answer) n l ∙ lined_answer emitted emitted.answer
@@ -91,8 +90,8 @@ module _ (job : Job) (g : LineGiven) (p : Patching) where
       by_choice false false x = lined_refused emitted emitted.answer r position x
 
       by_lists : (v : Verdict) → (line_by job g p v).answer ≡ Refused r position → (line_by job g p v).after ≡ p
-      by_lists (Stop s) x = refl
-      by_lists Pass x = by_choice (eqb g.region no_region) (is_late p g.region) x
+      by_lists (Err s) x = refl
+      by_lists (Ok tt) x = by_choice (eqb g.region no_region) (is_late p g.region) x
 
   module _ (tokens : Bytes g.token_list) (mnemonic : Bytes g.mnemonic) where
     -- with no region selected no line is accepted
@@ -103,11 +102,11 @@ module _ (job : Job) (g : LineGiven) (p : Patching) where
     unfolding line_outcome
     line_done position loaded e = by_lists (line_layouts g p) refl e
       where
-        by_choice : line_layouts g p ≡ Pass → (nowhere : Bool) → eqb g.region no_region ≡ nowhere → (late : Bool) → is_late p g.region ≡ late → (chosen nowhere late).answer ≡ Done position loaded → LineDone position loaded
+        by_choice : line_layouts g p ≡ Ok tt → (nowhere : Bool) → eqb g.region no_region ≡ nowhere → (late : Bool) → is_late p g.region ≡ late → (chosen nowhere late).answer ≡ Done position loaded → LineDone position loaded
         by_choice v true n late l x = absurd (none_refused position loaded x)
         by_choice v false n true l x = absurd (none_refused position loaded (late_done none position loaded x))
         by_choice v false n false l x = record { lists_pass = v; selected = n; timely = l; answers = lined_done emitted emitted.answer position loaded x }
 
         by_lists : (v : Verdict) → line_layouts g p ≡ v → (line_by job g p v).answer ≡ Done position loaded → LineDone position loaded
-        by_lists (Stop s) v x = let z : ◌≡◌ {A = ℕ} 0 1 = cc in absurd (omega arith)
-        by_lists Pass v x = by_choice v (eqb g.region no_region) refl (is_late p g.region) refl x
+        by_lists (Err s) v x = let z : ◌≡◌ {A = ℕ} 0 1 = cc in absurd (omega arith)
+        by_lists (Ok tt) v x = by_choice v (eqb g.region no_region) refl (is_late p g.region) refl x

@@ -1,11 +1,10 @@
 -- The pendings of an accepted line stand behind the list and are of its region; the others read as before (document 02, P12). Assumes nothing.
-use Rattle.std.specs.Prelude.{ℕ, ◌+◌, ◌*◌, ◌^◌, ◌≤◌, ◌<◌, ◌≡◌, refl, length}
+use Rattle.std.specs.Prelude.{ℕ, ◌+◌, ◌*◌, ◌^◌, ◌≤◌, ◌<◌, ◌≡◌, refl, length, None, Option, Some}
 use Rattle.std.proofs.Common.{arith, ⊎_elim, sym, ap, ◌∙◌}
 use mathlib.Core.List.Memᴰ
 use mathlib.Core.List.{List, [], ◌∷◌, ◌++◌, append_assoc, append-nil, Memᴰ}
 use Rattle.std.proofs.Math.Path.{subst}
 use Rattle.record.specs.Records.{places, first_bad}
-use Rattle.record.specs.declared.Layout.TheVariants.{Good}
 use Rattle.address_label.specs.LabelBytes.{name_bytes}
 use Rattle.pending.specs.Pendings.{region_of, pending_ok, pending_at}
 use Rattle.pending.specs.PendingBytes.{pending_bytes}
@@ -13,22 +12,21 @@ use Rattle.pending.proofs.Written.{written_behind}
 use Rattle.pending.specs.declared.Origin.{Origin}
 use Rattle.pending.specs.declared.Pending.{Pending}
 use Rattle.emit_pairs.specs.declared.InstructionPair.{InstructionPair}
-use Rattle.emit_pairs.specs.declared.PairLabel.{PairLabel}
-use Rattle.emit_pairs.specs.declared.PairLabel.TheVariants.{Nothing, Some}
 use Rattle.emit_bytes.specs.Appended.{onward, pair_bytes, pendings_bytes}
 use Rattle.routine.proofs.BehindLaws.{OriginFits}
 use Rattle.routine.proofs.WordLaws.{PairFits, PairsFit}
 use Rattle.patching_laws.proofs.OrderLaws.{Added}
+use Rattle.pending.specs.declared.InstructionLabel.{InstructionLabel}
 
 module _ (regions : ℕ) where
   abbrev pub Keeps : List ℕ → Type 0
-  Keeps s = first_bad (pending_ok regions s) (places s) ≡ Good
+  Keeps s = first_bad (pending_ok regions s) (places s) ≡ None
 
   -- new is old with pendings of region r behind it
   pub record More (old new : List ℕ) (r : ℕ) : Type 0 where
     pub added : List ℕ
     pub adds : Added old new r added
-    pub keeps : first_bad (pending_ok regions new) (places new) ≡ Good
+    pub keeps : first_bad (pending_ok regions new) (places new) ≡ None
     pub others : (at : ℕ) → Memᴰ at (places old)
         → (pending_at new at ≡ pending_at old at) × (name_bytes new (pending_at new at).label ≡ name_bytes old (pending_at old at).label)
 
@@ -59,9 +57,9 @@ module _ (regions : ℕ) where
       second p m = subst (Memᴰ p) (sym a.adds.places_are) (Memᴰ.append_right (places old) m)
 
   module _ (names : List ℕ) where
-    one_more : (old : List ℕ) (origin : Origin) (waits : PairLabel) → Keeps old → OriginFits regions origin → origin.offset < 2 ^ 32 → PairFits names waits
+    one_more : (old : List ℕ) (origin : Origin) (waits : Option InstructionLabel) → Keeps old → OriginFits regions origin → origin.offset < 2 ^ 32 → PairFits names waits
         → More old (old ++ pair_bytes names origin waits) origin.region
-    one_more old origin Nothing kept fits o h = none_more old origin.region kept
+    one_more old origin None kept fits o h = none_more old origin.region kept
     one_more old origin (Some waits) kept fits o h =
         let w = written_behind regions old names origin waits kept fits.region_ok (record { region_fits = fits.region_fits; offset_fits = o; location_fits = fits.location_fits; label_fits = h }) in
         let new = old ++ pending_bytes names origin waits in

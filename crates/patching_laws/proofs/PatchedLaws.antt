@@ -1,16 +1,13 @@
 -- Patches of pendings that read as before, in regions that stand as before: growing and writing them, growing and putting them back, may
 -- change places, and what passed 14 to 16 passes still; and the kept words put back undo the writes (document 02, P12). Assumes nothing.
-use Rattle.std.specs.Prelude.{ℕ, ◌+◌, ◌*◌, ◌^◌, ◌%◌, ◌≤◌, ◌≡◌, refl, length, drop}
+use Rattle.std.specs.Prelude.{ℕ, ◌+◌, ◌*◌, ◌^◌, ◌%◌, ◌≤◌, ◌≡◌, refl, length, drop, Ok, Option, Some}
 use Rattle.std.proofs.Common.{arith, inl, inr, sym, subst, ◌∙◌, length-take, le-leb}
 use mathlib.Core.List.{List, [], ◌∷◌, Memᴰ}
 use Rattle.std.proofs.Math.Path.{ap, ap₂}
 use Rattle.jobs.specs.declared.Job.{Job}
 use Rattle.record.specs.Bytes.{le32, part}
 use Rattle.record.specs.Stores.{le32_bytes, append}
-use Rattle.refusal.specs.declared.Verdict.TheVariants.{Pass}
 use Rattle.labels.specs.Labels.{Table}
-use Rattle.labels.specs.declared.Address.{Address}
-use Rattle.labels.specs.declared.Address.TheVariants.{Known}
 use Rattle.address_label.specs.LabelBytes.{name_bytes}
 use Rattle.address_label.specs.declared.AddressLabel.{AddressLabel}
 use Rattle.address_label.specs.declared.AddressLabel.TheVariants.{Constant, Label}
@@ -38,7 +35,7 @@ destination_name labels s t (Constant value) e = refl
 destination_name labels s t (Label name) e = ap (λ (x : List ℕ). plus_offset (labels.address name.location.source x) name.offset) e
 
 -- the word of a patch, by where its region's data stands and its address
-abbrev word_at : (start address : ℕ) → Pending → Address → List ℕ → List ℕ
+abbrev word_at : (start address : ℕ) → Pending → Option ℕ → List ℕ → List ℕ
 word_at start address p to d = append d (start + p.offset) (le32_bytes (patched_word p.kind ((address + p.offset) % 2 ^ 32) (address_or 0 to) (le32 d (start + p.offset))))
 
 module _ (labels : Table) (old new pold pnew : List ℕ) (f from b : ℕ) (ws : List ℕ) (inner : from + 4 + b ≤ f) where
@@ -58,13 +55,13 @@ module _ (labels : Table) (old new pold pnew : List ℕ) (f from b : ℕ) (ws : 
         destination_name labels pold pnew (pending_at pold at).label (ap (λ (p : Pending). name_bytes pnew p.label) (sym s.reads) ∙ s.name_same)
 
     -- what passed passes
-    pub verdict_stays : (job : Job) → patch_verdict job labels old pold at ≡ Pass → patch_verdict job labels new pnew at ≡ Pass
+    pub verdict_stays : (job : Job) → patch_verdict job labels old pold at ≡ Ok tt → patch_verdict job labels new pnew at ≡ Ok tt
     verdict_stays job e =
         let p = pending_at pold at in
         let r = reached job labels pold (region_for old p) p e in
         let pc : pc_of (region_for new p) p ≡ pc_of (region_for old p) p = ap (λ (n : ℕ). (n + p.offset) % 2 ^ 32) s.address_same in
         ap (λ (x : Pending). pending_verdict job labels pnew (region_for new x) x) s.reads
-        ∙ verdict_is job labels pnew (region_for new p) p (Known r.dest) (same_destination ∙ r.known)
+        ∙ verdict_is job labels pnew (region_for new p) p (Some r.dest) (same_destination ∙ r.known)
         ∙ passes job (region_for new p) p r.dest (omega (arith, s.size_most, r.inside)) (ap (λ (n : ℕ). in_range job p.kind n r.dest) pc ∙ r.range)
 
     same_write : (d : List ℕ) → write_pending labels pnew (region_for new (pending_at pnew at)) (pending_at pnew at) d ≡ write_pending labels pold (region_for old (pending_at pold at)) (pending_at pold at) d
@@ -73,7 +70,7 @@ module _ (labels : Table) (old new pold pnew : List ℕ) (f from b : ℕ) (ws : 
         let p = pending_at pold at in
         ap (λ (x : Pending). write_pending labels pnew (region_for new x) x d) s.reads
         ∙ ap₂ (λ (start address : ℕ). word_at start address p (destination labels pnew p.label) d) s.start_same s.address_same
-        ∙ ap (λ (to : Address). word_at (region_for old p).start (region_for old p).address p to d) same_destination
+        ∙ ap (λ (to : Option ℕ). word_at (region_for old p).start (region_for old p).address p to d) same_destination
 
     -- written, then grown
     one_grown : (d : List ℕ) → Fits f from b ws inner d

@@ -1,6 +1,6 @@
 -- P12's claims on every script, proved (document 02): after each call the image is the accepted lines' with the patches so far, each accepted
 -- line is accepted where all come first, and the finished image or the first refusal is that of a whole build after them. Assumes nothing.
-use Rattle.std.specs.Prelude.{ℕ, ◌+◌, ◌<◌, ◌⊎◌, Bool, ◌≡◌, length, take}
+use Rattle.std.specs.Prelude.{ℕ, ◌+◌, ◌<◌, ◌⊎◌, Bool, ◌≡◌, length, take, Err, Ok, Result}
 use native.Mathlib.Omega.{arith}
 use mathlib.Core.List.{List, [], ◌∷◌, ◌++◌, append_assoc, append-nil, Memᴰ}
 use Rattle.std.proofs.Common.{inl, inr, ⊎_elim, ◌∙◌, take_all, lt-ltb, eq-eqb}
@@ -9,13 +9,9 @@ use Rattle.std.proofs.Math.Path.{refl, sym, ap, ap₂, subst}
 use Rattle.std.proofs.Math.ListN.{get_or}
 use Rattle.jobs.specs.declared.Job.{Job}
 use Rattle.refusal.specs.declared.Refusal.{Refusal}
-use Rattle.refusal.specs.declared.Verdict.{Verdict}
-use Rattle.refusal.specs.declared.Verdict.TheVariants.{Pass, Stop}
 use Rattle.labels.specs.Labels.{Table}
 use Rattle.build_outcome.specs.Build.{patch_verdict, patches_verdict, write_patches, build_verdict, BuildOutcome, build_outcome}
 use Rattle.build_outcome.proofs.BuildLaws.{all_pass, outcome_accepted, outcome_refused}
-use Rattle.build_outcome.specs.declared.Built.{Built}
-use Rattle.build_outcome.specs.declared.Built.TheVariants.{Entry as BuiltEntry, Refused as BuiltRefused}
 use Rattle.emit_outcome.specs.declared.EmitAnswer.{EmitAnswer}
 use Rattle.emit_outcome.specs.declared.EmitAnswer.TheVariants.{Done}
 use Rattle.emit_outcome.specs.declared.EmitAnswer.TheVariants.{Refused as LineRefused}
@@ -35,6 +31,7 @@ use Rattle.patching_laws.proofs.StepLaws.{the_entry, Opened, Mode, running, ende
 use Rattle.patching_laws.proofs.FreshLaws.{checks_same, checks_stop, checks_passed, fresh_held, held_start, build_is}
 use Rattle.patching_laws.proofs.AnswerLaws.{answers_same}
 use Rattle.patching_laws.proofs.HeldLineLaws.{timely_state, base_done, held_line, line_joins}
+use Rattle.refusal.specs.Verdicts.{Verdict}
 
 module _ (job : Job) (labels : Table) (entry : List ℕ) where
   -- ---- scripts one behind another
@@ -61,7 +58,7 @@ module _ (job : Job) (labels : Table) (entry : List ℕ) where
 
   -- a step's checks pass, or nothing has been patched and it is refused by them
   pub data Open (q b : Patching) : Type 0 where
-    shut : (r : Refusal) → step_checks labels entry q ≡ Stop r → q ≡ b → Start q → Open q b
+    shut : (r : Refusal) → step_checks labels entry q ≡ Err r → q ≡ b → Start q → Open q b
     passes : Held job labels entry q b → Opened job labels entry → Mode job labels entry q b → Open q b
 
   opening : (q b : Patching) → Between q b → Open q b
@@ -69,12 +66,12 @@ module _ (job : Job) (labels : Table) (entry : List ℕ) where
   opening q b (fresh e s) = by (step_checks labels entry q) refl
     where
       by : (v : Verdict) → step_checks labels entry q ≡ v → Open q b
-      by (Stop r) c = shut r c e s
-      by Pass c =
+      by (Err r) c = shut r c e s
+      by (Ok tt) c =
           let p = checks_passed job labels entry q s c in
           subst (λ (x : Patching). Open q x) e (passes (fresh_held job labels entry q s p.good p.pendings_good) p.opened (running s.running))
 
-  shut_step : (q : Patching) (r : Refusal) → step_checks labels entry q ≡ Stop r → step_outcome job labels entry q ≡ (record { answer = Refused r; after = q })
+  shut_step : (q : Patching) (r : Refusal) → step_checks labels entry q ≡ Err r → step_outcome job labels entry q ≡ (record { answer = Refused r; after = q })
   unfolding step_outcome
   shut_step q r c = ap (step_by job labels (the_entry job labels entry) q) c
 
@@ -218,7 +215,7 @@ module _ (job : Job) (labels : Table) (entry : List ℕ) where
   accepted_first ts p bytes s = (runs ts bytes p p (fresh refl s)).again
 
   -- 2. a step that finds a pending does what 14 to 16 say of it
-  pub step_next : (p : Patching) → step_checks labels entry p ≡ Pass → p.counts.state ≡ 0 → p.counts.patches < length (order_of p)
+  pub step_next : (p : Patching) → step_checks labels entry p ≡ Ok tt → p.counts.state ≡ 0 → p.counts.patches < length (order_of p)
       → step_outcome job labels entry p
       ≡ next_by labels p (get_or (order_of p) p.counts.patches 0) (patch_verdict job labels (regions_of p) (pendings_of p) (get_or (order_of p) p.counts.patches 0))
   unfolding step_outcome
@@ -233,8 +230,8 @@ module _ (job : Job) (labels : Table) (entry : List ℕ) where
       ]) (lt-ltb p.counts.patches (length (order_of p)) l)
 
   next_more : (p : Patching) (at n : ℕ) (v : Verdict) → (next_by labels p at v).answer ≡ Patched n → (n ≡ p.counts.patches + 1) × ((next_by labels p at v).after.counts.patches ≡ n)
-  next_more p at n Pass e = let z : p.counts.patches + 1 ≡ n = cc in (sym z, z)
-  next_more p at n (Stop r) e = let z : ◌≡◌ {A = ℕ} 0 1 = cc in absurd (omega arith)
+  next_more p at n (Ok tt) e = let z : p.counts.patches + 1 ≡ n = cc in (sym z, z)
+  next_more p at n (Err r) e = let z : ◌≡◌ {A = ℕ} 0 1 = cc in absurd (omega arith)
 
   pub one_more : OneMore job labels entry
   one_more p c s l n e =
@@ -242,7 +239,7 @@ module _ (job : Job) (labels : Table) (entry : List ℕ) where
       let v = patch_verdict job labels (regions_of p) (pendings_of p) at in
       subst (λ (o : StepOutcome). o.answer ≡ Patched n → (n ≡ p.counts.patches + 1) × (o.after.counts.patches ≡ n)) (sym (step_next p c s l)) (next_more p at n v) e
 
-  outcome_is : (o : BuildOutcome) (a : Built) (d : List ℕ) → o.answer ≡ a → o.regions ≡ d → o ≡ (record { answer = a; regions = d })
+  outcome_is : (o : BuildOutcome) (a : Result ℕ Refusal) (d : List ℕ) → o.answer ≡ a → o.regions ≡ d → o ≡ (record { answer = a; regions = d })
   outcome_is o a d e f = λ i. record { answer = e i; regions = f i }
 
   -- 3.
@@ -250,37 +247,37 @@ module _ (job : Job) (labels : Table) (entry : List ℕ) where
     abbrev built : BuildOutcome
     built = build_outcome job labels entry (regions_of b) (pendings_of b)
 
-    ended_by : (a : ℕ) → Open q b → (step_outcome job labels entry q).answer ≡ Ended a → build_outcome job labels entry (regions_of b) (pendings_of b) ≡ (record { answer = BuiltEntry a; regions = regions_of q })
+    ended_by : (a : ℕ) → Open q b → (step_outcome job labels entry q).answer ≡ Ended a → build_outcome job labels entry (regions_of b) (pendings_of b) ≡ (record { answer = Ok a; regions = regions_of q })
     ended_by a (shut r c e s) x = let y = ap (λ (o : StepOutcome). o.answer) (shut_step q r c) in let z : ◌≡◌ {A = ℕ} 0 1 = cc in absurd (omega arith)
     ended_by a (passes h o m) x = said t.says
       where
         t : StepKeeps job labels entry q b (step_outcome job labels entry q)
         t = step_held job labels entry q b h o m
 
-        said : Says job labels entry q b (step_outcome job labels entry q) → build_outcome job labels entry (regions_of b) (pendings_of b) ≡ (record { answer = BuiltEntry a; regions = regions_of q })
+        said : Says job labels entry q b (step_outcome job labels entry q) → build_outcome job labels entry (regions_of b) (pendings_of b) ≡ (record { answer = Ok a; regions = regions_of q })
         said (more y n) = let z : ◌≡◌ {A = ℕ} 0 1 = cc in absurd (omega arith)
         said (stops r y v n) = let z : ◌≡◌ {A = ℕ} 0 1 = cc in absurd (omega arith)
         said (ends y n k same fill one) =
             let z : the_entry job labels entry ≡ a = cc in
             let w = (step_outcome job labels entry q).after in
             let all : take w.counts.patches (order_of b) ≡ order_of b = take_all w.counts.patches (order_of b) (omega (arith, n)) in
-            let v : patches_verdict job labels (regions_of b) (pendings_of b) ≡ Pass =
+            let v : patches_verdict job labels (regions_of b) (pendings_of b) ≡ (Ok tt) =
             all_pass (patch_verdict job labels (regions_of b) (pendings_of b)) (order_of b) (λ p k. t.held.passed p (subst (Memᴰ p) (sym all) k)) in
             let u = outcome_accepted job labels entry (regions_of b) (pendings_of b) (build_is job labels entry q b h o ∙ v) in
             let there : regions_of w ≡ regions_of q = ap₂ (λ (k : ℕ) (d : List ℕ). take k d) fill same in
             let image : regions_of w ≡ write_patches labels (regions_of b) (pendings_of b) (order_of b) (regions_of b) =
             image_is job labels entry w b t.held ∙ ap (λ (ps : List ℕ). write_patches labels (regions_of b) (pendings_of b) ps (regions_of b)) (done_same job labels entry w b t.held ∙ all) in
-            outcome_is built (BuiltEntry a) (regions_of q) (u.0 ∙ ap BuiltEntry z) (u.1 ∙ sym image ∙ there)
+            outcome_is built (Ok a) (regions_of q) (u.0 ∙ ap Ok z) (u.1 ∙ sym image ∙ there)
 
     refused_by : (r : Refusal) → Open q b → (step_outcome job labels entry q).answer ≡ Refused r
-        → build_outcome job labels entry (regions_of b) (pendings_of b) ≡ (record { answer = BuiltRefused r; regions = regions_of (step_outcome job labels entry q).after })
+        → build_outcome job labels entry (regions_of b) (pendings_of b) ≡ (record { answer = Err r; regions = regions_of (step_outcome job labels entry q).after })
     unfolding write_patches
     refused_by r (shut s c e start) x =
         let y = shut_step q s c in
         let z : s ≡ r = cc (ap (λ (o : StepOutcome). o.answer) y) in
-        let v : build_verdict job labels entry (regions_of b) (pendings_of b) ≡ Stop s = subst (λ (p : Patching). build_verdict job labels entry (regions_of p) (pendings_of p) ≡ Stop s) e (checks_stop job labels entry q start s c) in
+        let v : build_verdict job labels entry (regions_of b) (pendings_of b) ≡ Err s = subst (λ (p : Patching). build_verdict job labels entry (regions_of p) (pendings_of p) ≡ Err s) e (checks_stop job labels entry q start s c) in
         let u = outcome_refused job labels entry (regions_of b) (pendings_of b) s v in
-        outcome_is built (BuiltRefused r) (regions_of (step_outcome job labels entry q).after) (u.0 ∙ ap BuiltRefused z)
+        outcome_is built (Err r) (regions_of (step_outcome job labels entry q).after) (u.0 ∙ ap Err z)
         (u.1 ∙ sym (ap regions_of e) ∙ sym (ap (λ (o : StepOutcome). regions_of o.after) y))
     refused_by r (passes h o m) x = said t.says t.mode
       where
@@ -293,7 +290,7 @@ module _ (job : Job) (labels : Table) (entry : List ℕ) where
             ∙ ap (λ (k : ℕ). write_patches labels (regions_of b) (pendings_of b) (take k (order_of (step_outcome job labels entry q).after)) (regions_of b)) n
 
         said : Says job labels entry q b (step_outcome job labels entry q) → Mode job labels entry (step_outcome job labels entry q).after b
-            → build_outcome job labels entry (regions_of b) (pendings_of b) ≡ (record { answer = BuiltRefused r; regions = regions_of (step_outcome job labels entry q).after })
+            → build_outcome job labels entry (regions_of b) (pendings_of b) ≡ (record { answer = Err r; regions = regions_of (step_outcome job labels entry q).after })
         said (more y n) k = let z : ◌≡◌ {A = ℕ} 0 1 = cc in absurd (omega arith)
         said (ends y n k same fill one) u = let z : ◌≡◌ {A = ℕ} 0 1 = cc in absurd (omega arith)
         said (stops s y v n) (running f) = absurd (omega (arith, n, f))
@@ -301,14 +298,14 @@ module _ (job : Job) (labels : Table) (entry : List ℕ) where
         said (stops s y v n) (refused s' f l v') =
             let z : s ≡ r = cc in
             let u = outcome_refused job labels entry (regions_of b) (pendings_of b) s (build_is job labels entry q b h o ∙ v) in
-            outcome_is built (BuiltRefused r) (regions_of (step_outcome job labels entry q).after) (u.0 ∙ ap BuiltRefused z) (u.1 ∙ sym (back l))
+            outcome_is built (Err r) (regions_of (step_outcome job labels entry q).after) (u.0 ∙ ap Err z) (u.1 ∙ sym (back l))
 
   -- ---- later steps answer the same
 
   -- refused by its checks: lines that are accepted leave them as they are
   pub record Shut (r : Refusal) (q : Patching) : Type 0 where
     pub start : Start q
-    pub stop : step_checks labels entry q ≡ Stop r
+    pub stop : step_checks labels entry q ≡ Err r
 
   shut_turn : (r : Refusal) (t : Turn) → OfBytes t → (q : Patching) → Shut r q → Shut r (turn job labels entry t q)
   shut_turn r Step bytes q s = subst (λ (o : StepOutcome). Shut r o.after) (sym (shut_step q r s.stop)) s

@@ -1,5 +1,5 @@
 -- A step keeps what holds, and answers by it: one more, the end, or a build's refusal (document 02, P12). Assumes nothing.
-use Rattle.std.specs.Prelude.{ℕ, zero, suc, ◌+◌, ◌*◌, ◌≤◌, ◌<◌, Bool, true, false, ◌≡◌, refl, length, get_or, take, drop, ltb, eqb}
+use Rattle.std.specs.Prelude.{ℕ, zero, suc, ◌+◌, ◌*◌, ◌≤◌, ◌<◌, Bool, true, false, ◌≡◌, refl, length, get_or, take, drop, ltb, eqb, Err, None, Ok}
 use Rattle.std.proofs.Common.{add-one, arith, ⊎_elim, sym, ap₂, subst, ◌∙◌, length-take, length-drop, length-take-le, take-suc, ltb-true, ltb-false, eq-eqb, ne_eqb}
 use mathlib.Core.List.Memᴰ
 use mathlib.Core.List.{List, [], ◌∷◌, ◌++◌, Memᴰ}
@@ -8,11 +8,8 @@ use Rattle.jobs.specs.declared.Job.{Job}
 use Rattle.record.specs.Bytes.{part}
 use Rattle.record.specs.Records.{places}
 use Rattle.record.specs.Stores.{append}
-use Rattle.record.specs.declared.Layout.TheVariants.{Good}
-use Rattle.refusal.specs.Verdicts.{and_then, first_stop, layout_verdict, name_verdict}
+use Rattle.refusal.specs.Verdicts.{and_then, first_stop, layout_verdict, name_verdict, Verdict}
 use Rattle.refusal.specs.declared.Refusal.{Refusal}
-use Rattle.refusal.specs.declared.Verdict.{Verdict}
-use Rattle.refusal.specs.declared.Verdict.TheVariants.{Pass, Stop}
 use Rattle.record_growth.proofs.PutLaws.{put_length}
 use Rattle.labels.specs.Labels.{Table}
 use Rattle.regions.specs.declared.Region.{Region}
@@ -35,7 +32,7 @@ use Rattle.patching_laws.proofs.HeldLaws.{Held, done_in, take_member, pendings_s
 
 -- ---- checks one by one
 
-stop_at : (check : ℕ → Verdict) (ps : List ℕ) (n : ℕ) (r : Refusal) → n < length ps → ((p : ℕ) → Memᴰ p (take n ps) → check p ≡ Pass) → check (get_or ps n 0) ≡ Stop r → first_stop check ps ≡ Stop r
+stop_at : (check : ℕ → Verdict) (ps : List ℕ) (n : ℕ) (r : Refusal) → n < length ps → ((p : ℕ) → Memᴰ p (take n ps) → check p ≡ Ok tt) → check (get_or ps n 0) ≡ Err r → first_stop check ps ≡ Err r
 unfolding first_stop
 stop_at check [] n r h a e = absurd (omega arith)
 stop_at check (p ∷ ps) zero r h a e = rw e
@@ -57,21 +54,21 @@ module _ (job : Job) (labels : Table) (entry : List ℕ) where
 
   -- a build's checks that read neither list
   pub record Opened : Type 0 where
-    pub labels_good : labels.layout ≡ Good
-    pub entry_good : entry_layout entry ≡ Good
-    pub names_pass : name_verdict 0 labels.repeat ≡ Pass
-    pub entry_passes : entry_verdict labels entry (entry_of entry (places entry)) ≡ Pass
+    pub labels_good : labels.layout ≡ None
+    pub entry_good : entry_layout entry ≡ None
+    pub names_pass : name_verdict 0 labels.repeat ≡ Ok tt
+    pub entry_passes : entry_verdict labels entry (entry_of entry (places entry)) ≡ Ok tt
 
   pub data Mode (q b : Patching) : Type 0 where
     running : q.counts.state ≡ 0 → Mode q b
     ended : q.counts.state ≡ 1 → q.counts.patches ≡ length (order_of b) → Mode q b
-    refused : (r : Refusal) → q.counts.state ≡ 2 → q.counts.patches ≡ 0 → patches_verdict job labels (regions_of b) (pendings_of b) ≡ Stop r → Mode q b
+    refused : (r : Refusal) → q.counts.state ≡ 2 → q.counts.patches ≡ 0 → patches_verdict job labels (regions_of b) (pendings_of b) ≡ Err r → Mode q b
 
   -- what a step says
   pub data Says (q b : Patching) (o : StepOutcome) : Type 0 where
     more : o.answer ≡ Patched (q.counts.patches + 1) → o.after.counts.patches ≡ q.counts.patches + 1 → Says q b o
     ends : o.answer ≡ Ended the_entry → o.after.counts.patches ≡ length (order_of b) → o.after.counts.patches ≡ q.counts.patches → o.after.regions ≡ q.regions → o.after.counts.regions ≡ q.counts.regions → o.after.counts.state ≡ 1 → Says q b o
-    stops : (r : Refusal) → o.answer ≡ Refused r → patches_verdict job labels (regions_of b) (pendings_of b) ≡ Stop r → o.after.counts.state ≡ 2 → Says q b o
+    stops : (r : Refusal) → o.answer ≡ Refused r → patches_verdict job labels (regions_of b) (pendings_of b) ≡ Err r → o.after.counts.state ≡ 2 → Says q b o
 
   pub record StepKeeps (q b : Patching) (o : StepOutcome) : Type 0 where
     pub held : Held job labels entry o.after b
@@ -100,21 +97,21 @@ module _ (job : Job) (labels : Table) (entry : List ℕ) where
     short_order : length (order_of b) ≤ length (places (pendings_of b))
     short_order = order_few (region_count base) waiting
 
-    pub regions_pass : regions_layout q ≡ Good
+    pub regions_pass : regions_layout q ≡ None
     regions_pass = regions_is q within_regions ∙ (image_kept job labels entry q b h).layout_good
 
-    pub pendings_pass : pendings_layout q ≡ Good
+    pub pendings_pass : pendings_layout q ≡ None
     pendings_pass =
         let e = ap (λ (s : List ℕ). length (places s)) (pendings_same job labels entry q b h) in
         pendings_is q within_pending (omega (arith, h.count, short_order))
         ∙ ap₂ (λ (n : ℕ) (s : List ℕ). pending_layout n s) (count_same job labels entry q b h) (pendings_same job labels entry q b h) ∙ h.pendings_good
 
-    pub kept_pass : kept_layout q ≡ Good
+    pub kept_pass : kept_layout q ≡ None
     kept_pass =
         let e = ap (λ (s : List ℕ). length (places s)) (pendings_same job labels entry q b h) in
         kept_is q (h.kept_within.0, omega (arith, few_pendings, h.kept_within.1))
 
-    pub checks_pass : Opened → step_checks labels entry q ≡ Pass
+    pub checks_pass : Opened → step_checks labels entry q ≡ Ok tt
     unfolding step_checks step_layouts
     checks_pass o =
         then_pass (step_layouts labels entry q) _
@@ -174,7 +171,7 @@ module _ (job : Job) (labels : Table) (entry : List ℕ) where
       }
 
       -- accepted: one more is written
-      module _ (pass : patch_verdict job labels (regions_of b) (pendings_of b) at ≡ Pass) where
+      module _ (pass : patch_verdict job labels (regions_of b) (pendings_of b) at ≡ Ok tt) where
         fits : (pending_at (pendings_of b) at).offset + 4 ≤ (region_for (regions_of b) (pending_at (pendings_of b) at)).size
         fits = let p = pending_at waiting at in (reached job labels waiting (region_for base p) p pass).inside
 
@@ -257,8 +254,8 @@ module _ (job : Job) (labels : Table) (entry : List ℕ) where
 
     by_verdict : (l : q.counts.patches < length (order_of b)) → q.counts.state ≡ 0 → (v : Verdict) → patch_verdict job labels (regions_of b) (pendings_of b) (get_or (order_of b) q.counts.patches 0) ≡ v
         → StepKeeps q b (next_by labels q (get_or (order_of b) q.counts.patches 0) v)
-    by_verdict l s Pass e = record { held = held_more l e; mode = running s; says = more refl refl }
-    by_verdict l s (Stop r) e =
+    by_verdict l s (Ok tt) e = record { held = held_more l e; mode = running s; says = more refl refl }
+    by_verdict l s (Err r) e =
         let v = stop_at (patch_verdict job labels base waiting) order q.counts.patches r l h.passed e in
         record { held = held_back l; mode = refused r refl refl v; says = stops r refl v refl }
 
@@ -315,7 +312,7 @@ module _ (job : Job) (labels : Table) (entry : List ℕ) where
         (record { held = h; mode = refused r s n v; says = stops r (ap (ended_by the_entry) (patches_same ∙ v)) v s })
 
     -- after a 14 to 16: the same answer, and nothing changes
-    pub step_refused : Opened → (r : Refusal) → q.counts.state ≡ 2 → patches_verdict job labels (regions_of b) (pendings_of b) ≡ Stop r → step_outcome job labels entry q ≡ (record { answer = Refused r; after = q })
+    pub step_refused : Opened → (r : Refusal) → q.counts.state ≡ 2 → patches_verdict job labels (regions_of b) (pendings_of b) ≡ Err r → step_outcome job labels entry q ≡ (record { answer = Refused r; after = q })
     step_refused o r s v =
         let e : eqb q.counts.state 0 ≡ false = ne_eqb q.counts.state 0 (λ x. omega arith) in
         let f : eqb q.counts.state 1 ≡ false = ne_eqb q.counts.state 1 (λ x. omega arith) in

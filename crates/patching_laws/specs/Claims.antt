@@ -1,5 +1,5 @@
 -- P12's claims on every script, as statements (document 02); ScriptLaws proves them. Assumes nothing.
-use Rattle.std.specs.Prelude.{ℕ, ◌+◌, ◌-◌, ◌*◌, ◌/◌, ◌<◌, ◌≤◌, Bool, true, false, ◌||◌, ◌⊎◌, ◌≡◌, length, drop, eqb}
+use Rattle.std.specs.Prelude.{ℕ, ◌+◌, ◌-◌, ◌*◌, ◌/◌, ◌<◌, ◌≤◌, Bool, true, false, ◌||◌, ◌⊎◌, ◌≡◌, length, drop, eqb, Err, Ok}
 use mathlib.Core.List.{List, [], ◌∷◌, ◌++◌, Memᴰ}
 use Rattle.jobs.specs.declared.Job.{Job}
 use Rattle.record.specs.Records.{places, limit}
@@ -7,14 +7,12 @@ use Rattle.record.specs.declared.Location.{Location}
 use Rattle.refusal.specs.Numbers.{numbered}
 use Rattle.refusal.specs.declared.Refusal.{Refusal}
 use Rattle.refusal.specs.declared.Refusal.TheVariants.{LateLine}
-use Rattle.refusal.specs.declared.Verdict.TheVariants.{Pass}
 use Rattle.labels.specs.Labels.{Table}
 use Rattle.regions.specs.Regions.{region_count}
 use Rattle.pending.specs.Pendings.{region_of, pending_at}
 use Rattle.patch.specs.Patches.{region_for}
 use Rattle.loading.specs.declared.LoadForm.{LoadForm}
 use Rattle.build_outcome.specs.Build.{order_from, write_patches, BuildOutcome, build_outcome}
-use Rattle.build_outcome.specs.declared.Built.TheVariants.{Entry as BuiltEntry, Refused as BuiltRefused}
 use Rattle.emit_outcome.specs.declared.EmitAnswer.{EmitAnswer}
 use Rattle.emit_outcome.specs.declared.EmitAnswer.TheVariants.{Done, Refused as LineRefused}
 use Rattle.finished_words.specs.Listed.{Bytes}
@@ -97,7 +95,7 @@ module _ (job : Job) (labels : Table) (entry : List ℕ) where
   -- 2. "one more for each step that finds one"
   abbrev pub OneMore : Type 0
   OneMore =
-      (p : Patching) → step_checks labels entry p ≡ Pass → p.counts.state ≡ 0 → p.counts.patches < length (order_of p)
+      (p : Patching) → step_checks labels entry p ≡ Ok tt → p.counts.state ≡ 0 → p.counts.patches < length (order_of p)
       → ((n : ℕ) → (step_outcome job labels entry p).answer ≡ Patched n → (n ≡ p.counts.patches + 1) × ((step_outcome job labels entry p).after.counts.patches ≡ n))
 
   -- the steps of a script that patched
@@ -129,13 +127,13 @@ module _ (job : Job) (labels : Table) (entry : List ℕ) where
 
   pub record Finishes (ts : List Turn) (p : Patching) : Type 0 where
     pub ended : (a : ℕ) → (step_outcome job labels entry (run job labels entry ts p)).answer ≡ Ended a
-        → build_first ts p ≡ (record { answer = BuiltEntry a; regions = regions_of (run job labels entry ts p) })
+        → build_first ts p ≡ (record { answer = Ok a; regions = regions_of (run job labels entry ts p) })
     -- later steps end too
     pub ended_later : (a : ℕ) (us : List Turn) → AllOfBytes us → (step_outcome job labels entry (run job labels entry ts p)).answer ≡ Ended a
         → (step_outcome job labels entry (run job labels entry (ts ++ Step ∷ us) p)).answer ≡ Ended a
     -- "A step's refusal 14 to 16 .. gives those bytes and lines back unpatched"
     pub refused : (r : Refusal) → (step_outcome job labels entry (run job labels entry ts p)).answer ≡ Refused r
-        → build_first ts p ≡ (record { answer = BuiltRefused r; regions = regions_of (step_outcome job labels entry (run job labels entry ts p)).after })
+        → build_first ts p ≡ (record { answer = Err r; regions = regions_of (step_outcome job labels entry (run job labels entry ts p)).after })
     -- "and later steps answer the same", whatever comes between
     pub same_later : (r : Refusal) (us : List Turn) → AllOfBytes us → (step_outcome job labels entry (run job labels entry ts p)).answer ≡ Refused r
         → (step_outcome job labels entry (run job labels entry (ts ++ Step ∷ us) p)).answer ≡ Refused r
@@ -147,8 +145,8 @@ module _ (job : Job) (labels : Table) (entry : List ℕ) where
   -- first refusal, equals that of all accepted lines first and a whole build after." AllFinish says more, and without the premise.
   pub record EqualsBuild (ts : List Turn) (p : Patching) : Type 0 where
     pub finished_image : (a : ℕ) → (step_outcome job labels entry (run job labels entry ts p)).answer ≡ Ended a
-        → ((build_first ts p).answer ≡ BuiltEntry a) × ((build_first ts p).regions ≡ regions_of (run job labels entry ts p))
-    pub first_refusal : (r : Refusal) → (step_outcome job labels entry (run job labels entry ts p)).answer ≡ Refused r → (build_first ts p).answer ≡ BuiltRefused r
+        → ((build_first ts p).answer ≡ Ok a) × ((build_first ts p).regions ≡ regions_of (run job labels entry ts p))
+    pub first_refusal : (r : Refusal) → (step_outcome job labels entry (run job labels entry ts p)).answer ≡ Refused r → (build_first ts p).answer ≡ Err r
 
   abbrev pub AsRequested : Type 0
   AsRequested = (ts : List Turn) (p : Patching) → AllOfBytes ts → Start p → AllInside p → EqualsBuild ts p

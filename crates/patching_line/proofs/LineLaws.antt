@@ -1,12 +1,11 @@
 -- A line by its cases: a list that breaks its layout, no region selected, late, timely. Assumes nothing.
-use Rattle.std.specs.Prelude.{ℕ, Bool, ◌≡◌, eqb}
+use Rattle.std.specs.Prelude.{ℕ, Bool, ◌≡◌, eqb, Err, Ok}
 use Rattle.std.proofs.Math.Bool.{true, false}
 use mathlib.Core.List.{List, []}
 use Rattle.std.proofs.Math.Path.{refl, ap, ap₂}
 use Rattle.std.proofs.Common.{sym, ◌∙◌}
 use Rattle.jobs.specs.declared.Job.{Job}
 use Rattle.refusal.specs.declared.Refusal.{Refusal}
-use Rattle.refusal.specs.declared.Verdict.TheVariants.{Pass, Stop}
 use Rattle.emit_outcome.specs.declared.EmitAnswer.{EmitAnswer}
 use Rattle.emit_outcome.specs.declared.EmitAnswer.TheVariants.{Refused}
 use Rattle.emit_outcome.specs.Room.{no_region}
@@ -18,12 +17,12 @@ use Rattle.patching_line.specs.Contract.{given_of, LinesTo, LineIs}
 use Rattle.patching_line.specs.Lists.{LayoutsAre, timely, nowhere}
 
 module _ (job : Job) (tokens mnemonic descriptors : List ℕ) (position region : ℕ) (regions pending breakpoints : List ℕ) (counts : PatchCounts) where
-  pub line_stops : (r : Refusal) → LayoutsAre tokens mnemonic descriptors region regions pending breakpoints counts (Stop r)
+  pub line_stops : (r : Refusal) → LayoutsAre tokens mnemonic descriptors region regions pending breakpoints counts (Err r)
       → LineIs job (given_of tokens mnemonic descriptors position region) regions pending breakpoints counts (Refused r position) counts regions pending breakpoints
   unfolding line_outcome
   line_stops r e kept = ap (line_by job (given_of tokens mnemonic descriptors position region) (patching_of regions pending breakpoints kept counts)) (e position kept)
 
-  module _ (pass : LayoutsAre tokens mnemonic descriptors region regions pending breakpoints counts Pass) where
+  module _ (pass : LayoutsAre tokens mnemonic descriptors region regions pending breakpoints counts (Ok tt)) where
     abbrev none : EmitAnswer
     none = (emit_outcome job (nowhere tokens mnemonic descriptors pending breakpoints counts position)).answer
 

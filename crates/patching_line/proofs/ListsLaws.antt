@@ -1,8 +1,6 @@
 -- The layouts of a line's lists one after the other, and what they give where all are kept. Assumes nothing.
-use Rattle.std.specs.Prelude.{ℕ, ◌<◌, false, List, [], ◌≡◌, eqb}
-use Rattle.record.specs.declared.Layout.{Layout}
+use Rattle.std.specs.Prelude.{ℕ, ◌<◌, false, List, [], ◌≡◌, eqb, Ok, Option}
 use Rattle.refusal.specs.Verdicts.{and_then, layout_verdict}
-use Rattle.refusal.specs.declared.Verdict.TheVariants.{Pass}
 use Rattle.lexer.specs.Tokens.{token_layout}
 use Rattle.descriptors.specs.Mnemonics.{mnemonic_layout}
 use Rattle.descriptors.specs.Descriptors.{descriptor_layout}
@@ -18,7 +16,7 @@ use Rattle.patching_line.specs.Contract.{given_of}
 use Rattle.patching_line.specs.Lists.{filled_regions, filled_pendings, listed_in, LayoutsAre, LineLists}
 
 module _ (tokens mnemonic descriptors : List ℕ) (region : ℕ) (regions pending breakpoints : List ℕ) (counts : PatchCounts) where
-  pub layouts_are : (t m d r p b : Layout) → token_layout tokens ≡ t → mnemonic_layout mnemonic ≡ m → descriptor_layout descriptors ≡ d
+  pub layouts_are : (t m d r p b : Option ℕ) → token_layout tokens ≡ t → mnemonic_layout mnemonic ≡ m → descriptor_layout descriptors ≡ d
       → listed_in region counts.regions regions ≡ r
       → filled_layout counts.pending pending (has_patched counts.patches (filled_pendings pending counts) (pending_layout (region_count (filled_regions regions counts)) (filled_pendings pending counts))) ≡ p
       → breakpoint_buffer_layout counts.breakpoints breakpoints ≡ b
@@ -27,7 +25,7 @@ module _ (tokens mnemonic descriptors : List ℕ) (region : ℕ) (regions pendin
   unfolding line_layouts listed_layout pendings_layout
   layouts_are t m d r p b ht hm hd hr hp hb position kept = rw (ht, hm, hd, hr, hp, hb)
 
-  module _ (pass : LayoutsAre tokens mnemonic descriptors region regions pending breakpoints counts Pass) where
+  module _ (pass : LayoutsAre tokens mnemonic descriptors region regions pending breakpoints counts (Ok tt)) where
     all_pass : LineListsPass (given_of tokens mnemonic descriptors 0 region) (patching_of regions pending breakpoints [] counts)
     all_pass = line_lists (given_of tokens mnemonic descriptors 0 region) (patching_of regions pending breakpoints [] counts) (pass 0 [])
 

@@ -1,10 +1,7 @@
 -- What the parts of a line are given, and what they promise. Assumes nothing.
-use Rattle.std.specs.Prelude.{ℕ, ◌+◌, ◌-◌, min, ◌≤◌, true, false, List, [], ◌≡◌, length, take}
+use Rattle.std.specs.Prelude.{ℕ, ◌+◌, ◌-◌, min, ◌≤◌, true, false, List, [], ◌≡◌, length, take, None, Option, Some}
 use Rattle.jobs.specs.declared.Job.{Job}
 use Rattle.record.specs.Records.{places, limit}
-use Rattle.record.specs.declared.Layout.{Layout}
-use Rattle.record.specs.declared.Layout.TheVariants.{Good, Bad}
-use Rattle.refusal.specs.declared.Verdict.{Verdict}
 use Rattle.regions.specs.declared.Region.{Region}
 use Rattle.regions.specs.Regions.{region_layout, region_count}
 use Rattle.pending.specs.Pendings.{pending_layout}
@@ -18,6 +15,7 @@ use Rattle.patching_outcome.specs.declared.PatchCounts.{PatchCounts}
 use Rattle.patching_outcome.specs.Patching.{Patching, patching_of}
 use Rattle.patching_outcome.specs.Line.{LineGiven, is_listed, only_listed, line_layouts, most_words, emit_call, lined_by, LineOutcome}
 use Rattle.emit_in_list.specs.InList.{list_call, EmittedIn}
+use Rattle.refusal.specs.Verdicts.{Verdict}
 
 abbrev pub filled_regions : List ℕ → PatchCounts → List ℕ
 filled_regions regions counts = take counts.regions regions
@@ -26,9 +24,9 @@ abbrev pub filled_pendings : List ℕ → PatchCounts → List ℕ
 filled_pendings pending counts = take counts.pending pending
 
 -- the region list of a line, by its buffer and fill count
-abbrev pub listed_in : (region fill : ℕ) → List ℕ → Layout
+abbrev pub listed_in : (region fill : ℕ) → List ℕ → Option ℕ
 listed_in region fill s =
-    elim (region_number_ok region) [ true ↦ filled_layout fill s (only_listed (is_listed (take fill s) region) (region_layout (take fill s))) | false ↦ Bad 0 ]
+    elim (region_number_ok region) [ true ↦ filled_layout fill s (only_listed (is_listed (take fill s) region) (region_layout (take fill s))) | false ↦ Some 0 ]
 
 -- what the layouts of all lists come to; none reads the position or the kept words
 abbrev pub LayoutsAre : (tokens mnemonic descriptors : List ℕ) (region : ℕ) (regions pending breakpoints : List ℕ) → PatchCounts → Verdict → Type 0
@@ -40,9 +38,9 @@ LayoutsAre tokens mnemonic descriptors region regions pending breakpoints counts
 pub record LineLists (regions pending : List ℕ) (counts : PatchCounts) : Type 0 where
   pub regions_short : length regions ≤ limit
   pub regions_within : counts.regions ≤ length regions
-  pub regions_good : region_layout (filled_regions regions counts) ≡ Good
+  pub regions_good : region_layout (filled_regions regions counts) ≡ None
   pub pending_within : counts.pending ≤ length pending
-  pub pending_good : pending_layout (region_count (filled_regions regions counts)) (filled_pendings pending counts) ≡ Good
+  pub pending_good : pending_layout (region_count (filled_regions regions counts)) (filled_pendings pending counts) ≡ None
   pub patched : counts.patches ≤ length (places (filled_pendings pending counts))
 
 -- a line whose region is listed and not late

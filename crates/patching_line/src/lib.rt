@@ -2,7 +2,6 @@
 #![tactic(auto)]
 
 ghost use Rattle.std.specs.Prelude.{◌≡◌, [], ◌≤◌, ◌<◌, ◌+◌, ◌-◌, min, length};
-ghost use Rattle.record.specs.declared.Layout.TheVariants.{Good};
 ghost use Rattle.record.specs.Records.{limit};
 ghost use Rattle.record.specs.Stores.{append, le16_bytes};
 ghost use Rattle.regions.specs.Regions.{region_layout, region_count};
@@ -17,8 +16,7 @@ use emit_in_list::Within;
 use emit_outcome::{EmitAnswer, Emitted, FillCounts, LinePlace};
 use jobs::Job;
 use patching_outcome::{Lined, PatchCounts};
-use record::Layout;
-use refusal::{Refusal, Verdict};
+use refusal::Refusal;
 use regions::Region;
 
 // "0 to 15, or 65535 for none"
@@ -30,7 +28,7 @@ fn number_ok(region: u16) -> bool
 
 // Whether a region list has that number, or no region is selected.
 fn is_listed(regions: &[u8], region: u16) -> bool
-    requires { region_layout regions.now ≡ Good }
+    requires { region_layout regions.now ≡ None }
     ensures { result ≡ is_listed regions.now region }
 {
     if region == emit_outcome::NO_REGION {
@@ -40,19 +38,19 @@ fn is_listed(regions: &[u8], region: u16) -> bool
 }
 
 // The layout of the first `fill` bytes as a list of regions with the one selected.
-fn check_listed(buffer: &[u8], fill: usize, region: u16) -> Layout
+fn check_listed(buffer: &[u8], fill: usize, region: u16) -> Option<usize>
     ensures { result ≡ listed_in region fill buffer.now }
 {
     if !number_ok(region) {
-        return Layout::Bad(0);
+        return Some(0);
     }
     match patching_checks::check_regions(buffer, fill) {
-        Layout::Bad(place) => Layout::Bad(place),
-        Layout::Good => {
+        Some(place) => Some(place),
+        None => {
             if is_listed(&buffer[..fill], region) {
-                Layout::Good
+                None
             } else {
-                Layout::Bad(0)
+                Some(0)
             }
         }
     }
@@ -68,34 +66,34 @@ fn check_layouts(
     regions: &[u8],
     pending: &[u8],
     breakpoints: &[u8],
-) -> Verdict
+) -> Result<(), Refusal>
     ensures { LayoutsAre tokens.now mnemonic.now descriptors.now region
         regions.now pending.now breakpoints.now counts result }
 {
-    if let Layout::Bad(place) = lexer::first_bad_token(tokens) {
-        return Verdict::Stop(Refusal::BadLayout(0, place as u32));
+    if let Some(place) = lexer::first_bad_token(tokens) {
+        return Err(Refusal::BadLayout(0, place as u32));
     }
-    if let Layout::Bad(place) = descriptors::first_bad_mnemonic(mnemonic) {
-        return Verdict::Stop(Refusal::BadLayout(1, place as u32));
+    if let Some(place) = descriptors::first_bad_mnemonic(mnemonic) {
+        return Err(Refusal::BadLayout(1, place as u32));
     }
-    if let Layout::Bad(place) = descriptors::first_bad_descriptor(descriptors) {
-        return Verdict::Stop(Refusal::BadLayout(2, place as u32));
+    if let Some(place) = descriptors::first_bad_descriptor(descriptors) {
+        return Err(Refusal::BadLayout(2, place as u32));
     }
     let fill = counts.regions as usize;
-    if let Layout::Bad(place) = check_listed(regions, fill, region) {
-        return Verdict::Stop(Refusal::BadLayout(3, place as u32));
+    if let Some(place) = check_listed(regions, fill, region) {
+        return Err(Refusal::BadLayout(3, place as u32));
     }
     let count = regions::region_count(&regions[..fill]);
     let filled = counts.pending as usize;
     let patches = counts.patches as usize;
-    if let Layout::Bad(place) = patching_checks::check_pendings(pending, filled, count, patches) {
-        return Verdict::Stop(Refusal::BadLayout(4, place as u32));
+    if let Some(place) = patching_checks::check_pendings(pending, filled, count, patches) {
+        return Err(Refusal::BadLayout(4, place as u32));
     }
     let kept = counts.breakpoints as usize;
-    if let Layout::Bad(place) = breakpoints::check_breakpoint_buffer(breakpoints, kept) {
-        return Verdict::Stop(Refusal::BadLayout(5, place as u32));
+    if let Some(place) = breakpoints::check_breakpoint_buffer(breakpoints, kept) {
+        return Err(Refusal::BadLayout(5, place as u32));
     }
-    Verdict::Pass
+    Ok(())
 }
 
 // Whether patching has ended or was refused, or the region is below that of a patched pending: the last one patched has the greatest.
@@ -313,7 +311,7 @@ fn emit_checked(
     position: u32,
     region: u16,
 ) -> Lined
-    requires { LayoutsAre tokens.now mnemonic.now descriptors.now region regions.old pending.old breakpoints.old counts Verdict.Pass }
+    requires { LayoutsAre tokens.now mnemonic.now descriptors.now region regions.old pending.old breakpoints.old counts Ok tt }
     ensures { LineIs job (given_of tokens.now mnemonic.now descriptors.now position region)
         regions.old pending.old breakpoints.old counts
         result.answer result.counts regions.new pending.new breakpoints.new }
@@ -376,7 +374,7 @@ pub fn patch_line(
         regions.old pending.old breakpoints.old counts
         result.answer result.counts regions.new pending.new breakpoints.new }
 {
-    if let Verdict::Stop(refusal) = check_layouts(
+    if let Err(refusal) = check_layouts(
         tokens,
         mnemonic,
         descriptors,

@@ -1,13 +1,10 @@
 -- The checks of 1 of a step and of a line, in facts (document 02, P12). Assumes nothing.
-use Rattle.std.specs.Prelude.{ℕ, ◌+◌, ◌*◌, ◌≤◌, ◌<◌, List, [], ◌∷◌, Bool, true, false, ◌||◌, ◌≡◌, refl, length, leb, ltb, eqb}
+use Rattle.std.specs.Prelude.{ℕ, ◌+◌, ◌*◌, ◌≤◌, ◌<◌, List, [], ◌∷◌, Bool, true, false, ◌||◌, ◌≡◌, refl, length, leb, ltb, eqb, None, Ok, Option, Some}
 use Rattle.std.proofs.Common.{arith, sym, ap, ap₂, ◌∙◌, leb-true, le-leb, ltb-true, lt-ltb}
 use Rattle.record.specs.Records.{next, whole, places, first_bad, limit}
 use Rattle.record.proofs.RecordsLaws.{places_all, first_good, first_pass, limit_good}
-use Rattle.record.specs.declared.Layout.{Layout}
-use Rattle.record.specs.declared.Layout.TheVariants.{Good, Bad}
 use Rattle.refusal.specs.Verdicts.{layout_verdict}
 use Rattle.refusal.proofs.VerdictsLaws.{both_pass, layout_pass}
-use Rattle.refusal.specs.declared.Verdict.TheVariants.{Pass}
 use Rattle.lexer.specs.Tokens.{token_layout}
 use Rattle.descriptors.specs.Mnemonics.{mnemonic_layout}
 use Rattle.descriptors.specs.Descriptors.{descriptor_layout}
@@ -26,20 +23,20 @@ use Rattle.patching_outcome.specs.Line.{LineGiven, is_listed, only_listed, liste
 abbrev pub Within : (fill : ℕ) → List ℕ → Type 0
 Within fill s = (length s ≤ limit) × (fill ≤ length s)
 
-filled_good : (fill : ℕ) (s : List ℕ) (l : Layout) → filled_layout fill s l ≡ Good → Within fill s × (l ≡ Good)
+filled_good : (fill : ℕ) (s : List ℕ) (l : Option ℕ) → filled_layout fill s l ≡ None → Within fill s × (l ≡ None)
 unfolding filled_layout
 filled_good fill s l e =
-    let h = limit_good s (elim (leb fill (length s)) [ true ↦ l | false ↦ Bad (length s) ]) e in
+    let h = limit_good s (elim (leb fill (length s)) [ true ↦ l | false ↦ Some (length s) ]) e in
     let g = go (leb fill (length s)) refl h.1 in
     ((h.0, g.0), g.1)
   where
-    go : (b : Bool) → leb fill (length s) ≡ b → elim b [ true ↦ l | false ↦ Bad (length s) ] ≡ Good → (fill ≤ length s) × (l ≡ Good)
+    go : (b : Bool) → leb fill (length s) ≡ b → elim b [ true ↦ l | false ↦ Some (length s) ] ≡ None → (fill ≤ length s) × (l ≡ None)
     go true b x = (leb-true fill (length s) b, x)
     go false b x = let z : ◌≡◌ {A = ℕ} 0 1 = cc in absurd (omega arith)
 
 -- ---- the region list
 
-pub regions_good : (p : Patching) → regions_layout p ≡ Good → Within p.counts.regions p.regions × (region_layout (regions_of p) ≡ Good)
+pub regions_good : (p : Patching) → regions_layout p ≡ None → Within p.counts.regions p.regions × (region_layout (regions_of p) ≡ None)
 unfolding regions_layout
 regions_good p e = filled_good p.counts.regions p.regions (region_layout (regions_of p)) e
 
@@ -52,27 +49,27 @@ regions_is p w = filled_kept p.counts.regions p.regions (region_layout (regions_
 pub record ListedIs (region : ℕ) (p : Patching) : Type 0 where
   pub number_ok : region_number_ok region ≡ true
   pub within : Within p.counts.regions p.regions
-  pub good : region_layout (regions_of p) ≡ Good
+  pub good : region_layout (regions_of p) ≡ None
   pub listed : is_listed (regions_of p) region ≡ true
 
-only_good : (b : Bool) (l : Layout) → only_listed b l ≡ Good → (b ≡ true) × (l ≡ Good)
+only_good : (b : Bool) (l : Option ℕ) → only_listed b l ≡ None → (b ≡ true) × (l ≡ None)
 only_good true l e = (refl, e)
-only_good false Good e = let z : ◌≡◌ {A = ℕ} 0 1 = cc in absurd (omega arith)
-only_good false (Bad place) e = let z : ◌≡◌ {A = ℕ} 0 1 = cc in absurd (omega arith)
+only_good false None e = let z : ◌≡◌ {A = ℕ} 0 1 = cc in absurd (omega arith)
+only_good false (Some place) e = let z : ◌≡◌ {A = ℕ} 0 1 = cc in absurd (omega arith)
 
-pub listed_is : (region : ℕ) (p : Patching) → listed_layout region p ≡ Good → ListedIs region p
+pub listed_is : (region : ℕ) (p : Patching) → listed_layout region p ≡ None → ListedIs region p
 unfolding listed_layout
 listed_is region p e = go (region_number_ok region) refl e
   where
     go : (b : Bool) → region_number_ok region ≡ b
-        → elim b [ true ↦ filled_layout p.counts.regions p.regions (only_listed (is_listed (regions_of p) region) (region_layout (regions_of p))) | false ↦ Bad 0 ] ≡ Good → ListedIs region p
+        → elim b [ true ↦ filled_layout p.counts.regions p.regions (only_listed (is_listed (regions_of p) region) (region_layout (regions_of p))) | false ↦ Some 0 ] ≡ None → ListedIs region p
     go true b x =
         let f = filled_good p.counts.regions p.regions (only_listed (is_listed (regions_of p) region) (region_layout (regions_of p))) x in
         let o = only_good (is_listed (regions_of p) region) (region_layout (regions_of p)) f.1 in
         record { number_ok = b; within = f.0; good = o.1; listed = o.0 }
     go false b x = let z : ◌≡◌ {A = ℕ} 0 1 = cc in absurd (omega arith)
 
-pub listed_from : (region : ℕ) (p : Patching) → ListedIs region p → listed_layout region p ≡ Good
+pub listed_from : (region : ℕ) (p : Patching) → ListedIs region p → listed_layout region p ≡ None
 unfolding listed_layout
 listed_from region p h =
     rw (h.number_ok, listed_layout)
@@ -98,22 +95,22 @@ below_listed regions region h = go (eqb region no_region)
 
 pub record PendingsAre (p : Patching) : Type 0 where
   pub within : Within p.counts.pending p.pending
-  pub good : pending_layout (region_count (regions_of p)) (pendings_of p) ≡ Good
+  pub good : pending_layout (region_count (regions_of p)) (pendings_of p) ≡ None
   pub patched : p.counts.patches ≤ length (places (pendings_of p))
 
-patched_good : (n : ℕ) (s : List ℕ) (l : Layout) → has_patched n s l ≡ Good → (l ≡ Good) × (n ≤ length (places s))
-patched_good n s Good e = go (leb n (length (places s))) refl e
+patched_good : (n : ℕ) (s : List ℕ) (l : Option ℕ) → has_patched n s l ≡ None → (l ≡ None) × (n ≤ length (places s))
+patched_good n s None e = go (leb n (length (places s))) refl e
   where
-    go : (b : Bool) → leb n (length (places s)) ≡ b → elim b [ true ↦ Good | false ↦ Bad (length s) ] ≡ Good → (◌≡◌ {A = Layout} Good Good) × (n ≤ length (places s))
+    go : (b : Bool) → leb n (length (places s)) ≡ b → elim b [ true ↦ None | false ↦ Some (length s) ] ≡ None → (◌≡◌ {A = (Option ℕ)} None None) × (n ≤ length (places s))
     go true b x = (refl, leb-true n (length (places s)) b)
     go false b x = let z : ◌≡◌ {A = ℕ} 0 1 = cc in absurd (omega arith)
-patched_good n s (Bad place) e = let z : ◌≡◌ {A = ℕ} 0 1 = cc in absurd (omega arith)
+patched_good n s (Some place) e = let z : ◌≡◌ {A = ℕ} 0 1 = cc in absurd (omega arith)
 
-pub patched_is : (n : ℕ) (s : List ℕ) (l : Layout) → n ≤ length (places s) → has_patched n s l ≡ l
-patched_is n s Good h = rw (le-leb n (length (places s)) h, has_patched)
-patched_is n s (Bad place) h = refl
+pub patched_is : (n : ℕ) (s : List ℕ) (l : Option ℕ) → n ≤ length (places s) → has_patched n s l ≡ l
+patched_is n s None h = rw (le-leb n (length (places s)) h, has_patched)
+patched_is n s (Some place) h = refl
 
-pub pendings_are : (p : Patching) → pendings_layout p ≡ Good → PendingsAre p
+pub pendings_are : (p : Patching) → pendings_layout p ≡ None → PendingsAre p
 unfolding pendings_layout
 pendings_are p e =
     let l = pending_layout (region_count (regions_of p)) (pendings_of p) in
@@ -130,40 +127,40 @@ pendings_is p w h =
 
 -- ---- the kept words: each pending takes 36 bytes at least, so 7,280 bytes are enough
 
-all_whole : (regions : ℕ) (s ps : List ℕ) → first_bad (pending_ok regions s) ps ≡ Good → first_bad (whole s) ps ≡ Good
+all_whole : (regions : ℕ) (s ps : List ℕ) → first_bad (pending_ok regions s) ps ≡ None → first_bad (whole s) ps ≡ None
 unfolding first_bad
 all_whole regions s [] g = refl
 all_whole regions s (p ∷ ps) g =
     let f = first_good (pending_ok regions s) p ps g in
     first_pass (whole s) p ps (pending_is regions s p f.0).whole_at ∙ all_whole regions s ps f.1
 
-few_from : (regions : ℕ) (s : List ℕ) (at : ℕ) (ps : List ℕ) → Chain s at ps → first_bad (pending_ok regions s) ps ≡ Good → at + 36 * length ps ≤ length s
+few_from : (regions : ℕ) (s : List ℕ) (at : ℕ) (ps : List ℕ) → Chain s at ps → first_bad (pending_ok regions s) ps ≡ None → at + 36 * length ps ≤ length s
 few_from regions s at [] c g = omega (arith, c)
 few_from regions s at (p ∷ ps) c g =
     let f = first_good (pending_ok regions s) p ps g in
     let i = (pending_is regions s p f.0).least in
     omega (arith, few_from regions s (next s at) ps c.2 f.1, i, ap (next s) c.0, c.0)
 
-pub few : (regions : ℕ) (s : List ℕ) → pending_layout regions s ≡ Good → 36 * length (places s) ≤ length s
+pub few : (regions : ℕ) (s : List ℕ) → pending_layout regions s ≡ None → 36 * length (places s) ≤ length s
 few regions s g =
     let h = (pending_good regions s g).1 in
     omega (arith, few_from regions s 0 (places s) (places_chain s 0 (places s) (sym (places_all s)) (all_whole regions s (places s) h) (omega arith)) h)
 
-pub kept_is : (p : Patching) → Within (4 * length (places (pendings_of p))) p.kept → kept_layout p ≡ Good
+pub kept_is : (p : Patching) → Within (4 * length (places (pendings_of p))) p.kept → kept_layout p ≡ None
 unfolding kept_layout
-kept_is p w = filled_kept (4 * length (places (pendings_of p))) p.kept Good w.0 w.1
+kept_is p w = filled_kept (4 * length (places (pendings_of p))) p.kept None w.0 w.1
 
 -- ---- a line's lists
 
 pub record LineListsPass (g : LineGiven) (p : Patching) : Type 0 where
-  pub tokens_good : token_layout g.token_list ≡ Good
-  pub mnemonic_good : mnemonic_layout g.mnemonic ≡ Good
-  pub descriptors_good : descriptor_layout g.descriptors ≡ Good
+  pub tokens_good : token_layout g.token_list ≡ None
+  pub mnemonic_good : mnemonic_layout g.mnemonic ≡ None
+  pub descriptors_good : descriptor_layout g.descriptors ≡ None
   pub regions_listed : ListedIs g.region p
   pub pendings_good : PendingsAre p
-  pub breakpoints_good : breakpoint_buffer_layout p.counts.breakpoints p.breakpoints ≡ Good
+  pub breakpoints_good : breakpoint_buffer_layout p.counts.breakpoints p.breakpoints ≡ None
 
-pub line_lists : (g : LineGiven) (p : Patching) → line_layouts g p ≡ Pass → LineListsPass g p
+pub line_lists : (g : LineGiven) (p : Patching) → line_layouts g p ≡ Ok tt → LineListsPass g p
 unfolding line_layouts
 line_lists g p e =
     let l₀ = both_pass (layout_verdict 0 (token_layout g.token_list)) _ e in
@@ -180,8 +177,8 @@ line_lists g p e =
       breakpoints_good = layout_pass 5 (breakpoint_buffer_layout p.counts.breakpoints p.breakpoints) l₄.1;
     }
 
-pub lists_line : (g : LineGiven) (p : Patching) → LineListsPass g p → line_layouts g p ≡ Pass
+pub lists_line : (g : LineGiven) (p : Patching) → LineListsPass g p → line_layouts g p ≡ Ok tt
 unfolding line_layouts
 lists_line g p h =
-    let e : pendings_layout p ≡ Good = pendings_is p h.pendings_good.within h.pendings_good.patched ∙ h.pendings_good.good in
+    let e : pendings_layout p ≡ None = pendings_is p h.pendings_good.within h.pendings_good.patched ∙ h.pendings_good.good in
     rw (h.tokens_good, h.mnemonic_good, h.descriptors_good, listed_from g.region p h.regions_listed, e, h.breakpoints_good)

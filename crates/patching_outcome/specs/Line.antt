@@ -1,17 +1,13 @@
 -- A whole line while patching runs, by the definition of an emit call (document 02, P12). Assumes nothing.
-use Rattle.std.specs.Prelude.{ℕ, ◌+◌, ◌-◌, List, [], ◌++◌, Bool, true, false, ◌&&◌, ◌||◌, not, length, get_or, take, drop, ltb, eqb}
+use Rattle.std.specs.Prelude.{ℕ, ◌+◌, ◌-◌, List, [], ◌++◌, Bool, true, false, ◌&&◌, ◌||◌, not, length, get_or, take, drop, ltb, eqb, Err, None, Ok, Option, Some}
 use Rattle.jobs.specs.declared.Job.{Job}
 use Rattle.record.specs.Bytes.{part}
 use Rattle.record.specs.Records.{places}
 use Rattle.record.specs.Stores.{append}
-use Rattle.record.specs.declared.Layout.{Layout}
-use Rattle.record.specs.declared.Layout.TheVariants.{Good, Bad}
 use Rattle.refusal.specs.Numbers.{numbered}
-use Rattle.refusal.specs.Verdicts.{and_then, layout_verdict}
+use Rattle.refusal.specs.Verdicts.{and_then, layout_verdict, Verdict}
 use Rattle.refusal.specs.declared.Refusal.{Refusal}
 use Rattle.refusal.specs.declared.Refusal.TheVariants.{LateLine}
-use Rattle.refusal.specs.declared.Verdict.{Verdict}
-use Rattle.refusal.specs.declared.Verdict.TheVariants.{Pass, Stop}
 use Rattle.lexer.specs.Tokens.{token_layout}
 use Rattle.descriptors.specs.Mnemonics.{mnemonic_layout}
 use Rattle.descriptors.specs.Descriptors.{descriptor_layout}
@@ -43,17 +39,17 @@ abbrev pub is_listed : (regions : List ℕ) (region : ℕ) → Bool
 is_listed regions region = eqb region no_region || ltb region (region_count regions)
 
 -- "A line for an unlisted region gets refusal 1 for that list (b 0)": what a list lists is known where it keeps its layout
-abbrev pub only_listed : Bool → Layout → Layout
+abbrev pub only_listed : Bool → Option ℕ → Option ℕ
 only_listed true l = l
-only_listed false Good = Bad 0
-only_listed false (Bad place) = Bad place
+only_listed false None = Some 0
+only_listed false (Some place) = Some place
 
-unfoldable pub listed_layout : (region : ℕ) → Patching → Layout
+unfoldable pub listed_layout : (region : ℕ) → Patching → Option ℕ
 unfolding filled_layout region_layout places
 listed_layout region p =
     elim (region_number_ok region) [
       | true ↦ filled_layout p.counts.regions p.regions (only_listed (is_listed (regions_of p) region) (region_layout (regions_of p)))
-      | false ↦ Bad 0
+      | false ↦ Some 0
     ]
 
 -- an emit call's buffers, with the region list where the region's data stands
@@ -144,8 +140,8 @@ lined_by p region o (Done position loaded) = record { answer = Done position loa
 lined_by p region o (Refused r position) = record { answer = Refused r position; after = p }
 
 abbrev pub line_by : Job → LineGiven → Patching → Verdict → LineOutcome
-line_by job g p (Stop r) = record { answer = Refused r g.position; after = p }
-line_by job g p Pass =
+line_by job g p (Err r) = record { answer = Refused r g.position; after = p }
+line_by job g p (Ok tt) =
     let none = (emit_outcome job (none_call g p)).answer in
     let o = emit_outcome job (emit_call g p) in
     elim (eqb g.region no_region) [

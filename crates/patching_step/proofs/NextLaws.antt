@@ -1,17 +1,13 @@
 -- The next pending, by its record, region and destination: refused and all put back, or written with its bytes kept. Assumes nothing.
-use Rattle.std.specs.Prelude.{ℕ, ◌+◌, ◌*◌, ◌≤◌, ◌<◌, Bool, true, false, List, ◌≡◌, refl, length, get_or, take, leb}
+use Rattle.std.specs.Prelude.{ℕ, ◌+◌, ◌*◌, ◌≤◌, ◌<◌, Bool, true, false, List, ◌≡◌, refl, length, get_or, take, leb, Err, None, Ok, Option}
 use Rattle.std.proofs.Common.{arith, sym, ◌∙◌, length-take-le, get_or-take, leb-true}
 use Rattle.std.proofs.Math.Path.{ap, ap₂}
 use Rattle.jobs.specs.declared.Job.{Job}
 use Rattle.record.specs.Bytes.{part}
 use Rattle.record.specs.Stores.{append}
-use Rattle.record.specs.declared.Layout.TheVariants.{Good}
 use Rattle.refusal.specs.declared.Refusal.{Refusal}
 use Rattle.refusal.specs.declared.Refusal.TheVariants.{PatchPastEnd}
-use Rattle.refusal.specs.declared.Verdict.{Verdict}
-use Rattle.refusal.specs.declared.Verdict.TheVariants.{Pass, Stop}
 use Rattle.labels.specs.Labels.{Table}
-use Rattle.labels.specs.declared.Address.{Address}
 use Rattle.regions.specs.declared.Region.{Region}
 use Rattle.regions.specs.Regions.{region_layout, region_count, region_place, region_at}
 use Rattle.regions.proofs.RegionsLaws.{region_good, region_within}
@@ -29,13 +25,14 @@ use Rattle.patching_outcome.specs.Step.{now_at, put_back, next_by}
 use Rattle.patching_outcome.specs.Contract.{StepsTo}
 use Rattle.patching_step.specs.Undo.{PatchAt, PatchesAt}
 use Rattle.patching_step.specs.Steps.{filled_regions, filled_pendings, StepLists, InOrder, next_at}
+use Rattle.refusal.specs.Verdicts.{Verdict}
 
 -- what passes ends within its region's data
-stop_inside : (job : Job) (g : Region) (q : Pending) (address : Address) → patch_stop job g q address ≡ Pass → q.offset + 4 ≤ g.size
+stop_inside : (job : Job) (g : Region) (q : Pending) (address : Option ℕ) → patch_stop job g q address ≡ Ok tt → q.offset + 4 ≤ g.size
 stop_inside job g q address e = go (leb (q.offset + 4) g.size) refl e
   where
     go : (b : Bool) → leb (q.offset + 4) g.size ≡ b
-        → elim b [ true ↦ reach_verdict job q (pc_of g q) address | false ↦ Stop (PatchPastEnd q.location) ] ≡ Pass → q.offset + 4 ≤ g.size
+        → elim b [ true ↦ reach_verdict job q (pc_of g q) address | false ↦ Err (PatchPastEnd q.location) ] ≡ Ok tt → q.offset + 4 ≤ g.size
     go true b x = leb-true (q.offset + 4) g.size b
     go false b x = let z : ◌≡◌ {A = ℕ} 0 1 = cc in absurd (omega arith)
 
@@ -71,7 +68,7 @@ module _ (regions pending kept : List ℕ) (counts : PatchCounts) (lists : StepL
       }
 
 -- ---- the next one, of which the record, the region and the destination are given
-module _ (job : Job) (labels : Table) (regions pending kept : List ℕ) (counts : PatchCounts) (at : ℕ) (q : Pending) (g : Region) (address : Address)
+module _ (job : Job) (labels : Table) (regions pending kept : List ℕ) (counts : PatchCounts) (at : ℕ) (q : Pending) (g : Region) (address : Option ℕ)
     (read : q ≡ pending_at (filled_pendings pending counts) at)
     (numbered : g ≡ region_at (filled_regions regions counts) (region_place (filled_regions regions counts) q.region))
     (reached : address ≡ destination labels (filled_pendings pending counts) q.label) where
@@ -93,18 +90,18 @@ module _ (job : Job) (labels : Table) (regions pending kept : List ℕ) (counts 
   unfolding write_pending
   word d =
       ap₂ (λ (x : Region) (y : Pending). write_word x y address d) region_for_lem read
-      ∙ ap (λ (a : Address). write_word (region_for (filled_regions regions counts) (pending_at (filled_pendings pending counts) at)) (pending_at (filled_pendings pending counts) at) a d) (sym address_is)
+      ∙ ap (λ (a : Option ℕ). write_word (region_for (filled_regions regions counts) (pending_at (filled_pendings pending counts) at)) (pending_at (filled_pendings pending counts) at) a d) (sym address_is)
 
   -- what passes ends within the list
-  pub next_inside : PatchAt (filled_regions regions counts) (filled_pendings pending counts) at → region_layout (filled_regions regions counts) ≡ Good
-      → (v : Verdict) → v ≡ patch_stop job g q address → v ≡ Pass → g.start + q.offset + 4 ≤ length (filled_regions regions counts)
+  pub next_inside : PatchAt (filled_regions regions counts) (filled_pendings pending counts) at → region_layout (filled_regions regions counts) ≡ None
+      → (v : Verdict) → v ≡ patch_stop job g q address → v ≡ Ok tt → g.start + q.offset + 4 ≤ length (filled_regions regions counts)
   next_inside a good v e s =
       let w = region_within (filled_regions regions counts) q.region good (rw read a.region_is) in
       let h = stop_inside job g q address (sym e ∙ s) in
       omega (arith, w, h, ap (λ (x : Region). x.start) numbered, ap (λ (x : Region). x.size) numbered)
 
   module _ (order : List ℕ) (in_order : InOrder regions pending counts order) where
-    pub next_stops : (r : Refusal) (v : Verdict) → v ≡ patch_stop job g q address → v ≡ Stop r
+    pub next_stops : (r : Refusal) (v : Verdict) → v ≡ patch_stop job g q address → v ≡ Err r
         → (d : List ℕ) → d ≡ put_back (filled_regions regions counts) (filled_pendings pending counts) kept 0 (take counts.patches order) regions
         → (c : PatchCounts) → c ≡ now_at counts 0 2
         → StepsTo (next_at job labels at) regions pending kept counts (Refused r) c d kept
@@ -114,7 +111,7 @@ module _ (job : Job) (labels : Table) (regions pending kept : List ℕ) (counts 
         ∙ ap₂ (λ (x : List ℕ) (y : PatchCounts). record { answer = Refused r; after = patching_of x pending breakpoints kept y })
         (sym (put ∙ ap (λ (l : List ℕ). put_back (filled_regions regions counts) (filled_pendings pending counts) kept 0 (take counts.patches l) regions) in_order)) (sym now)
 
-  pub next_passes : (v : Verdict) → v ≡ patch_stop job g q address → v ≡ Pass
+  pub next_passes : (v : Verdict) → v ≡ patch_stop job g q address → v ≡ Ok tt
       → (d : List ℕ) → d ≡ write_word g q address regions
       → (k : List ℕ) → k ≡ append kept (4 * counts.patches) (part regions (g.start + q.offset) 4)
       → (c : PatchCounts) → c ≡ now_at counts (counts.patches + 1) counts.state

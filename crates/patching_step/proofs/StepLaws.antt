@@ -1,17 +1,13 @@
 -- A step by its cases: its checks, the end, the next pending, and a step where patching does not run. Assumes nothing.
-use Rattle.std.specs.Prelude.{ℕ, ◌*◌, ◌≤◌, ◌<◌, Bool, true, false, List, ◌≡◌, refl, get_or, ltb, eqb}
+use Rattle.std.specs.Prelude.{ℕ, ◌*◌, ◌≤◌, ◌<◌, Bool, true, false, List, ◌≡◌, refl, get_or, ltb, eqb, Err, None, Ok, Option, Some}
 use Rattle.std.proofs.Common.{sym, subst, ◌∙◌, le-ltb, lt-ltb, eq-eqb, ne_eqb}
 use Rattle.std.proofs.Math.Path.{ap, ap₂}
 use Rattle.std.proofs.Math.ListN.{length}
 use Rattle.jobs.specs.declared.Job.{Job}
 use Rattle.record.specs.Records.{places}
-use Rattle.record.specs.declared.Layout.{Layout}
-use Rattle.record.specs.declared.Layout.TheVariants.{Good, Bad}
-use Rattle.refusal.specs.Verdicts.{and_then, layout_verdict, name_verdict}
+use Rattle.refusal.specs.Verdicts.{and_then, layout_verdict, name_verdict, Verdict}
 use Rattle.refusal.proofs.VerdictsLaws.{both_pass, layout_pass}
 use Rattle.refusal.specs.declared.Refusal.{Refusal}
-use Rattle.refusal.specs.declared.Verdict.{Verdict}
-use Rattle.refusal.specs.declared.Verdict.TheVariants.{Pass, Stop}
 use Rattle.labels.specs.Labels.{Table}
 use Rattle.regions.specs.Regions.{region_layout, region_count}
 use Rattle.address_label.specs.Entries.{entry_layout, entry_of}
@@ -59,25 +55,25 @@ module _ (job : Job) (labels : Table) (entry : ℕ) (regions pending : List ℕ)
 
 -- ---- the checks
 
-pub patched_layout : (n : ℕ) (s : List ℕ) (l : Layout) → has_patched n s l ≡ Good → l ≡ Good
-patched_layout n s Good e = refl
-patched_layout n s (Bad p) e = e
+pub patched_layout : (n : ℕ) (s : List ℕ) (l : Option ℕ) → has_patched n s l ≡ None → l ≡ None
+patched_layout n s None e = refl
+patched_layout n s (Some p) e = e
 
 module _ (labels : Table) (entry regions pending kept : List ℕ) (counts : PatchCounts) where
-  pub layouts_are : (a b c d e : Layout) → labels.layout ≡ a → entry_layout entry ≡ b
+  pub layouts_are : (a b c d e : Option ℕ) → labels.layout ≡ a → entry_layout entry ≡ b
       → filled_layout counts.regions regions (region_layout (filled_regions regions counts)) ≡ c
       → filled_layout counts.pending pending (has_patched counts.patches (filled_pendings pending counts) (pending_layout (region_count (filled_regions regions counts)) (filled_pendings pending counts))) ≡ d
-      → filled_layout (4 * length (places (filled_pendings pending counts))) kept Good ≡ e
+      → filled_layout (4 * length (places (filled_pendings pending counts))) kept None ≡ e
       → LayoutsAre labels entry regions pending kept counts (and_then (layout_verdict 0 a) (and_then (layout_verdict 1 b) (and_then (layout_verdict 2 c) (and_then (layout_verdict 3 d) (layout_verdict 4 e)))))
   unfolding step_layouts regions_layout pendings_layout kept_layout
   layouts_are a b c d e ha hb hc hd he breakpoints = rw (ha, hb, hc, hd, he)
 
   pub record ListsPass : Type 0 where
-    pub labels_good : labels.layout ≡ Good
-    pub entry_good : entry_layout entry ≡ Good
+    pub labels_good : labels.layout ≡ None
+    pub entry_good : entry_layout entry ≡ None
     pub step_lists : StepLists regions pending kept counts
 
-  pub lists_pass : (breakpoints : List ℕ) → step_layouts labels entry (patching_of regions pending breakpoints kept counts) ≡ Pass → ListsPass
+  pub lists_pass : (breakpoints : List ℕ) → step_layouts labels entry (patching_of regions pending breakpoints kept counts) ≡ Ok tt → ListsPass
   unfolding step_layouts kept_layout
   lists_pass breakpoints e =
       let p = patching_of regions pending breakpoints kept counts in
@@ -87,7 +83,7 @@ module _ (labels : Table) (entry regions pending kept : List ℕ) (counts : Patc
       let l₄ = both_pass (layout_verdict 3 (pendings_layout p)) _ l₃.1 in
       let g = regions_good p (layout_pass 2 (regions_layout p) l₃.0) in
       let q = pendings_are p (layout_pass 3 (pendings_layout p) l₄.0) in
-      let k = filled_good (4 * length (places (filled_pendings pending counts))) kept Good (layout_pass 4 (kept_layout p) l₄.1) in
+      let k = filled_good (4 * length (places (filled_pendings pending counts))) kept None (layout_pass 4 (kept_layout p) l₄.1) in
       record {
         labels_good = layout_pass 0 labels.layout l₁.0;
         entry_good = layout_pass 1 (entry_layout entry) l₂.0;
@@ -107,12 +103,12 @@ module _ (labels : Table) (entry regions pending kept : List ℕ) (counts : Patc
 
   -- ---- a whole step
   module _ (job : Job) where
-    pub step_refuses : (r : Refusal) → ChecksAre (Stop r) → StepIs job labels entry regions pending kept counts (Refused r) counts regions kept
+    pub step_refuses : (r : Refusal) → ChecksAre (Err r) → StepIs job labels entry regions pending kept counts (Refused r) counts regions kept
     unfolding step_outcome
     step_refuses r e breakpoints =
         ap (step_by job labels (entry_address labels entry (entry_of entry (places entry))) (patching_of regions pending breakpoints kept counts)) (e breakpoints)
 
-    module _ (pass : ChecksAre Pass) (a : ℕ) (entry_is : entry_address labels entry (entry_of entry (places entry)) ≡ a) where
+    module _ (pass : ChecksAre (Ok tt)) (a : ℕ) (entry_is : entry_address labels entry (entry_of entry (places entry)) ≡ a) where
       passes : (breakpoints : List ℕ) → let p = patching_of regions pending breakpoints kept counts in
           step_outcome job labels entry p ≡ elim (eqb counts.state 0) [ true ↦ running_step job labels a p | false ↦ stopped_step job labels a p ]
       unfolding step_outcome

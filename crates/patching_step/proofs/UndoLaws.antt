@@ -1,11 +1,10 @@
 -- Patches put back one by one, the last first: what is left to do, and that the regions stand where they stood. Assumes nothing.
-use Rattle.std.specs.Prelude.{ℕ, ◌+◌, ◌*◌, ◌≤◌, ◌<◌, List, [], ◌∷◌, ◌++◌, Bool, true, false, ◌⊎◌, ◌≡◌, refl, length, get_or, take, drop, leb, ltb}
+use Rattle.std.specs.Prelude.{ℕ, ◌+◌, ◌*◌, ◌≤◌, ◌<◌, List, [], ◌∷◌, ◌++◌, Bool, true, false, ◌⊎◌, ◌≡◌, refl, length, get_or, take, drop, leb, ltb, None}
 use Rattle.std.proofs.Common.{arith, add-one, inl, inr, sym, ap, ap₂, subst, ◌∙◌, length-drop, length-take-le, take-suc, leb-true, le-leb, ltb-true, ltb-false}
 use Rattle.std.proofs.lemmas.Bool.{lt-leb}
 use Rattle.record.specs.Bytes.{byte_at, part}
 use Rattle.record.specs.Records.{body_len, next}
 use Rattle.record.specs.Stores.{append}
-use Rattle.record.specs.declared.Layout.TheVariants.{Good}
 use Rattle.record_growth.proofs.PutLaws.{put_length, put_out, take_put}
 use Rattle.regions.specs.declared.Region.{Region}
 use Rattle.regions.specs.Regions.{region_layout, region_count, region_place, region_at}
@@ -31,7 +30,7 @@ module _ (regions pending bytes : List ℕ) (at : ℕ) (d : List ℕ) (p : Pendi
   pub back_in : (e : List ℕ) → p.offset + 4 ≤ g.size → e ≡ append d (g.start + p.offset) bytes → e ≡ back_at regions pending bytes at d
   back_in e h w = rw (end_is ∙ le-leb (p.offset + 4) g.size h, back_at) (w ∙ ap₂ (λ (q : Pending) (x : Region). append d (x.start + q.offset) bytes) read region_for_lem)
 
-  pub back_room : PatchAt regions pending at → region_layout regions ≡ Good → p.offset + 4 ≤ g.size → g.start + p.offset + 4 ≤ length regions
+  pub back_room : PatchAt regions pending at → region_layout regions ≡ None → p.offset + 4 ≤ g.size → g.start + p.offset + 4 ≤ length regions
   back_room a good h =
       let w = region_within regions p.region good (rw read a.region_is) in
       omega (arith, w, ap (λ (x : Region). x.start) numbered, ap (λ (x : Region). x.size) numbered)

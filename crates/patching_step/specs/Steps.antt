@@ -1,9 +1,7 @@
 -- What the parts of a step are given, and what they promise. Assumes nothing.
-use Rattle.std.specs.Prelude.{ℕ, ◌*◌, ◌≤◌, List, ◌≡◌, length, take}
+use Rattle.std.specs.Prelude.{ℕ, ◌*◌, ◌≤◌, List, ◌≡◌, length, take, None}
 use Rattle.jobs.specs.declared.Job.{Job}
 use Rattle.record.specs.Records.{places}
-use Rattle.record.specs.declared.Layout.TheVariants.{Good}
-use Rattle.refusal.specs.declared.Verdict.{Verdict}
 use Rattle.labels.specs.Labels.{Table}
 use Rattle.regions.specs.Regions.{region_count}
 use Rattle.pending.specs.Pendings.{pending_layout}
@@ -13,6 +11,7 @@ use Rattle.patching_outcome.specs.declared.StepAnswer.{StepAnswer}
 use Rattle.patching_outcome.specs.Patching.{Patching, patching_of, regions_of, pendings_of}
 use Rattle.patching_outcome.specs.Step.{step_layouts, StepOutcome, next_by, stopped_step}
 use Rattle.patching_step.specs.Undo.{FilledRegions}
+use Rattle.refusal.specs.Verdicts.{Verdict}
 
 abbrev pub filled_regions : List ℕ → PatchCounts → List ℕ
 filled_regions regions counts = take counts.regions regions
@@ -24,7 +23,7 @@ filled_pendings pending counts = take counts.pending pending
 pub record ListsGood (regions pending : List ℕ) (counts : PatchCounts) : Type 0 where
   pub regions_filled : FilledRegions counts.regions regions
   pub pending_within : counts.pending ≤ length pending
-  pub pending_good : pending_layout (region_count (filled_regions regions counts)) (filled_pendings pending counts) ≡ Good
+  pub pending_good : pending_layout (region_count (filled_regions regions counts)) (filled_pendings pending counts) ≡ None
 
 -- and room for the kept words
 pub record StepLists (regions pending kept : List ℕ) (counts : PatchCounts) : Type 0 where

@@ -1,7 +1,6 @@
 -- What the steps of putting patches back promise. Assumes nothing.
-use Rattle.std.specs.Prelude.{ℕ, ◌+◌, ◌*◌, ◌≤◌, ◌<◌, true, false, List, ◌≡◌, length, get_or, take, leb}
+use Rattle.std.specs.Prelude.{ℕ, ◌+◌, ◌*◌, ◌≤◌, ◌<◌, true, false, List, ◌≡◌, length, get_or, take, leb, None}
 use Rattle.record.specs.Stores.{append}
-use Rattle.record.specs.declared.Layout.TheVariants.{Good}
 use Rattle.regions.specs.Regions.{region_layout, region_count}
 use Rattle.pending.specs.Pendings.{pending_at, PendingIs}
 use Rattle.patch.specs.Patches.{region_for, slot_of}
@@ -20,7 +19,7 @@ pub record PatchAt (regions pending : List ℕ) (at : ℕ) : Type 0 where
 -- the first `fill` bytes are a region list
 pub record FilledRegions (fill : ℕ) (buffer : List ℕ) : Type 0 where
   pub within : fill ≤ length buffer
-  pub good : region_layout (take fill buffer) ≡ Good
+  pub good : region_layout (take fill buffer) ≡ None
 
 -- patches of listed regions, with four bytes for each
 pub record PatchesAt (regions pending order kept : List ℕ) : Type 0 where

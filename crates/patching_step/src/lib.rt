@@ -11,12 +11,9 @@ ghost use Rattle.patching_outcome.specs.Contract.{StepsTo, StepIs};
 ghost use Rattle.patching_step.specs.Undo.{back_at, PatchAt, FilledRegions, PatchesAt};
 ghost use Rattle.patching_step.specs.Steps.{ListsGood, StepLists, InOrder, next_at, Stopped, LayoutsAre};
 
-use build_outcome::Built;
 use jobs::Job;
-use names::Repeat;
 use patching_outcome::{PatchCounts, StepAnswer, Stepped};
-use record::Layout;
-use refusal::{Refusal, Verdict};
+use refusal::Refusal;
 
 // Puts four bytes back at the patch of the pending at `at`, if it ends within its region's data.
 fn put_back_one(regions: &mut [u8], fill: usize, pending: &[u8], at: usize, bytes: &[u8])
@@ -89,14 +86,14 @@ fn patch_next(
     let label = patch.label;
     let address = patch::get_address(label, list, labels, index);
     match patch::check_pending(job, region, patch, address) {
-        Verdict::Stop(refusal) => {
+        Err(refusal) => {
             put_back(regions, fill, list, &order[..done], &*kept);
             Stepped {
                 answer: StepAnswer::Refused(refusal),
                 counts: now_at(counts, 0, 2),
             }
         }
-        Verdict::Pass => {
+        Ok(()) => {
             let slot = region.start + patch.offset as usize;
             record::put_all(kept, 4 * done, &regions[slot..slot + 4]);
             patch::write_pending(regions, region, patch, address);
@@ -159,8 +156,8 @@ fn stopped_step(
     let n = order.len();
     binary_builder::find_labels(labels, index, list, order, &mut *found);
     match binary_builder::check_patches(job, labels, &regions[..fill], list, order, &found[..n]) {
-        Verdict::Stop(refusal) => StepAnswer::Refused(refusal),
-        Verdict::Pass => StepAnswer::Ended(entry),
+        Err(refusal) => StepAnswer::Refused(refusal),
+        Ok(()) => StepAnswer::Ended(entry),
     }
 }
 
@@ -176,18 +173,18 @@ fn step_indexed(
     kept: &mut [u8],
     found: &mut [u16],
 ) -> Stepped
-    requires indexed { Indexed labels.now index.now × StepLists regions.old pending.now kept.old counts × (entry_layout entry.now ≡ Layout.Good) }
+    requires indexed { Indexed labels.now index.now × StepLists regions.old pending.now kept.old counts × (entry_layout entry.now ≡ None) }
     requires most_pendings_in_bounds { most_pendings ≤ length found.old }
-    requires layouts_are { LayoutsAre (table_of labels.now) entry.now regions.old pending.now kept.old counts Verdict.Pass }
+    requires layouts_are { LayoutsAre (table_of labels.now) entry.now regions.old pending.now kept.old counts Ok tt }
     ensures { StepIs job (table_of labels.now) entry.now regions.old pending.now kept.old counts
         result.answer result.counts regions.new kept.new }
 {
     match binary_builder::find_entry(labels, index, entry) {
-        Built::Refused(refusal) => Stepped {
+        Err(refusal) => Stepped {
             answer: StepAnswer::Refused(refusal),
             counts,
         },
-        Built::Entry(address) => {
+        Ok(address) => {
             let mut order = [0u16; binary_builder::MOST_PENDINGS];
             let filled = counts.pending as usize;
             let n = binary_builder::order_patches(&pending[..filled], &mut order, &mut *found);
@@ -229,29 +226,29 @@ fn check_layouts(
     regions: &[u8],
     pending: &[u8],
     kept: &[u8],
-) -> Verdict
+) -> Result<(), Refusal>
     ensures { LayoutsAre (table_of labels.now) entry.now regions.now pending.now kept.now counts result }
 {
-    if let Layout::Bad(place) = labels::first_bad_label(labels) {
-        return Verdict::Stop(Refusal::BadLayout(0, place as u32));
+    if let Some(place) = labels::first_bad_label(labels) {
+        return Err(Refusal::BadLayout(0, place as u32));
     }
-    if let Layout::Bad(place) = address_label::first_bad_entry(entry) {
-        return Verdict::Stop(Refusal::BadLayout(1, place as u32));
+    if let Some(place) = address_label::first_bad_entry(entry) {
+        return Err(Refusal::BadLayout(1, place as u32));
     }
     let fill = counts.regions as usize;
-    if let Layout::Bad(place) = patching_checks::check_regions(regions, fill) {
-        return Verdict::Stop(Refusal::BadLayout(2, place as u32));
+    if let Some(place) = patching_checks::check_regions(regions, fill) {
+        return Err(Refusal::BadLayout(2, place as u32));
     }
     let filled = counts.pending as usize;
     let count = regions::region_count(&regions[..fill]);
     let patches = counts.patches as usize;
-    if let Layout::Bad(place) = patching_checks::check_pendings(pending, filled, count, patches) {
-        return Verdict::Stop(Refusal::BadLayout(3, place as u32));
+    if let Some(place) = patching_checks::check_pendings(pending, filled, count, patches) {
+        return Err(Refusal::BadLayout(3, place as u32));
     }
-    if let Layout::Bad(place) = patching_checks::check_kept(kept, &pending[..filled]) {
-        return Verdict::Stop(Refusal::BadLayout(4, place as u32));
+    if let Some(place) = patching_checks::check_kept(kept, &pending[..filled]) {
+        return Err(Refusal::BadLayout(4, place as u32));
     }
-    Verdict::Pass
+    Ok(())
 }
 
 // A step: it patches the next pending in patch order, ends where none is left, or refuses; a refusal 14 to 16 puts every patch back.
@@ -267,7 +264,7 @@ pub fn patch_step(
     ensures { StepIs job (table_of labels.now) entry.now regions.old pending.now kept.old counts
         result.answer result.counts regions.new kept.new }
 {
-    if let Verdict::Stop(refusal) = check_layouts(
+    if let Err(refusal) = check_layouts(
         labels, entry, counts, &*regions, pending, &*kept,
     ) {
         return Stepped {
@@ -278,7 +275,7 @@ pub fn patch_step(
     let mut index = [0u16; labels::MOST];
     let mut spare = [0u16; labels::MOST];
     let n = labels::make_index(labels, &mut index, &mut spare);
-    if let Repeat::Later(place) = labels::first_repeat(labels, &index[..n]) {
+    if let Some(place) = labels::first_repeat(labels, &index[..n]) {
         return Stepped {
             answer: StepAnswer::Refused(Refusal::DuplicateName(0, place as u32)),
             counts,

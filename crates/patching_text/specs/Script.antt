@@ -1,5 +1,5 @@
 -- What `patch_steps` prints (document 02, P12), as docs/DECISIONS.md has it. Assumes nothing.
-use Rattle.std.specs.Prelude.{ℕ, zero, suc, List, ◌++◌, true, false, leb, eqb, drop, get_or, replicate}
+use Rattle.std.specs.Prelude.{ℕ, zero, suc, List, ◌++◌, true, false, leb, eqb, drop, get_or, replicate, None, Option, Some}
 use Rattle.io.specs.Digits.{last_digits}
 use Rattle.jobs.specs.declared.Job.{Job}
 use Rattle.record.specs.Bytes.{byte_at}
@@ -18,8 +18,6 @@ use Rattle.patching_outcome.specs.Line.{LineGiven, line_outcome}
 use Rattle.patching_line.specs.Contract.{given_of}
 use Rattle.input.specs.Input.{word_or_zero, half_or_zero, behind_lists, list_of, held}
 use Rattle.text.specs.Text.{last_field, refused_line}
-use Rattle.line_text.specs.declared.JobAsked.{JobAsked}
-use Rattle.line_text.specs.declared.JobAsked.TheVariants.{Of, NoSuch}
 use Rattle.bytes_line.specs.BytesLine.{bytes_line}
 use Rattle.line_text.specs.Line.{position_line, fills_line, job_numbered}
 
@@ -127,9 +125,9 @@ unfolding script_text
 job_text job s = lent_text job s (held (list_of 3 s)) (held (list_of 4 s)) (held (list_of 5 s))
 
 -- a byte that is no job's goes before everything else
-abbrev pub asked_text : List ℕ → JobAsked → List ℕ
-asked_text s (Of job) = job_text job s
-asked_text s NoSuch = bytes_of "no such job\n"
+abbrev pub asked_text : List ℕ → Option Job → List ℕ
+asked_text s (Some job) = job_text job s
+asked_text s None = bytes_of "no such job\n"
 
 unfoldable pub steps_text : List ℕ → List ℕ
 steps_text s = asked_text s (job_numbered (byte_at (behind_lists 6 s) 12))

@@ -8,7 +8,6 @@ ghost use Rattle.patching_text.specs.Script.{turn_byte, line_in, turn_of, behind
 ghost use Rattle.patching_text.specs.Turns.{Turns, StepTurns, LineTurns, goes_on};
 
 use jobs::Job;
-use line_text::JobAsked;
 use patching_outcome::PatchCounts;
 
 mod lines;
@@ -274,7 +273,7 @@ pub fn patch_steps(input: &[u8], out: &mut [u8; MOST]) -> usize
 {
     let numbers = input::behind_lists(input, 6);
     match line_text::job_numbered(input::byte_or_zero(numbers, 12)) {
-        JobAsked::Of(job) => put_job(job, input, out),
-        JobAsked::NoSuch => text::put_text(out, 0, b"no such job\n"),
+        Some(job) => put_job(job, input, out),
+        None => text::put_text(out, 0, b"no such job\n"),
     }
 }

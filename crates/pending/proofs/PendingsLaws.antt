@@ -1,11 +1,10 @@
 -- What a pending's test says, in facts, and what a list of pendings that keeps its layout holds. Assumes nothing.
-use Rattle.std.specs.Prelude.{ℕ, ◌+◌, ◌≤◌, ◌<◌, List, true, ◌&&◌, ◌≡◌, length}
+use Rattle.std.specs.Prelude.{ℕ, ◌+◌, ◌≤◌, ◌<◌, List, true, ◌&&◌, ◌≡◌, length, None, Some}
 use Rattle.std.proofs.Math.Bool.{and-eq-true_iff}
 use Rattle.std.proofs.Common.{ap, ◌∙◌, leb-true, ltb-true, eqb-true}
 use Rattle.std.proofs.Math.Dec.{leb, ltb, eqb}
 use Rattle.record.specs.Records.{body_len, kind_at, next, whole, places, first_bad, limit}
 use Rattle.record.proofs.RecordsLaws.{layout_from, whole_is, places_all, limit_kept, limit_passed, limit_good}
-use Rattle.record.specs.declared.Layout.TheVariants.{Good, Bad}
 use Rattle.address_label.specs.AddressLabels.{address_label_ok}
 use Rattle.pending.specs.Pendings.{region_of, patch_kind_of, pending_body, pending_ok, pending_layout, PendingIs}
 
@@ -49,10 +48,10 @@ pub pending_kept : (regions : ℕ) (s : List ℕ) → length s ≤ limit → pen
 unfolding pending_layout
 pending_kept regions s h = limit_kept s (first_bad (pending_ok regions s) (places s)) h ∙ ap (first_bad (pending_ok regions s)) (places_all s)
 
-pub pending_passed : (regions : ℕ) (s : List ℕ) → limit < length s → pending_layout regions s ≡ Bad limit
+pub pending_passed : (regions : ℕ) (s : List ℕ) → limit < length s → pending_layout regions s ≡ Some limit
 unfolding pending_layout
 pending_passed regions s h = limit_passed s (first_bad (pending_ok regions s) (places s)) h
 
-pub pending_good : (regions : ℕ) (s : List ℕ) → pending_layout regions s ≡ Good → (length s ≤ limit) × (first_bad (pending_ok regions s) (places s) ≡ Good)
+pub pending_good : (regions : ℕ) (s : List ℕ) → pending_layout regions s ≡ None → (length s ≤ limit) × (first_bad (pending_ok regions s) (places s) ≡ None)
 unfolding pending_layout
 pending_good regions s g = limit_good s (first_bad (pending_ok regions s) (places s)) g

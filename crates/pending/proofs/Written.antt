@@ -1,6 +1,6 @@
 -- A pending that is written behind a list of pendings: the list keeps its layout, the pending reads back as what was written, and the
 -- others read as before (document 01, 'Pending 36'). Assumes nothing.
-use Rattle.std.specs.Prelude.{ℕ, ◌+◌, ◌≤◌, ◌<◌, ◌≡◌, refl, length, take, replicate}
+use Rattle.std.specs.Prelude.{ℕ, ◌+◌, ◌≤◌, ◌<◌, ◌≡◌, refl, length, take, replicate, None}
 use Rattle.std.proofs.Common.{arith, sym, subst, length-take-le}
 use mathlib.Core.List.{List, [], ◌∷◌, ◌++◌, Memᴰ}
 use Rattle.record.specs.Bytes.{all}
@@ -8,7 +8,6 @@ use Rattle.record.specs.Records.{places, places_from, places_f, first_bad}
 use Rattle.record.specs.Stores.{filled_with, LocationFits}
 use Rattle.record.proofs.StoresLaws.{filled_append}
 use Rattle.record.proofs.OneMoreLaws.{good_each, one_more}
-use Rattle.record.specs.declared.Layout.TheVariants.{Good}
 use Rattle.record.specs.declared.Location.{Location}
 use Rattle.address_label.specs.LabelBytes.{name_bytes}
 use Rattle.address_label.proofs.Written.{label_as_read}
@@ -24,7 +23,7 @@ use Rattle.pending.specs.declared.Pending.{Pending}
 
 -- a buffer whose first `fill` bytes are pendings of one of `regions` regions, what is to be written behind them, and room for it
 pub record Writable (regions : ℕ) (buffer : List ℕ) (fill : ℕ) (names : List ℕ) (origin : Origin) (waits : InstructionLabel) : Type 0 where
-  pub kept : first_bad (pending_ok regions (take fill buffer)) (places (take fill buffer)) ≡ Good
+  pub kept : first_bad (pending_ok regions (take fill buffer)) (places (take fill buffer)) ≡ None
   pub room : fill + length (pending_bytes names origin waits) ≤ length buffer
   pub region_ok : origin.region < regions
   pub fits : PendingFits names origin waits
@@ -41,7 +40,7 @@ pending_as_read names fill origin waits = record {
 
 -- the list then, as it was and as it is
 pub record Written (regions : ℕ) (old new : List ℕ) (fill : ℕ) (names : List ℕ) (origin : Origin) (waits : InstructionLabel) : Type 0 where
-  pub keeps : first_bad (pending_ok regions new) (places new) ≡ Good
+  pub keeps : first_bad (pending_ok regions new) (places new) ≡ None
   pub places_are : places new ≡ places old ++ fill ∷ []
   pub reads : pending_at new fill ≡ pending_as_read names fill origin waits
   pub name : name_bytes new (pending_at new fill).label ≡ name_bytes names waits.label
@@ -49,7 +48,7 @@ pub record Written (regions : ℕ) (old new : List ℕ) (fill : ℕ) (names : Li
       → (pending_at new at ≡ pending_at old at) × (name_bytes new (pending_at new at).label ≡ name_bytes old (pending_at old at).label)
 
 -- behind a list
-pub written_behind : (regions : ℕ) (old names : List ℕ) (origin : Origin) (waits : InstructionLabel) → first_bad (pending_ok regions old) (places old) ≡ Good
+pub written_behind : (regions : ℕ) (old names : List ℕ) (origin : Origin) (waits : InstructionLabel) → first_bad (pending_ok regions old) (places old) ≡ None
     → origin.region < regions → PendingFits names origin waits → Written regions old (old ++ pending_bytes names origin waits) (length old) names origin waits
 written_behind regions old names origin waits kept region_ok fits =
     let bytes = pending_bytes names origin waits in

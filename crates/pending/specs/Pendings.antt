@@ -1,8 +1,7 @@
 -- Pending records, kind 36 (document 01, 'Pending 36, breakpoint 37'). Assumes nothing.
-use Rattle.std.specs.Prelude.{ℕ, ◌+◌, List, Bool, true, false, ◌&&◌, leb, ltb, eqb, ◌≤◌, ◌≡◌, length}
+use Rattle.std.specs.Prelude.{ℕ, ◌+◌, List, Bool, true, false, ◌&&◌, leb, ltb, eqb, ◌≤◌, ◌≡◌, length, Option}
 use Rattle.record.specs.Bytes.{byte_at, le16, le32, location_at}
 use Rattle.record.specs.Records.{body_len, kind_at, next, whole, places, first_bad, within_limit}
-use Rattle.record.specs.declared.Layout.{Layout}
 use Rattle.address_label.specs.AddressLabels.{address_label_ok, address_label_at}
 use Rattle.address_label.specs.declared.AddressLabel.{AddressLabel}
 use Rattle.pending.specs.declared.InstructionLabelKind.{InstructionLabelKind}
@@ -28,7 +27,7 @@ unfoldable pub pending_ok : ℕ → List ℕ → ℕ → Bool
 unfolding address_label_ok
 pending_ok regions s at = whole s at && pending_body regions s at
 
-unfoldable pub pending_layout : ℕ → List ℕ → Layout
+unfoldable pub pending_layout : ℕ → List ℕ → Option ℕ
 unfolding pending_ok first_bad places within_limit
 pending_layout regions s = within_limit s (first_bad (pending_ok regions s) (places s))
 

@@ -9,7 +9,7 @@ ghost use Rattle.pending.specs.Pendings.{region_of, pending_ok, pending_layout, 
 ghost use Rattle.pending.specs.Pendings.{PendingIs};
 
 use address_label::AddressLabel;
-use record::{Layout, Location};
+use record::Location;
 
 // The record kind, and the patch kinds.
 const PENDING: u16 = 36;
@@ -90,20 +90,20 @@ fn pending_ok(list: &[u8], at: usize, regions: usize) -> bool
 }
 
 // The place of the first record that breaks the layout, or the limit.
-pub fn first_bad_pending(list: &[u8], regions: usize) -> Layout
+pub fn first_bad_pending(list: &[u8], regions: usize) -> Option<usize>
     ensures { result ≡ pending_layout regions list.now }
 {
     if list.len() > record::LIMIT {
-        return Layout::Bad(record::LIMIT);
+        return Some(record::LIMIT);
     }
     let mut at: usize = 0;
     while at < list.len() {
         if !pending_ok(list, at, regions) {
-            return Layout::Bad(at);
+            return Some(at);
         }
         at = record::next(list, at);
     }
-    Layout::Good
+    None
 }
 
 #[tactic(auto, unfolding(crate::specs::Pendings::kind_from))]

@@ -1,7 +1,6 @@
 -- The claim of P11 for abs in jobs by the manual. Assumes nothing.
-use Rattle.std.specs.Prelude.{ℕ, ◌+◌, ◌*◌, ◌%◌, ◌^◌, ◌<◌, ◌≡◌, refl, true, List, [], ◌∷◌, nat_abs, length}
+use Rattle.std.specs.Prelude.{ℕ, ◌+◌, ◌*◌, ◌%◌, ◌^◌, ◌<◌, ◌≡◌, refl, true, List, [], ◌∷◌, nat_abs, length, None}
 use Rattle.std.proofs.Common.{arith, ap, ◌∙◌, subst}
-use Rattle.std.proofs.Math.Option.{none}
 use Rattle.jobs.specs.declared.Job.{Job}
 use Rattle.jobs.specs.declared.Job.TheVariants.{Commit, Manual, Release6}
 use Rattle.jobs.specs.Jobs.{by_manual}
@@ -49,7 +48,7 @@ unfolding patches_from
 abs_means site x m by em pl nz na ns rd h32 =
     let d = register_number x.0 in
     let s = register_number x.1 in
-    let t = plain_line site pl Abs x none em (pseudo_words site.job Abs x) refl in
+    let t = plain_line site pl Abs x None em (pseudo_words site.job Abs x) refl in
     let fs : InFormats t.rest (abs_formats d s) =
     subst (λ (f : Format). InFormats t.rest (f ∷ register 0 s 1 d 0 38 ∷ register 0 d 1 d 0 35 ∷ [])) (manual_format site.job s by) t.rest_has in
     let same : read_register (given m rd.all_32) s ≡ held_by m x.1 = given_reads m rd.all_32 s in

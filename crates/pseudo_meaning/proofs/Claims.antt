@@ -1,8 +1,7 @@
 -- P11 whole (document 02): by name, the forms that mean what they say, and those that fail. Assumes nothing.
-use Rattle.std.specs.Prelude.{◌≡◌, refl, true, false}
+use Rattle.std.specs.Prelude.{◌≡◌, refl, true, false, Some}
 use Rattle.jobs.specs.declared.Job.{Job}
 use Rattle.record.specs.Bytes.{same_bytes}
-use Rattle.pseudo_names.specs.declared.MaybePseudo.TheVariants.{Some}
 use Rattle.pseudo_names.specs.declared.Pseudo.TheVariants.{Abs, BranchCustom, SetCustom, Seq, Sne}
 use Rattle.pseudo_names.specs.PseudoNames.{bytes_of, pseudo_in, pseudo_of}
 use Rattle.pseudo_meaning.specs.Lines.{LineInBuild}

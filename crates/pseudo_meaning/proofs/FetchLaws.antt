@@ -1,9 +1,8 @@
 -- The word of a region that overlaps no other is the one that a dry run reads. Assumes nothing.
-use Rattle.std.specs.Prelude.{ℕ, zero, suc, ◌+◌, ◌*◌, ◌%◌, ◌^◌, ◌<◌, ◌≤◌, ◌≡◌, refl, Bool, true, false, List, [], ◌∷◌, leb, length, get_or}
+use Rattle.std.specs.Prelude.{ℕ, zero, suc, ◌+◌, ◌*◌, ◌%◌, ◌^◌, ◌<◌, ◌≤◌, ◌≡◌, refl, Bool, true, false, List, [], ◌∷◌, leb, length, get_or, Some}
 use Rattle.std.proofs.Common.{arith, sym, ap, ◌∙◌, subst, le-leb, leb-true}
 use Rattle.record.specs.Bytes.{le32}
 use Rattle.reading.specs.Reading.{ImageRegion, Image, region_in, word_in}
-use Rattle.dry_run_outcome.specs.declared.Fetched.TheVariants.{Word}
 use Rattle.machine.specs.Effects.{next_pc}
 use Rattle.dry_run_outcome.specs.Fetch.{offset_in, fetch}
 use Rattle.dry_run_outcome.proofs.StandingLaws.{Standing, none, next}
@@ -17,18 +16,18 @@ fetch_on r image pc n = go (leb (offset_in r.address pc + 4) (length r.bytes)) r
     go true e = let h = leb-true (offset_in r.address pc + 4) (length r.bytes) e in absurd (n (omega arith))
     go false e = rw (e, fetch)
 
-fetch_here : (r : ImageRegion) (image : Image) (pc : ℕ) → offset_in r.address pc + 4 ≤ length r.bytes → fetch (r ∷ image) pc ≡ Word (le32 r.bytes (offset_in r.address pc))
+fetch_here : (r : ImageRegion) (image : Image) (pc : ℕ) → offset_in r.address pc + 4 ≤ length r.bytes → fetch (r ∷ image) pc ≡ Some (le32 r.bytes (offset_in r.address pc))
 unfolding fetch
 fetch_here r image pc k = rw (le-leb (offset_in r.address pc + 4) (length r.bytes) k, fetch)
 
 pub fetch_alone : (image : Image) (n o : ℕ) → n < length image → (region_in image n).address < 2 ^ 32 → o + 4 ≤ length (region_in image n).bytes
-    → length (region_in image n).bytes ≤ 2 ^ 32 → Alone image n → fetch image (((region_in image n).address + o) % 2 ^ 32) ≡ Word (word_in image n o)
+    → length (region_in image n).bytes ≤ 2 ^ 32 → Alone image n → fetch image (((region_in image n).address + o) % 2 ^ 32) ≡ Some (word_in image n o)
 unfolding fetch
 fetch_alone [] n o h a i l x = absurd (omega arith)
 fetch_alone (r ∷ image) zero o h a i l x =
     let pc = (r.address + o) % 2 ^ 32 in
     let e : offset_in r.address pc ≡ o = omega arith in
-    fetch_here r image pc (omega arith) ∙ ap (λ (y : ℕ). Word (le32 r.bytes y)) e
+    fetch_here r image pc (omega arith) ∙ ap (λ (y : ℕ). Some (le32 r.bytes y)) e
 fetch_alone (r ∷ image) (suc n) o h a i l x =
     let pc = ((region_in image n).address + o) % 2 ^ 32 in
     let e : offset_in (region_in image n).address pc ≡ o = omega arith in
@@ -45,6 +44,6 @@ module _ (image : Image) (n : ℕ) (listed : n < length image) (address : (regio
       let z : o + 4 * 0 ≡ o = omega arith in
       let here : word_in image n o ≡ w = sym (ap (word_in image n) z) ∙ f 0 (omega arith) in
       let on : ((region_in image n).address + (o + 4)) % 2 ^ 32 ≡ next_pc (((region_in image n).address + o) % 2 ^ 32) = omega arith in
-      next (fetch_alone image n o listed address (omega arith) size alone ∙ ap Word here)
+      next (fetch_alone image n o listed address (omega arith) size alone ∙ ap Some here)
       (subst (λ (pc : ℕ). Standing image pc ws) on
       (standing_words ws (o + 4) (omega arith) (λ j k. let e : o + 4 + 4 * j ≡ o + 4 * suc j = omega arith in ap (word_in image n) e ∙ f (suc j) (omega arith))))

@@ -1,10 +1,9 @@
 -- What computes on three lines alone: they are accepted, built, and stand where they should. Assumes nothing.
-use Rattle.std.specs.Prelude.{ℕ, ◌+◌, ◌*◌, ◌%◌, true, false, ◌≡◌, refl, ltb, length}
+use Rattle.std.specs.Prelude.{ℕ, ◌+◌, ◌*◌, ◌%◌, true, false, ◌≡◌, refl, ltb, length, Ok}
 use Rattle.std.proofs.Common.{arith, sym, subst}
 use mathlib.Core.List.{List, [], ◌∷◌, ◌++◌, map, Memᴰ}
 use Rattle.jobs.specs.declared.Job.TheVariants.{Commit, Manual}
 use Rattle.registers.specs.declared.RegisterSlot.TheVariants.{Temporary0, Temporary1, Temporary2}
-use Rattle.refusal.specs.declared.Verdict.TheVariants.{Pass}
 use Rattle.regions.specs.Regions.{region_count}
 use Rattle.record.specs.Bytes.{part}
 use Rattle.address_label.specs.declared.AddressLabel.TheVariants.{Constant}
@@ -85,7 +84,7 @@ pub record Evaluated (site : LineInBuild) (p : Pseudo) (x : AskedAll (pseudo_wan
   pub accepted : (emit_outcome site.job site.call).answer ≡ Done position loaded
   pub means : meaning site.call.descriptors (mnemonic_name site.call.mnemonic) ≡ Builtin p
   pub operands_are : (read_operands (pseudo_wants p) (tokens site.call.token_list) (start_of site.call)).answer ≡ Got x
-  pub built : build_verdict site.build site.labels site.entry site.regions site.pending ≡ Pass
+  pub built : build_verdict site.build site.labels site.entry site.regions site.pending ≡ Ok tt
   pub bytes_fit : all (λ (b : ℕ). ltb b 256) site.regions ≡ true
   pub selected : site.call.numbers.place.region ≡ 0
   pub first_line : site.call.numbers.counts.data_len ≡ 0

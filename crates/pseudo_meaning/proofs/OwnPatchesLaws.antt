@@ -1,5 +1,5 @@
 -- What the pairs of a line come to: its words, its patches, and the pending record of its branch. Assumes nothing.
-use Rattle.std.specs.Prelude.{ℕ, suc, ◌+◌, ◌≡◌, refl, Bool, true, false, List, [], ◌∷◌, ◌++◌, map, length}
+use Rattle.std.specs.Prelude.{ℕ, suc, ◌+◌, ◌≡◌, refl, Bool, true, false, List, [], ◌∷◌, ◌++◌, map, length, Ok}
 use Rattle.std.proofs.Common.{add-zero, zero-add, arith, sym, ap, ◌∙◌, append_assoc}
 use Rattle.jobs.specs.declared.Job.{Job}
 use Rattle.address_label.specs.declared.AddressLabel.{AddressLabel}
@@ -13,7 +13,6 @@ use Rattle.operand.specs.declared.InstructionValue.{InstructionValue}
 use Rattle.operand.specs.declared.InstructionValue.TheVariants.{Slot, Literal}
 use Rattle.operand_list.specs.OperandLists.{AskedAll, read_operands}
 use Rattle.emit_pairs.specs.declared.InstructionPair.{InstructionPair}
-use Rattle.emit_pairs.specs.declared.Range.TheVariants.{Within}
 use Rattle.emit_pairs.specs.Pairs.{plain, waiting, load_pairs}
 use Rattle.emit_pairs.specs.Values.{value_pairs}
 use Rattle.emit_pseudo.specs.PseudoWords.{turned}
@@ -35,7 +34,7 @@ unfolding call_pairs pseudo_line
 pairs_are job c p x e =
     let i = (read_operands (pseudo_wants p) (tokens c.token_list) (start_of c)).index in
     ap (meaning_pairs job c) e.means
-    ∙ ap (λ (a : Answer (AskedAll (pseudo_wants p))). (line_by a i (λ y. Within) (pseudo_pairs job p) (pseudo_form p)).pairs) e.operands_are
+    ∙ ap (λ (a : Answer (AskedAll (pseudo_wants p))). (line_by a i (λ y. (Ok tt)) (pseudo_pairs job p) (pseudo_form p)).pairs) e.operands_are
 
 -- words in formats have 32 bits
 pub formats_32 : {ws : List ℕ} {fs : List Format} → InFormats ws fs → Words32 ws

@@ -1,7 +1,6 @@
 -- A line whose words wait for no label: they stand in the finished image as they were emitted. Assumes nothing.
-use Rattle.std.specs.Prelude.{ℕ, ◌<◌, ◌≡◌, refl, List, [], ◌∷◌, ◌++◌, length}
+use Rattle.std.specs.Prelude.{ℕ, ◌<◌, ◌≡◌, refl, List, [], ◌∷◌, ◌++◌, length, Option}
 use Rattle.std.proofs.Common.{arith, sym, ap, ◌∙◌, length-append}
-use Rattle.std.proofs.Math.Option.{Option}
 use Rattle.registers.specs.Numbers.{register_number}
 use Rattle.registers.specs.declared.RegisterSlot.{RegisterSlot}
 use Rattle.pseudo_names.specs.declared.Pseudo.{Pseudo}

@@ -1,5 +1,5 @@
 -- The forms that fail P11 stop at their comparison in every run. Assumes nothing.
-use Rattle.std.specs.Prelude.{ℕ, zero, suc, ◌+◌, ◌-◌, ◌*◌, ◌%◌, ◌^◌, ◌<◌, ◌≡◌, refl, Bool, true, false, List, [], ◌∷◌, ◌++◌, length, get_or}
+use Rattle.std.specs.Prelude.{ℕ, zero, suc, ◌+◌, ◌-◌, ◌*◌, ◌%◌, ◌^◌, ◌<◌, ◌≡◌, refl, Bool, true, false, List, [], ◌∷◌, ◌++◌, length, get_or, Some}
 use Rattle.std.proofs.Common.{add-zero, arith, ap, ◌∙◌, length-append}
 use Rattle.registers.specs.Numbers.{register_number}
 use Rattle.registers.specs.declared.RegisterSlot.{RegisterSlot}
@@ -18,7 +18,6 @@ use Rattle.machine.specs.Step.{at, stops, step_word}
 use Rattle.machine.proofs.WordStepsLaws.{setting, held, subu_step, no_sltu}
 use Rattle.machine.specs.declared.Machine.{Machine}
 use Rattle.machine.specs.declared.Reason.TheVariants.{Word}
-use Rattle.dry_run_outcome.specs.declared.Fetched.TheVariants.{Word as Fetched}
 use Rattle.dry_run_outcome.specs.Fetch.{fetch}
 use Rattle.dry_run_outcome.specs.Run.{later, run, ran_for}
 use Rattle.dry_run_outcome.proofs.StandingLaws.{Standing, next, pc_behind, behind_is, standing_right, word_goes, word_stops}
@@ -46,7 +45,7 @@ compare_stops : (greater : Bool) (w d a b : ℕ) (m : Machine) → Reads w (comp
 compare_stops true w d a b m r = no_sltu w m r.opcode_is r.function_is
 compare_stops false w d a b m r = no_sltu w m r.opcode_is r.function_is
 
-head_fetched : {image : Image} {pc w : ℕ} {ws : List ℕ} → Standing image pc (w ∷ ws) → fetch image pc ≡ Fetched w
+head_fetched : {image : Image} {pc w : ℕ} {ws : List ℕ} → Standing image pc (w ∷ ws) → fetch image pc ≡ Some w
 head_fetched (next f s) = f
 
 tail_standing : {image : Image} {pc w : ℕ} {ws : List ℕ} → Standing image pc (w ∷ ws) → Standing image (next_pc pc) ws

@@ -1,12 +1,10 @@
 -- What P11 asks beforehand (document 02). That "the region ends below 2^32" is not asked: the claims hold without it, as pcs wrap.
 -- Assumes nothing.
-use Rattle.std.specs.Prelude.{ℕ, ◌+◌, ◌/◌, ◌%◌, ◌≤◌, ◌≡◌, List, length}
+use Rattle.std.specs.Prelude.{ℕ, ◌+◌, ◌/◌, ◌%◌, ◌≤◌, ◌≡◌, List, length, Ok, Some}
 use Rattle.jobs.specs.declared.Job.TheVariants.{Commit}
 use Rattle.registers.specs.Numbers.{register_number}
 use Rattle.registers.specs.declared.RegisterSlot.{RegisterSlot}
 use Rattle.emit_pairs.specs.Pairs.{at_number}
-use Rattle.refusal.specs.declared.Verdict.TheVariants.{Pass}
-use Rattle.labels.specs.declared.Address.TheVariants.{Known}
 use Rattle.address_label.specs.declared.AddressLabel.{AddressLabel}
 use Rattle.address_label.specs.LabelBytes.{name_bytes}
 use Rattle.operand.specs.declared.InstructionValue.{InstructionValue}
@@ -26,7 +24,7 @@ module _ (site : LineInBuild) where
 
   -- the line in an accepted build
   pub record Placed : Type 0 where
-    pub built : build_verdict site.build site.labels site.entry site.regions site.pending ≡ Pass
+    pub built : build_verdict site.build site.labels site.entry site.regions site.pending ≡ Ok tt
     -- the elements of the region list are bytes, as those of a lent slice are
     pub of_bytes : Bytes site.regions
     -- its words and patches are there, and "no other patch touches the line"
@@ -39,7 +37,7 @@ module _ (site : LineInBuild) where
   -- "The destination is a multiple of four and within 16 signed bits". A build by the manual refuses longer distances, so there the second
   -- half needs no premise.
   pub record Reached (label : AddressLabel) (dest : ℕ) : Type 0 where
-    pub known : target_address site.labels (target_of label (name_bytes site.call.token_list label)) ≡ Known dest
+    pub known : target_address site.labels (target_of label (name_bytes site.call.token_list label)) ≡ Some dest
     pub multiple : dest % 4 ≡ 0
     pub back : site.build ≡ Commit → after_pc site / 4 ≤ dest / 4 + 32768
     pub ahead : site.build ≡ Commit → dest / 4 ≤ after_pc site / 4 + 32767

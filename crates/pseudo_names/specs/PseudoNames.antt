@@ -1,12 +1,10 @@
 -- The names of the pseudo-instructions (emit.rs). Assumes nothing.
-use Rattle.std.specs.Prelude.{ℕ, List, [], ◌∷◌, true, false}
+use Rattle.std.specs.Prelude.{ℕ, List, [], ◌∷◌, true, false, None, Option, Some}
 use Prim.Native.Char.{code}
 use Prim.Native.String.{String, [] as empty, ◌∷◌ as ◌then◌}
 use Rattle.record.specs.Bytes.{same_bytes}
 use Rattle.pseudo_names.specs.declared.Pseudo.{Pseudo}
 use Rattle.pseudo_names.specs.declared.Pseudo.TheVariants.{Nop, Abs, BranchCustom, SetCustom, Beqz, Bnez, Seq, Sne, Neg, Negu, Not, Li, La, Move, B, Subi, Subiu}
-use Rattle.pseudo_names.specs.declared.MaybePseudo.{MaybePseudo}
-use Rattle.pseudo_names.specs.declared.MaybePseudo.TheVariants.{Some as SomePseudo, Nothing as NoPseudo}
 
 pub record PseudoName : Type 0 where
   pub name : List ℕ
@@ -55,10 +53,10 @@ pseudo_names =
     ∷ []
 
 -- the first of that name
-unfoldable pub pseudo_in : List ℕ → List PseudoName → MaybePseudo
+unfoldable pub pseudo_in : List ℕ → List PseudoName → Option Pseudo
 unfolding same_bytes
-pseudo_in name [] = NoPseudo
-pseudo_in name (p ∷ ps) = elim (same_bytes name p.name) [ true ↦ SomePseudo p.pseudo | false ↦ pseudo_in name ps ]
+pseudo_in name [] = None
+pseudo_in name (p ∷ ps) = elim (same_bytes name p.name) [ true ↦ Some p.pseudo | false ↦ pseudo_in name ps ]
 
-abbrev pub pseudo_of : List ℕ → MaybePseudo
+abbrev pub pseudo_of : List ℕ → Option Pseudo
 pseudo_of name = pseudo_in name pseudo_names

@@ -34,172 +34,165 @@ pub enum Pseudo {
     Subiu,
 }
 
-// The pseudo-instruction of a name, if it has one.
-#[derive(Clone, Copy)]
-pub enum MaybePseudo {
-    Some(Pseudo),
-    Nothing,
-}
-
 // The pseudo-instruction of a name among the names behind the first twenty.
 #[tactic(auto, unfolding(crate::specs::PseudoNames::pseudo_in))]
-fn last_pseudo_of(name: &[u8]) -> MaybePseudo
+fn last_pseudo_of(name: &[u8]) -> Option<Pseudo>
     ensures { result ≡ pseudo_in name.now (drop 20 pseudo_names) }
 {
     if record::same(name, b"neg") {
-        return MaybePseudo::Some(Pseudo::Neg);
+        return Some(Pseudo::Neg);
     }
     if record::same(name, b"negu") {
-        return MaybePseudo::Some(Pseudo::Negu);
+        return Some(Pseudo::Negu);
     }
     if record::same(name, b"not") {
-        return MaybePseudo::Some(Pseudo::Not);
+        return Some(Pseudo::Not);
     }
     if record::same(name, b"li") {
-        return MaybePseudo::Some(Pseudo::Li);
+        return Some(Pseudo::Li);
     }
     if record::same(name, b"la") {
-        return MaybePseudo::Some(Pseudo::La);
+        return Some(Pseudo::La);
     }
     if record::same(name, b"move") {
-        return MaybePseudo::Some(Pseudo::Move);
+        return Some(Pseudo::Move);
     }
     if record::same(name, b"b") {
-        return MaybePseudo::Some(Pseudo::B);
+        return Some(Pseudo::B);
     }
     if record::same(name, b"subi") {
-        return MaybePseudo::Some(Pseudo::Subi);
+        return Some(Pseudo::Subi);
     }
     if record::same(name, b"subiu") {
-        return MaybePseudo::Some(Pseudo::Subiu);
+        return Some(Pseudo::Subiu);
     }
-    MaybePseudo::Nothing
+    None
 }
 
 // The pseudo-instruction of a name among the names behind the first ten.
 #[tactic(auto, unfolding(crate::specs::PseudoNames::pseudo_in))]
-fn later_pseudo_of(name: &[u8]) -> MaybePseudo
+fn later_pseudo_of(name: &[u8]) -> Option<Pseudo>
     ensures { result ≡ pseudo_in name.now (drop 10 pseudo_names) }
 {
     if record::same(name, b"sge") {
-        return MaybePseudo::Some(Pseudo::SetCustom {
+        return Some(Pseudo::SetCustom {
             greater_than: false,
             result_true: false,
             unsigned: false,
         });
     }
     if record::same(name, b"sgt") {
-        return MaybePseudo::Some(Pseudo::SetCustom {
+        return Some(Pseudo::SetCustom {
             greater_than: true,
             result_true: true,
             unsigned: false,
         });
     }
     if record::same(name, b"sle") {
-        return MaybePseudo::Some(Pseudo::SetCustom {
+        return Some(Pseudo::SetCustom {
             greater_than: true,
             result_true: false,
             unsigned: false,
         });
     }
     if record::same(name, b"sgeu") {
-        return MaybePseudo::Some(Pseudo::SetCustom {
+        return Some(Pseudo::SetCustom {
             greater_than: false,
             result_true: false,
             unsigned: true,
         });
     }
     if record::same(name, b"sgtu") {
-        return MaybePseudo::Some(Pseudo::SetCustom {
+        return Some(Pseudo::SetCustom {
             greater_than: true,
             result_true: true,
             unsigned: true,
         });
     }
     if record::same(name, b"sleu") {
-        return MaybePseudo::Some(Pseudo::SetCustom {
+        return Some(Pseudo::SetCustom {
             greater_than: true,
             result_true: false,
             unsigned: true,
         });
     }
     if record::same(name, b"beqz") {
-        return MaybePseudo::Some(Pseudo::Beqz);
+        return Some(Pseudo::Beqz);
     }
     if record::same(name, b"bnez") {
-        return MaybePseudo::Some(Pseudo::Bnez);
+        return Some(Pseudo::Bnez);
     }
     if record::same(name, b"seq") {
-        return MaybePseudo::Some(Pseudo::Seq);
+        return Some(Pseudo::Seq);
     }
     if record::same(name, b"sne") {
-        return MaybePseudo::Some(Pseudo::Sne);
+        return Some(Pseudo::Sne);
     }
     last_pseudo_of(name)
 }
 
 // The pseudo-instruction of a name.
 #[tactic(auto, unfolding(crate::specs::PseudoNames::pseudo_in))]
-pub fn pseudo_of(name: &[u8]) -> MaybePseudo
+pub fn pseudo_of(name: &[u8]) -> Option<Pseudo>
     ensures { result ≡ pseudo_of name.now }
 {
     if record::same(name, b"nop") {
-        return MaybePseudo::Some(Pseudo::Nop);
+        return Some(Pseudo::Nop);
     }
     if record::same(name, b"abs") {
-        return MaybePseudo::Some(Pseudo::Abs);
+        return Some(Pseudo::Abs);
     }
     if record::same(name, b"blt") {
-        return MaybePseudo::Some(Pseudo::BranchCustom {
+        return Some(Pseudo::BranchCustom {
             greater_than: false,
             result_true: true,
             unsigned: false,
         });
     }
     if record::same(name, b"bgt") {
-        return MaybePseudo::Some(Pseudo::BranchCustom {
+        return Some(Pseudo::BranchCustom {
             greater_than: true,
             result_true: true,
             unsigned: false,
         });
     }
     if record::same(name, b"ble") {
-        return MaybePseudo::Some(Pseudo::BranchCustom {
+        return Some(Pseudo::BranchCustom {
             greater_than: true,
             result_true: false,
             unsigned: false,
         });
     }
     if record::same(name, b"bge") {
-        return MaybePseudo::Some(Pseudo::BranchCustom {
+        return Some(Pseudo::BranchCustom {
             greater_than: false,
             result_true: false,
             unsigned: false,
         });
     }
     if record::same(name, b"bltu") {
-        return MaybePseudo::Some(Pseudo::BranchCustom {
+        return Some(Pseudo::BranchCustom {
             greater_than: false,
             result_true: true,
             unsigned: true,
         });
     }
     if record::same(name, b"bgtu") {
-        return MaybePseudo::Some(Pseudo::BranchCustom {
+        return Some(Pseudo::BranchCustom {
             greater_than: true,
             result_true: true,
             unsigned: true,
         });
     }
     if record::same(name, b"bleu") {
-        return MaybePseudo::Some(Pseudo::BranchCustom {
+        return Some(Pseudo::BranchCustom {
             greater_than: true,
             result_true: false,
             unsigned: true,
         });
     }
     if record::same(name, b"bgeu") {
-        return MaybePseudo::Some(Pseudo::BranchCustom {
+        return Some(Pseudo::BranchCustom {
             greater_than: false,
             result_true: false,
             unsigned: true,

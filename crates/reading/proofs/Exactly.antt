@@ -1,10 +1,8 @@
 -- Which branches and jumps of an accepted build read back: those that are on target, and no others. Assumes nothing.
-use Rattle.std.specs.Prelude.{ℕ, ◌%◌, ◌≡◌, refl, List}
+use Rattle.std.specs.Prelude.{ℕ, ◌%◌, ◌≡◌, refl, List, Ok, Some}
 use Rattle.std.proofs.Common.{sym, ap, ◌∙◌}
 use Rattle.jobs.specs.declared.Job.{Job}
-use Rattle.refusal.specs.declared.Verdict.TheVariants.{Pass}
 use Rattle.labels.specs.Labels.{Table}
-use Rattle.labels.specs.declared.Address.TheVariants.{Known}
 use Rattle.pending.specs.declared.InstructionLabelKind.{InstructionLabelKind}
 use Rattle.pending.specs.declared.InstructionLabelKind.TheVariants.{Branch, Jump, Lower, Upper, Full}
 use Rattle.pending.specs.Pendings.{pending_at}
@@ -17,11 +15,11 @@ use Rattle.reading.specs.OnTarget.{Going, OnTarget, ReadsBack}
 use Rattle.reading.proofs.ReadBackLaws.{Readable, each_back}
 use Rattle.reading.proofs.ExactlyLaws.{reading_on}
 
-module _ (job : Job) (labels : Table) (entry regions pending : List ℕ) (pass : build_verdict job labels entry regions pending ≡ Pass) (apart : Apart pending) where
+module _ (job : Job) (labels : Table) (entry regions pending : List ℕ) (pass : build_verdict job labels entry regions pending ≡ Ok tt) (apart : Apart pending) where
   -- a patch that has what its kind asks reads back, whatever the others go to
   pub patch_reads : (p : ℕ) → In pending p → Readable job labels regions pending (pending_at pending p).kind p → ReadsBack job labels entry regions pending p
   patch_reads p m r =
-      ap (λ (s : List ℕ). Known (reading (image_of s) (pending_at pending p))) (outcome_accepted job labels entry regions pending pass).1
+      ap (λ (s : List ℕ). Some (reading (image_of s) (pending_at pending p))) (outcome_accepted job labels entry regions pending pass).1
       ∙ each_back job labels entry regions pending pass apart p m r
 
   readable : (kind : InstructionLabelKind) (p : ℕ) → Going kind → pc_at regions pending p % 4 ≡ 0 → OnTarget job labels regions pending p → Readable job labels regions pending kind p
@@ -40,4 +38,4 @@ module _ (job : Job) (labels : Table) (entry regions pending : List ℕ) (pass :
       only h =
           reading_on job labels entry regions pending pass apart (pending_at pending p).kind p m a refl g
           (ap (address_or 0)
-          (sym (ap (λ (s : List ℕ). Known (reading (image_of s) (pending_at pending p))) (outcome_accepted job labels entry regions pending pass).1) ∙ h))
+          (sym (ap (λ (s : List ℕ). Some (reading (image_of s) (pending_at pending p))) (outcome_accepted job labels entry regions pending pass).1) ∙ h))

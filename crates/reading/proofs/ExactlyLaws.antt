@@ -1,11 +1,10 @@
 -- A branch or a jump that reads back as its destination is on target. Assumes nothing.
-use Rattle.std.specs.Prelude.{ℕ, ◌+◌, ◌-◌, ◌*◌, ◌/◌, ◌%◌, ◌^◌, ◌<◌, ◌≤◌, refl, List, Bool, false, leb, ltb}
+use Rattle.std.specs.Prelude.{ℕ, ◌+◌, ◌-◌, ◌*◌, ◌/◌, ◌%◌, ◌^◌, ◌<◌, ◌≤◌, refl, List, Bool, false, leb, ltb, Ok}
 use Rattle.std.proofs.Common.{arith, sym, ap, ◌∙◌, leb-true, ltb-true, ltb-false}
 use Rattle.std.proofs.Math.Path.{◌≡◌, ap₂}
 use Rattle.std.proofs.Math.Bool.{true, and-eq-true_iff}
 use Rattle.jobs.specs.declared.Job.{Job}
 use Rattle.jobs.specs.Jobs.{by_manual, most_back, most_ahead}
-use Rattle.refusal.specs.declared.Verdict.TheVariants.{Pass}
 use Rattle.labels.specs.Labels.{Table}
 use Rattle.pending.specs.declared.InstructionLabelKind.{InstructionLabelKind}
 use Rattle.pending.specs.declared.InstructionLabelKind.TheVariants.{Branch, Jump, Lower, Upper, Full}
@@ -64,7 +63,7 @@ jump_only pc dest x e = omega arith
 
 -- ---- one patch
 
-module _ (job : Job) (labels : Table) (entry regions pending : List ℕ) (pass : build_verdict job labels entry regions pending ≡ Pass) (apart : Apart pending) where
+module _ (job : Job) (labels : Table) (entry regions pending : List ℕ) (pass : build_verdict job labels entry regions pending ≡ Ok tt) (apart : Apart pending) where
   branch_on : (p : ℕ) → In pending p → pc_at regions pending p % 4 ≡ 0 → (pending_at pending p).kind ≡ Branch
       → read_by Branch (image_of (patched_regions labels regions pending)) (pending_at pending p) ≡ destination_at labels pending p → OnTarget job labels regions pending p
   unfolding read_by field_width field_value

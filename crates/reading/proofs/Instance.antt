@@ -1,5 +1,5 @@
 -- The premises of the theorems can be met: four tables that meet them, and what the theorems say there. Assumes nothing.
-use Rattle.std.specs.Prelude.{ℕ, ◌+◌, ◌/◌, ◌%◌, ◌≤◌, List, [], ◌∷◌, true, ◌&&◌, ◌≡◌, refl, take, eqb}
+use Rattle.std.specs.Prelude.{ℕ, ◌+◌, ◌/◌, ◌%◌, ◌≤◌, List, [], ◌∷◌, true, ◌&&◌, ◌≡◌, refl, take, eqb, Ok, Option, Some}
 use Rattle.std.proofs.Common.{arith, sym, ap, ◌∙◌, leb-true, eqb-true}
 use mathlib.Core.List.Memᴰ
 use Rattle.std.proofs.Math.Bool.{and-eq-true_iff}
@@ -7,15 +7,11 @@ use Rattle.jobs.specs.declared.Job.{Job}
 use Rattle.jobs.specs.declared.Job.TheVariants.{Commit}
 use Rattle.record.specs.Records.{places}
 use Rattle.labels.specs.Labels.{resolve, table_of}
-use Rattle.labels.specs.declared.Address.{Address}
-use Rattle.labels.specs.declared.Address.TheVariants.{Known}
 use Rattle.pending.specs.declared.InstructionLabelKind.{InstructionLabelKind}
 use Rattle.pending.specs.declared.InstructionLabelKind.TheVariants.{Branch, Jump, Lower, Upper}
-use Rattle.refusal.specs.declared.Verdict.TheVariants.{Pass}
 use Rattle.pending.specs.Pendings.{kind_from, pending_at}
 use Rattle.patch.specs.Patches.{after}
 use Rattle.build_outcome.specs.Build.{patch_order, build_verdict, write_patches, BuildOutcome, build_outcome}
-use Rattle.build_outcome.specs.declared.Built.TheVariants.{Entry}
 use Rattle.reading.specs.Reading.{image_of, readings, destinations}
 use Rattle.finished_words.specs.Listed.{In, pc_at, destination_at}
 use Rattle.finished_words.specs.InstanceTables.{loop, main, labels₁, labels₂, labels₃, labels₄, entry, regions, pending, example_regions, example_pending, example_finished}
@@ -62,7 +58,7 @@ module _ (job : Job) (labels : List ℕ) (computed : Computed labels) where
   premises : Premises job (table_of labels) entry regions pending
   premises =
       record {
-        accepted = in_each (λ job. build_verdict job (table_of labels) entry regions pending ≡ Pass) computed.accepted job;
+        accepted = in_each (λ job. build_verdict job (table_of labels) entry regions pending ≡ Ok tt) computed.accepted job;
         aligned = λ p m. eqb-true (pc_at regions pending p % 4) 0 (each (λ (p : ℕ). eqb (pc_at regions pending p % 4) 0) (places pending) evaluated.aligned p m);
         apart = apart;
         branch_target = λ p m e. on_word_lem p (branching p m e).0;
@@ -90,11 +86,11 @@ pub instance_reads : (job : Job) → readings (image_of (build_outcome job (tabl
 instance_reads job = reads_back job (table_of labels₁) entry regions pending (instance₁ job)
 
 pub instance_numbers : destinations (table_of labels₁) pending
-    ≡ Known 0x0040C008 ∷ Known 0x00400008 ∷ Known 0x12345678 ∷ Known 0x0040C008 ∷ Known 0x0040000C ∷ Known 0x003E0010 ∷ Known 0x00420010 ∷ []
+    ≡ Some 0x0040C008 ∷ Some 0x00400008 ∷ Some 0x12345678 ∷ Some 0x0040C008 ∷ Some 0x0040000C ∷ Some 0x003E0010 ∷ Some 0x00420010 ∷ []
 instance_numbers = evaluated.destined
 
 -- ---- other builds, which do not read back here
-fails : (r : List ℕ) (a : ℕ) (rest : List Address) → readings (image_of r) pending ≡ Known a ∷ rest → (a ≡ 0x0040C008 → ⊥)
+fails : (r : List ℕ) (a : ℕ) (rest : List (Option ℕ)) → readings (image_of r) pending ≡ Some a ∷ rest → (a ≡ 0x0040C008 → ⊥)
     → readings (image_of r) pending ≡ destinations (table_of labels₁) pending → ⊥
 fails r a rest c n e =
     let d = instance_numbers in
@@ -118,7 +114,7 @@ same_outcome job =
     in_each (λ job. build_outcome job (table_of labels₁) entry regions pending ≡ outcome) evaluated.first_outcome job
     ∙ sym (in_each (λ job. build_outcome job (table_of labels₂) entry regions pending ≡ outcome) evaluated.second_outcome job)
 
-pub tables_differ : (resolve labels₁ 3 loop ≡ Known 0x00001000) × (resolve labels₂ 3 loop ≡ Known 0x00002000)
+pub tables_differ : (resolve labels₁ 3 loop ≡ Some 0x00001000) × (resolve labels₂ 3 loop ≡ Some 0x00002000)
 tables_differ = evaluated.for_all_addresses
 
 pub instance_used : (job : Job) → SameUsed (table_of labels₁) (table_of labels₂) entry pending
@@ -127,7 +123,7 @@ instance_used job =
     (ap (λ (o : BuildOutcome). image_of o.regions) (same_outcome job)) (ap (λ (o : BuildOutcome). o.answer) (same_outcome job))
 
 -- ---- the first and the third differ in a used address, and so do not share an image with its entry
-pub used_differs : (resolve labels₁ 1 loop ≡ Known 0x00400008) × (resolve labels₃ 1 loop ≡ Known 0x0040000C)
+pub used_differs : (resolve labels₁ 1 loop ≡ Some 0x00400008) × (resolve labels₃ 1 loop ≡ Some 0x0040000C)
 used_differs = evaluated.first_file_addresses
 
 not_same_used : SameUsed (table_of labels₁) (table_of labels₃) entry pending → ⊥
@@ -144,7 +140,7 @@ instance_apart job =
     differing_apart job labels₁ labels₃ entry regions pending (of_bytes labels₁ evaluated.first.bytes_fit) (of_bytes labels₃ evaluated.third.bytes_fit) (instance₁ job) (instance₃ job) not_same_used
 
 -- ---- the first and the fourth differ in the entry's label alone: they share the image, and so not its entry
-pub entry_differs : (resolve labels₁ 1 main ≡ Known 0x00400004) × (resolve labels₄ 1 main ≡ Known 0x0040000C)
+pub entry_differs : (resolve labels₁ 1 main ≡ Some 0x00400004) × (resolve labels₄ 1 main ≡ Some 0x0040000C)
 entry_differs = evaluated.entry_addresses
 
 pub same_image : (job : Job) → (build_outcome job (table_of labels₁) entry regions pending).regions ≡ (build_outcome job (table_of labels₄) entry regions pending).regions
@@ -166,5 +162,5 @@ entries_apart job =
     (ap image_of (same_image job))
 
 -- document 01's example of a build
-pub example : build_outcome Commit (table_of []) [] example_regions example_pending ≡ record { answer = Entry 0x00400000; regions = example_finished }
+pub example : build_outcome Commit (table_of []) [] example_regions example_pending ≡ record { answer = Ok 0x00400000; regions = example_finished }
 example = evaluated.example

@@ -1,15 +1,13 @@
 -- What computes on the lists of the instance: its builds, its destinations, and the premises as tests. Assumes nothing.
-use Rattle.std.specs.Prelude.{ℕ, ◌+◌, ◌/◌, ◌%◌, List, [], ◌∷◌, Bool, true, ◌&&◌, ◌≡◌, refl, take, leb, ltb, eqb}
+use Rattle.std.specs.Prelude.{ℕ, ◌+◌, ◌/◌, ◌%◌, List, [], ◌∷◌, Bool, true, ◌&&◌, ◌≡◌, refl, take, leb, ltb, eqb, Ok, Some}
 use Rattle.jobs.specs.declared.Job.{Job}
 use Rattle.jobs.specs.declared.Job.TheVariants.{Commit, Manual, Release6}
 use Rattle.field.specs.Field.{set_field}
 use Rattle.record.specs.Bytes.{byte_at, all, same_bytes}
 use Rattle.record.specs.Records.{places_f, places_from, places, first_bad, first_bad_of, within_limit}
 use Rattle.refusal.specs.Verdicts.{first_stop}
-use Rattle.refusal.specs.declared.Verdict.TheVariants.{Pass}
 use Rattle.names.specs.Names.{first_where, first_later}
 use Rattle.labels.specs.Labels.{label_ok, label_layout, resolve, Table, table_of}
-use Rattle.labels.specs.declared.Address.TheVariants.{Known}
 use Rattle.regions.specs.Regions.{region_ok, region_records, region_layout}
 use Rattle.address_label.specs.AddressLabels.{address_label_ok}
 use Rattle.address_label.specs.Entries.{entry_ok, entry_layout}
@@ -19,7 +17,6 @@ use Rattle.pending.specs.Pendings.{pending_ok, pending_layout, kind_from, pendin
 use Rattle.record.specs.Stores.{append}
 use Rattle.patch.specs.Patches.{after, destination, field_width, field_value, branch_in_range, jump_in_range, in_range, pending_verdict, reach_verdict, write_pending}
 use Rattle.build_outcome.specs.Build.{keep, order_from, patch_order, layout_verdicts, build_verdict, write_patches, BuildOutcome, build_outcome}
-use Rattle.build_outcome.specs.declared.Built.TheVariants.{Entry}
 use Rattle.finished_words.specs.Listed.{pc_at, destination_at}
 use Rattle.reading.specs.Used.{pending_name, pending_source, entry_name, entry_source}
 use Rattle.reading.specs.Reading.{image_of, signed_bytes, read_by, readings, destinations}
@@ -56,16 +53,16 @@ in_each P b Release6 = b.2
 
 -- of a label table: its build is accepted, the tests hold
 pub record Computed (labels : List ℕ) : Type 0 where
-  pub accepted : InAll (λ job. build_verdict job (table_of labels) entry regions pending ≡ Pass)
+  pub accepted : InAll (λ job. build_verdict job (table_of labels) entry regions pending ≡ Ok tt)
   pub fit : all (λ (p : ℕ). fits (table_of labels) (pending_at pending p).kind p) (places pending) ≡ true
   pub bytes_fit : all (λ (b : ℕ). ltb b 256) labels ≡ true
 
 -- what the builds of the first two tables leave, and that of the fourth
 abbrev pub outcome : BuildOutcome
-outcome = record { answer = Entry 0x00400004; regions = finished }
+outcome = record { answer = Ok 0x00400004; regions = finished }
 
 abbrev pub started_elsewhere : BuildOutcome
-started_elsewhere = record { answer = Entry 0x0040000C; regions = finished }
+started_elsewhere = record { answer = Ok 0x0040000C; regions = finished }
 
 -- of the tables and the other lists; the last readings are of the regions unpatched, with the first patch of the order only, and with the
 -- first of the list only
@@ -77,21 +74,21 @@ pub record Evaluated : Type 0 where
   pub first_outcome : InAll (λ job. build_outcome job (table_of labels₁) entry regions pending ≡ outcome)
   pub second_outcome : InAll (λ job. build_outcome job (table_of labels₂) entry regions pending ≡ outcome)
   pub fourth_outcome : InAll (λ job. build_outcome job (table_of labels₄) entry regions pending ≡ started_elsewhere)
-  pub destined : destinations (table_of labels₁) pending ≡ Known 0x0040C008 ∷ Known 0x00400008 ∷ Known 0x12345678 ∷ Known 0x0040C008 ∷ Known 0x0040000C ∷ Known 0x003E0010 ∷ Known 0x00420010 ∷ []
+  pub destined : destinations (table_of labels₁) pending ≡ Some 0x0040C008 ∷ Some 0x00400008 ∷ Some 0x12345678 ∷ Some 0x0040C008 ∷ Some 0x0040000C ∷ Some 0x003E0010 ∷ Some 0x00420010 ∷ []
   pub entry_places : places entry ≡ 0 ∷ []
   pub places_are : places pending ≡ 0 ∷ 40 ∷ 80 ∷ 116 ∷ 156 ∷ 196 ∷ 232 ∷ []
   pub aligned : all (λ (p : ℕ). eqb (pc_at regions pending p % 4) 0) (places pending) ≡ true
-  pub for_all_addresses : (resolve labels₁ 3 loop ≡ Known 0x00001000) × (resolve labels₂ 3 loop ≡ Known 0x00002000)
-  pub first_file_addresses : (resolve labels₁ 1 loop ≡ Known 0x00400008) × (resolve labels₃ 1 loop ≡ Known 0x0040000C)
-  pub entry_addresses : (resolve labels₁ 1 main ≡ Known 0x00400004) × (resolve labels₄ 1 main ≡ Known 0x0040000C)
+  pub for_all_addresses : (resolve labels₁ 3 loop ≡ Some 0x00001000) × (resolve labels₂ 3 loop ≡ Some 0x00002000)
+  pub first_file_addresses : (resolve labels₁ 1 loop ≡ Some 0x00400008) × (resolve labels₃ 1 loop ≡ Some 0x0040000C)
+  pub entry_addresses : (resolve labels₁ 1 main ≡ Some 0x00400004) × (resolve labels₄ 1 main ≡ Some 0x0040000C)
   pub loop_named : (byte_at pending 59 ≡ 1) × ((pending_source pending 40 ≡ 1) × (pending_name pending 40 ≡ loop))
   pub main_named : (byte_at entry 4 ≡ 1) × ((entry_source entry 0 ≡ 1) × (entry_name entry 0 ≡ main))
-  pub unpatched : readings (image_of regions) pending ≡ Known 0x00000000 ∷ Known 0x00400004 ∷ Known 0x00000000 ∷ Known 0x00000000 ∷ Known 0x00000000 ∷ Known 0x00400010 ∷ Known 0x00400014 ∷ []
+  pub unpatched : readings (image_of regions) pending ≡ Some 0x00000000 ∷ Some 0x00400004 ∷ Some 0x00000000 ∷ Some 0x00000000 ∷ Some 0x00000000 ∷ Some 0x00400010 ∷ Some 0x00400014 ∷ []
   pub first_only : readings (image_of (write_patches (table_of labels₁) regions pending (take 1 (patch_order regions pending)) regions)) pending
-      ≡ Known 0x00000000 ∷ Known 0x00400008 ∷ Known 0x00000000 ∷ Known 0x00000000 ∷ Known 0x00000000 ∷ Known 0x00400010 ∷ Known 0x00400014 ∷ []
+      ≡ Some 0x00000000 ∷ Some 0x00400008 ∷ Some 0x00000000 ∷ Some 0x00000000 ∷ Some 0x00000000 ∷ Some 0x00400010 ∷ Some 0x00400014 ∷ []
   pub first_listed_only : readings (image_of (write_patches (table_of labels₁) regions pending (take 1 (places pending)) regions)) pending
-      ≡ Known 0x0000C008 ∷ Known 0x00400004 ∷ Known 0x00000000 ∷ Known 0x0000C008 ∷ Known 0x00000000 ∷ Known 0x00400010 ∷ Known 0x00400014 ∷ []
-  pub example : build_outcome Commit (table_of []) [] example_regions example_pending ≡ record { answer = Entry 0x00400000; regions = example_finished }
+      ≡ Some 0x0000C008 ∷ Some 0x00400004 ∷ Some 0x00000000 ∷ Some 0x0000C008 ∷ Some 0x00000000 ∷ Some 0x00400010 ∷ Some 0x00400014 ∷ []
+  pub example : build_outcome Commit (table_of []) [] example_regions example_pending ≡ record { answer = Ok 0x00400000; regions = example_finished }
 
 pub evaluated : Evaluated
 unfolding labels₁ labels₂ labels₃ labels₄ entry regions pending finished example_regions example_pending example_finished destinations readings image_of read_by signed_bytes build_outcome build_verdict layout_verdicts write_patches write_pending pending_verdict reach_verdict order_from keep append in_range jump_in_range branch_in_range field_value field_width destination kind_from pending_layout pending_ok entry_layout entry_ok address_label_ok region_layout region_records region_ok resolve label_layout label_ok first_later first_where first_stop within_limit first_bad_of first_bad places places_from places_f all same_bytes set_field

@@ -1,6 +1,6 @@
 -- Reading back, patch by patch and of the whole pending list: in the image of an accepted build each reading is its destination, where what
 -- its kind asks holds of that patch. Assumes nothing.
-use Rattle.std.specs.Prelude.{ℕ, ◌+◌, ◌-◌, ◌*◌, ◌/◌, ◌%◌, ◌^◌, ◌≤◌, List, Bool, false, ◌≡◌, refl, eqb}
+use Rattle.std.specs.Prelude.{ℕ, ◌+◌, ◌-◌, ◌*◌, ◌/◌, ◌%◌, ◌^◌, ◌≤◌, List, Bool, false, ◌≡◌, refl, eqb, Ok, Option, Some}
 use Rattle.std.proofs.Common.{arith, sym, ◌∙◌, eqb-true}
 use Rattle.std.proofs.Math.Bool.{true}
 use Rattle.std.proofs.Math.Path.{ap, ap₂}
@@ -10,8 +10,6 @@ use Rattle.jobs.specs.declared.Job.TheVariants.{Commit, Manual, Release6}
 use Rattle.jobs.specs.Jobs.{by_manual}
 use Rattle.record.specs.Bytes.{byte_at, le32, le64, part}
 use Rattle.record.specs.Records.{body_len, next, places}
-use Rattle.labels.specs.declared.Address.{Address}
-use Rattle.labels.specs.declared.Address.TheVariants.{Known}
 use Rattle.address_label.specs.AddressLabels.{address_label_at}
 use Rattle.address_label.proofs.AddressLabelsLaws.{at_constant, at_named}
 use Rattle.pending.specs.declared.InstructionLabelKind.{InstructionLabelKind}
@@ -22,7 +20,6 @@ use Rattle.labels.proofs.StraightLaws.{straight}
 use Rattle.names.specs.Owners.{WithoutOwners}
 use Rattle.patch.specs.Patches.{destination, plus_offset, wrap32, after, field_width, field_value, in_range, address_or}
 use Rattle.patch.proofs.PatchesLaws.{jump_page, manual_near}
-use Rattle.refusal.specs.declared.Verdict.TheVariants.{Pass}
 use Rattle.build_outcome.specs.Build.{patched_regions, build_verdict}
 use Rattle.finished_words.specs.Listed.{In, Apart, kind_of, slot_at, destination_at, pc_at}
 use Rattle.finished_words.specs.Words.{finished_word, finished_at}
@@ -36,11 +33,11 @@ use Rattle.reading.proofs.ArithmeticLaws.{branch_reads, jump_reads, halves_read}
 use Rattle.reading.proofs.ImageLaws.{image_word, image_pc}
 
 -- the destination of a record's label, by its form
-constant_is : (labels : Table) (pending : List ℕ) (at : ℕ) → byte_at pending (at + 19) ≡ 0 → destination labels pending (label_of pending at) ≡ Known (wrap32 (le64 pending (at + 20)))
+constant_is : (labels : Table) (pending : List ℕ) (at : ℕ) → byte_at pending (at + 19) ≡ 0 → destination labels pending (label_of pending at) ≡ Some (wrap32 (le64 pending (at + 20)))
 unfolding destination
 constant_is labels pending at e =
     let v : at + 19 + 1 ≡ at + 20 = omega arith in
-    ap (destination labels pending) (at_constant pending (at + 19) (next pending at) e) ∙ ap (λ (i : ℕ). Known (wrap32 (le64 pending i))) v
+    ap (destination labels pending) (at_constant pending (at + 19) (next pending at) e) ∙ ap (λ (i : ℕ). Some (wrap32 (le64 pending i))) v
 
 pub label_is : (labels : Table) (s : List ℕ) (i e from count value source : ℕ) → (byte_at s i ≡ 0 → ⊥) → i + 17 ≡ from → e - (i + 17) ≡ count
     → i + 1 ≡ value → i + 9 ≡ source
@@ -64,11 +61,11 @@ same_destination labels pending p q t s = ap (address_or 0) (go (eqb (byte_at pe
     go : (b : Bool) → eqb (byte_at pending (p + 19)) 0 ≡ b → destination labels pending (label_of pending p) ≡ destination labels pending (label_of pending q)
     go true e =
         let z : byte_at pending (p + 19) ≡ 0 = eqb-true (byte_at pending (p + 19)) 0 e in
-        constant_is labels pending p z ∙ ap (λ (v : ℕ). Known (wrap32 v)) t.value ∙ sym (constant_is labels pending q (sym t.form ∙ z))
+        constant_is labels pending p z ∙ ap (λ (v : ℕ). Some (wrap32 v)) t.value ∙ sym (constant_is labels pending q (sym t.form ∙ z))
     go false e =
         let n : byte_at pending (p + 19) ≡ 0 → ⊥ = eqb-false (byte_at pending (p + 19)) 0 e in
         named_is labels pending p n
-        ∙ ap (λ (a : Address). plus_offset a (le64 pending (p + 20))) (s (part pending (p + 36) (body_len pending p - 32)))
+        ∙ ap (λ (a : Option ℕ). plus_offset a (le64 pending (p + 20))) (s (part pending (p + 36) (body_len pending p - 32)))
         ∙ ap₂ (λ (l : List ℕ) (v : ℕ). plus_offset (labels.address (le32 pending (q + 28)) l) v) t.name t.value
         ∙ sym (named_is labels pending q (λ z. n (t.form ∙ z)))
 
@@ -96,7 +93,7 @@ ReadableBy Shared job labels regions pending Full p = Unit {0}
 abbrev pub Readable : Job → (labels : Table) (regions pending : List ℕ) → InstructionLabelKind → ℕ → Type 0
 Readable = ReadableBy SharedTarget
 
-module _ (job : Job) (labels : Table) (entry regions pending : List ℕ) (pass : build_verdict job labels entry regions pending ≡ Pass) (apart : Apart pending) where
+module _ (job : Job) (labels : Table) (entry regions pending : List ℕ) (pass : build_verdict job labels entry regions pending ≡ Ok tt) (apart : Apart pending) where
   abbrev image : Image
   image = image_of (patched_regions labels regions pending)
 
@@ -203,11 +200,11 @@ module _ (job : Job) (labels : Table) (entry regions pending : List ℕ) (pass :
     by_kind Full p m e r = full_back p m e
 
     back_by : (p : ℕ) → In pending p → ReadableBy Shared job labels regions pending (pending_at pending p).kind p
-        → Known (reading image (pending_at pending p)) ≡ destination labels pending (pending_at pending p).label
-    back_by p m r = ap Known (by_kind (pending_at pending p).kind p m refl r) ∙ sym (known job labels entry regions pending pass p m)
+        → Some (reading image (pending_at pending p)) ≡ destination labels pending (pending_at pending p).label
+    back_by p m r = ap Some (by_kind (pending_at pending p).kind p m refl r) ∙ sym (known job labels entry regions pending pass p m)
 
   pub each_back : (p : ℕ) → In pending p → Readable job labels regions pending (pending_at pending p).kind p
-      → Known (reading image (pending_at pending p)) ≡ destination labels pending (pending_at pending p).label
+      → Some (reading image (pending_at pending p)) ≡ destination labels pending (pending_at pending p).label
   each_back = back_by SharedTarget (shared_destination labels pending)
 
 -- One claim on the whole pending list: under the tender's premises the list of readings is the list of destinations.

@@ -1,16 +1,14 @@
 -- Without owners the premises are met by a pair whose names have two sources, and it reads back. Assumes nothing.
-use Rattle.std.specs.Prelude.{ℕ, ◌+◌, ◌%◌, ◌≤◌, [], ◌∷◌, ◌⊎◌, ◌≡◌, refl}
+use Rattle.std.specs.Prelude.{ℕ, ◌+◌, ◌%◌, ◌≤◌, [], ◌∷◌, ◌⊎◌, ◌≡◌, refl, Ok, Some}
 use Rattle.std.proofs.Common.{arith, ⊎_elim, inl, inr, sym, subst, ◌∙◌}
 use mathlib.Core.List.Memᴰ
 use Rattle.jobs.specs.declared.Job.{Job}
 use Rattle.record.specs.Bytes.{le32, all, same_bytes}
 use Rattle.record.specs.Records.{places_f, places_from, places, first_bad, first_bad_of, within_limit}
 use Rattle.refusal.specs.Verdicts.{first_stop}
-use Rattle.refusal.specs.declared.Verdict.TheVariants.{Pass}
 use Rattle.names.specs.Names.{first_where, first_later}
 use Rattle.names.specs.Owners.{WithoutOwners}
 use Rattle.labels.specs.Labels.{label_ok, label_layout, resolve, table_of}
-use Rattle.labels.specs.declared.Address.TheVariants.{Known}
 use Rattle.regions.specs.Regions.{region_ok, region_records, region_layout}
 use Rattle.address_label.specs.AddressLabels.{address_label_ok}
 use Rattle.address_label.specs.Entries.{entry_ok, entry_layout}
@@ -30,14 +28,14 @@ never z = absurd (omega arith)
 
 -- ---- by computation
 record Evaluated : Type 0 where
-  accepted : InAll (λ job. build_verdict job (table_of straight_labels) [] straight_regions straight_pending ≡ Pass)
+  accepted : InAll (λ job. build_verdict job (table_of straight_labels) [] straight_regions straight_pending ≡ Ok tt)
   without : WithoutOwners straight_labels
   places_are : places straight_pending ≡ 0 ∷ 40 ∷ []
   aligned : (pc_at straight_regions straight_pending 0 % 4 ≡ 0) × (pc_at straight_regions straight_pending 40 % 4 ≡ 0)
   kinds : ((pending_at straight_pending 0).kind ≡ Lower) × ((pending_at straight_pending 40).kind ≡ Upper)
   target : SameTarget straight_pending 40 0
   sources : (le32 straight_pending 68 ≡ 1) × (le32 straight_pending 28 ≡ 2)
-  destined : destinations (table_of straight_labels) straight_pending ≡ Known 0x0040C008 ∷ Known 0x0040C008 ∷ []
+  destined : destinations (table_of straight_labels) straight_pending ≡ Some 0x0040C008 ∷ Some 0x0040C008 ∷ []
 
 evaluated : Evaluated
 unfolding straight_labels straight_regions straight_pending destinations build_verdict layout_verdicts pending_verdict reach_verdict order_from keep in_range destination kind_from pending_layout pending_ok entry_layout entry_ok address_label_ok region_layout region_records region_ok resolve label_layout label_ok first_later first_where first_stop within_limit first_bad_of first_bad places places_from places_f all same_bytes
@@ -100,7 +98,7 @@ straight_instance job =
     let k = evaluated.kinds.0 in
     let l = evaluated.kinds.1 in
     record {
-      accepted = in_each (λ job. build_verdict job (table_of straight_labels) [] straight_regions straight_pending ≡ Pass) evaluated.accepted job;
+      accepted = in_each (λ job. build_verdict job (table_of straight_labels) [] straight_regions straight_pending ≡ Ok tt) evaluated.accepted job;
       aligned = both (λ p. pc_at straight_regions straight_pending p % 4 ≡ 0) evaluated.aligned.0 evaluated.aligned.1;
       apart = away;
       branch_target = λ p m e. absurd (no_branch p m e);
@@ -111,7 +109,7 @@ straight_instance job =
     }
 
 -- ---- both halves read back, and their names' sources differ
-pub straight_reads : (job : Job) → readings (image_of (build_outcome job (table_of straight_labels) [] straight_regions straight_pending).regions) straight_pending ≡ Known 0x0040C008 ∷ Known 0x0040C008 ∷ []
+pub straight_reads : (job : Job) → readings (image_of (build_outcome job (table_of straight_labels) [] straight_regions straight_pending).regions) straight_pending ≡ Some 0x0040C008 ∷ Some 0x0040C008 ∷ []
 straight_reads job = straight_reads_back job straight_labels [] straight_regions straight_pending evaluated.without (straight_instance job) ∙ evaluated.destined
 
 pub sources_differ : (le32 straight_pending 68 ≡ 1) × (le32 straight_pending 28 ≡ 2)

@@ -1,6 +1,6 @@
 -- Two label tables: accepted builds of the same regions, entry record and pending list that share an image and its entry agree on every
 -- used address. Assumes nothing.
-use Rattle.std.specs.Prelude.{ℕ, ◌+◌, ◌-◌, ◌%◌, ◌^◌, ◌<◌, ◌≤◌, ◌⊎◌, ◌≡◌, refl, length}
+use Rattle.std.specs.Prelude.{ℕ, ◌+◌, ◌-◌, ◌%◌, ◌^◌, ◌<◌, ◌≤◌, ◌⊎◌, ◌≡◌, refl, length, None, Ok, Option, Some}
 use Rattle.std.proofs.Common.{arith, inl, inr, ⊎_elim, ap, ◌∙◌}
 use mathlib.Core.List.Memᴰ
 use mathlib.Core.List.{List, [], ◌∷◌, map, Memᴰ}
@@ -8,12 +8,7 @@ use Rattle.std.proofs.Math.Path.{sym}
 use Rattle.jobs.specs.declared.Job.{Job}
 use Rattle.record.specs.Bytes.{byte_at, le32, le64}
 use Rattle.record.specs.Records.{body_len, next, places}
-use Rattle.names.specs.declared.Named.{Named}
-use Rattle.names.specs.declared.Named.TheVariants.{At, Missing}
 use Rattle.labels.specs.Labels.{labelled, address_of, resolve, Table, table_of}
-use Rattle.labels.specs.declared.Address.{Address}
-use Rattle.labels.specs.declared.Address.TheVariants.{Known, Unknown}
-use Rattle.refusal.specs.declared.Verdict.TheVariants.{Pass}
 use Rattle.address_label.specs.AddressLabels.{address_label_at}
 use Rattle.address_label.specs.Entries.{entry_of}
 use Rattle.address_label.proofs.EntriesLaws.{entry_good}
@@ -29,7 +24,7 @@ use Rattle.reading.specs.Used.{pending_name, entry_name, pending_source, entry_s
 use Rattle.reading.proofs.ReadBackLaws.{label_is, named_is, read_back}
 
 -- equal lists of values have equal values
-map_at : (f g : ℕ → Address) (ps : List ℕ) → map f ps ≡ map g ps → (p : ℕ) → Memᴰ p ps → f p ≡ g p
+map_at : (f g : ℕ → Option ℕ) (ps : List ℕ) → map f ps ≡ map g ps → (p : ℕ) → Memᴰ p ps → f p ≡ g p
 map_at f g [] e p m = elim m [ ]
 map_at f g (q ∷ ps) e p m = go (Memᴰ.cases_cons m) (map_at f g ps (cc))
   where
@@ -38,33 +33,33 @@ map_at f g (q ∷ ps) e p m = go (Memᴰ.cases_cons m) (map_at f g ps (cc))
     go (inr t) ih = ih p t
 
 -- a label's address is a number of 32 bits
-pub resolve_lt : (labels : List ℕ) (source : ℕ) (name : List ℕ) (a : ℕ) → Bytes labels → resolve labels source name ≡ Known a → a < 2 ^ 32
+pub resolve_lt : (labels : List ℕ) (source : ℕ) (name : List ℕ) (a : ℕ) → Bytes labels → resolve labels source name ≡ Some a → a < 2 ^ 32
 unfolding resolve
 resolve_lt labels source name a b e = go (labelled labels source name) e
   where
-    go : (n : Named) → address_of labels n ≡ Known a → a < 2 ^ 32
-    go (At p) k =
+    go : (n : Option ℕ) → address_of labels n ≡ Some a → a < 2 ^ 32
+    go (Some p) k =
         let z : le32 labels (p + 4) ≡ a = cc in
         omega (arith, b (p + 4), b (p + 4 + 1), b (p + 4 + 2), b (p + 4 + 3))
-    go Missing k = let z : ◌≡◌ {A = ℕ} 0 1 = cc in absurd (omega arith)
+    go None k = let z : ◌≡◌ {A = ℕ} 0 1 = cc in absurd (omega arith)
 
 -- an address with an offset, modulo 2^32, determines the address
 offset_same : (labels₁ labels₂ : List ℕ) (source : ℕ) (name : List ℕ) (v d : ℕ) → Bytes labels₁ → Bytes labels₂
-    → plus_offset (resolve labels₁ source name) v ≡ Known d → plus_offset (resolve labels₂ source name) v ≡ Known d
+    → plus_offset (resolve labels₁ source name) v ≡ Some d → plus_offset (resolve labels₂ source name) v ≡ Some d
     → resolve labels₁ source name ≡ resolve labels₂ source name
 offset_same labels₁ labels₂ source name v d b₁ b₂ e₁ e₂ = go (resolve labels₁ source name) refl (resolve labels₂ source name) refl
   where
-    go : (x : Address) → resolve labels₁ source name ≡ x → (y : Address) → resolve labels₂ source name ≡ y
+    go : (x : Option ℕ) → resolve labels₁ source name ≡ x → (y : Option ℕ) → resolve labels₂ source name ≡ y
         → resolve labels₁ source name ≡ resolve labels₂ source name
-    go (Known a) f (Known c) g =
+    go (Some a) f (Some c) g =
         let l₁ = resolve_lt labels₁ source name a b₁ f in
         let l₂ = resolve_lt labels₂ source name c b₂ g in
         let z₁ : (a + v) % 2 ^ 32 ≡ d = cc in
         let z₂ : (c + v) % 2 ^ 32 ≡ d = cc in
         let s : a ≡ c = omega arith in
         cc
-    go (Known a) f Unknown g = let z : ◌≡◌ {A = ℕ} 0 1 = cc in absurd (omega arith)
-    go Unknown f y g = let z : ◌≡◌ {A = ℕ} 0 1 = cc in absurd (omega arith)
+    go (Some a) f None g = let z : ◌≡◌ {A = ℕ} 0 1 = cc in absurd (omega arith)
+    go None f y g = let z : ◌≡◌ {A = ℕ} 0 1 = cc in absurd (omega arith)
 
 module _ {Shared : (pending : List ℕ) (p q : ℕ) → Type 0} (job : Job) (labels₁ labels₂ entry regions pending : List ℕ) (b₁ : Bytes labels₁) (b₂ : Bytes labels₂)
     (pr₁ : PremisesBy Shared job (table_of labels₁) entry regions pending) (pr₂ : PremisesBy Shared job (table_of labels₂) entry regions pending)
@@ -89,17 +84,17 @@ module _ {Shared : (pending : List ℕ) (p q : ℕ) → Type 0} (job : Job) (lab
 
   -- the entry
   entry_known : (labels : Table) → PremisesBy Shared job labels entry regions pending → (p : ℕ) → places entry ≡ p ∷ []
-      → destination labels entry (address_label_at entry (p + 4) (next entry p)) ≡ Known (entry_address labels entry (entry_of entry (places entry)))
+      → destination labels entry (address_label_at entry (p + 4) (next entry p)) ≡ Some (entry_address labels entry (entry_of entry (places entry)))
   entry_known labels pr p e =
       go (destination labels entry (address_label_at entry (p + 4) (next entry p))) refl
     where
-      passes : reach_entry (address_label_at entry (p + 4) (next entry p)) (destination labels entry (address_label_at entry (p + 4) (next entry p))) ≡ Pass
+      passes : reach_entry (address_label_at entry (p + 4) (next entry p)) (destination labels entry (address_label_at entry (p + 4) (next entry p))) ≡ Ok tt
       passes = rw e at (accepted_is job labels entry regions pending pr.accepted).entry_passes
 
-      go : (a : Address) → destination labels entry (address_label_at entry (p + 4) (next entry p)) ≡ a
-          → destination labels entry (address_label_at entry (p + 4) (next entry p)) ≡ Known (entry_address labels entry (entry_of entry (places entry)))
-      go (Known d) k = rw e (k ∙ ap Known (sym (ap (address_or 0) k)))
-      go Unknown k =
+      go : (a : Option ℕ) → destination labels entry (address_label_at entry (p + 4) (next entry p)) ≡ a
+          → destination labels entry (address_label_at entry (p + 4) (next entry p)) ≡ Some (entry_address labels entry (entry_of entry (places entry)))
+      go (Some d) k = rw e (k ∙ ap Some (sym (ap (address_or 0) k)))
+      go None k =
           let h = rw k at passes in
           let z : ◌≡◌ {A = ℕ} 0 1 = cc in
           absurd (omega arith)
@@ -115,7 +110,7 @@ module _ {Shared : (pending : List ℕ) (p q : ℕ) → Type 0} (job : Job) (lab
       first e =
           offset_same labels₁ labels₂ (entry_source entry p) (entry_name entry p) (le64 entry (p + 5)) _ b₁ b₂
           (sym (by_name (table_of labels₁)) ∙ entry_known (table_of labels₁) pr₁ p e)
-          (sym (by_name (table_of labels₂)) ∙ entry_known (table_of labels₂) pr₂ p e ∙ ap Known (sym same))
+          (sym (by_name (table_of labels₂)) ∙ entry_known (table_of labels₂) pr₂ p e ∙ ap Some (sym same))
 
       -- the list has no other record
       alone : (ps : List ℕ) → places entry ≡ ps → length ps ≤ 1 → Memᴰ p ps → used_by_entry (table_of labels₁) entry p ≡ used_by_entry (table_of labels₂) entry p

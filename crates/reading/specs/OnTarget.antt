@@ -1,9 +1,8 @@
 -- Which branches and jumps are on target, patch by patch: what the tender asks of their destinations and distances. Assumes nothing.
-use Rattle.std.specs.Prelude.{ℕ, ◌%◌, ◌≡◌, List}
+use Rattle.std.specs.Prelude.{ℕ, ◌%◌, ◌≡◌, List, Some}
 use Rattle.jobs.specs.declared.Job.{Job}
 use Rattle.jobs.specs.declared.Job.TheVariants.{Commit}
 use Rattle.labels.specs.Labels.{Table}
-use Rattle.labels.specs.declared.Address.TheVariants.{Known}
 use Rattle.pending.specs.declared.InstructionLabelKind.{InstructionLabelKind}
 use Rattle.pending.specs.declared.InstructionLabelKind.TheVariants.{Branch, Jump, Lower, Upper, Full}
 use Rattle.pending.specs.Pendings.{pending_at}
@@ -30,4 +29,4 @@ pub record OnTarget (job : Job) (labels : Table) (regions pending : List ℕ) (p
 -- "document 01's MIPS32 reading of each patch in the finished words, by its kind, equals its destination": of the patch of the record at p
 abbrev pub ReadsBack : Job → (labels : Table) (entry regions pending : List ℕ) → ℕ → Type 0
 ReadsBack job labels entry regions pending p =
-    Known (reading (image_of (build_outcome job labels entry regions pending).regions) (pending_at pending p)) ≡ destination labels pending (pending_at pending p).label
+    Some (reading (image_of (build_outcome job labels entry regions pending).regions) (pending_at pending p)) ≡ destination labels pending (pending_at pending p).label

@@ -1,10 +1,9 @@
 -- What the tender asks beforehand: the premises of reading back. Assumes nothing.
-use Rattle.std.specs.Prelude.{ℕ, ◌+◌, ◌-◌, ◌/◌, ◌%◌, ◌≤◌, ◌≡◌, List}
+use Rattle.std.specs.Prelude.{ℕ, ◌+◌, ◌-◌, ◌/◌, ◌%◌, ◌≤◌, ◌≡◌, List, Ok}
 use Rattle.jobs.specs.declared.Job.{Job}
 use Rattle.jobs.specs.declared.Job.TheVariants.{Commit}
 use Rattle.record.specs.Bytes.{byte_at, le32, le64, part}
 use Rattle.record.specs.Records.{body_len}
-use Rattle.refusal.specs.declared.Verdict.TheVariants.{Pass}
 use Rattle.labels.specs.Labels.{Table}
 use Rattle.pending.specs.declared.InstructionLabelKind.TheVariants.{Branch, Jump, Lower, Upper}
 use Rattle.pending.specs.Pendings.{pending_at}
@@ -43,7 +42,7 @@ Near labels regions pending p =
 -- The tender's premises, for a label table, a region list, an entry record and a pending list in whatever order.
 pub record PremisesBy (Shared : (pending : List ℕ) (p q : ℕ) → Type 0) (job : Job) (labels : Table) (entry regions pending : List ℕ) : Type 0 where
   -- "An accepted build is one to which no refusal is due"
-  pub accepted : build_verdict job labels entry regions pending ≡ Pass
+  pub accepted : build_verdict job labels entry regions pending ≡ Ok tt
   -- "patch addresses multiples of four": "A patch's address is its pc"
   pub aligned : (p : ℕ) → In pending p → pc_at regions pending p % 4 ≡ 0
   -- "patches not overlapping"

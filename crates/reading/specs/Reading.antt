@@ -1,10 +1,8 @@
 -- The finished image, and document 01's MIPS32 reading of each patch in it. Assumes nothing.
-use Rattle.std.specs.Prelude.{ℕ, ◌+◌, ◌-◌, ◌*◌, ◌/◌, ◌%◌, ◌^◌, List, [], map, true, false, get_or, ltb}
+use Rattle.std.specs.Prelude.{ℕ, ◌+◌, ◌-◌, ◌*◌, ◌/◌, ◌%◌, ◌^◌, List, [], map, true, false, get_or, ltb, Option, Some}
 use Rattle.record.specs.Bytes.{le32, part}
 use Rattle.record.specs.Records.{body_len, places}
 use Rattle.labels.specs.Labels.{Table}
-use Rattle.labels.specs.declared.Address.{Address}
-use Rattle.labels.specs.declared.Address.TheVariants.{Known}
 use Rattle.pending.specs.declared.InstructionLabelKind.{InstructionLabelKind}
 use Rattle.pending.specs.declared.InstructionLabelKind.TheVariants.{Branch, Jump, Lower, Upper, Full}
 use Rattle.pending.specs.declared.Pending.{Pending}
@@ -62,10 +60,10 @@ abbrev pub reading : Image → Pending → ℕ
 reading image p = read_by p.kind image p
 
 -- one reading for each pending of a list, in list order, and one destination
-unfoldable pub readings : Image → List ℕ → List Address
+unfoldable pub readings : Image → List ℕ → List (Option ℕ)
 unfolding places read_by
-readings image pending = map (λ (at : ℕ). Known (reading image (pending_at pending at))) (places pending)
+readings image pending = map (λ (at : ℕ). Some (reading image (pending_at pending at))) (places pending)
 
-unfoldable pub destinations : (labels : Table) (pending : List ℕ) → List Address
+unfoldable pub destinations : (labels : Table) (pending : List ℕ) → List (Option ℕ)
 unfolding places destination
 destinations labels pending = map (λ (at : ℕ). destination labels pending (pending_at pending at).label) (places pending)

@@ -1,10 +1,9 @@
 -- The addresses that a build uses: "A used address is that of a label which a pending or the entry names"; document 02, P6: "A used address
 -- of two label tables is the one so resolved". Assumes nothing.
-use Rattle.std.specs.Prelude.{ℕ, ◌+◌, ◌-◌, ◌≡◌, List}
+use Rattle.std.specs.Prelude.{ℕ, ◌+◌, ◌-◌, ◌≡◌, List, Option}
 use Rattle.record.specs.Bytes.{byte_at, le32, part}
 use Rattle.record.specs.Records.{body_len}
 use Rattle.labels.specs.Labels.{Table}
-use Rattle.labels.specs.declared.Address.{Address}
 use Rattle.finished_words.specs.Listed.{In}
 
 abbrev pub pending_name : List ℕ → ℕ → List ℕ
@@ -21,10 +20,10 @@ abbrev pub entry_source : List ℕ → ℕ → ℕ
 entry_source entry p = le32 entry (p + 13)
 
 -- the address that the table gives to the name in a pending, and in the entry
-abbrev pub used_by : Table → List ℕ → ℕ → Address
+abbrev pub used_by : Table → List ℕ → ℕ → Option ℕ
 used_by labels pending p = labels.address (pending_source pending p) (pending_name pending p)
 
-abbrev pub used_by_entry : Table → List ℕ → ℕ → Address
+abbrev pub used_by_entry : Table → List ℕ → ℕ → Option ℕ
 used_by_entry labels entry p = labels.address (entry_source entry p) (entry_name entry p)
 
 -- the two tables agree on the address of each label that a pending or the entry names (form 0 names none)

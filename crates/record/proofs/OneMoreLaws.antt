@@ -1,5 +1,5 @@
 -- Laws of a list with one more whole record behind it, one set for every kind of record. Assumes nothing.
-use Rattle.std.specs.Prelude.{ℕ, zero, suc, ◌+◌, ◌≤◌, ◌<◌, Bool, true, false, ◌≡◌, refl, ltb, leb}
+use Rattle.std.specs.Prelude.{ℕ, zero, suc, ◌+◌, ◌≤◌, ◌<◌, Bool, true, false, ◌≡◌, refl, ltb, leb, None, Option}
 use Rattle.std.proofs.Common.{arith, ⊎_elim, ◌∙◌, length-append, le-leb, ltb-true, ltb-false}
 use mathlib.Core.List.Memᴰ
 use mathlib.Core.List.{List, [], ◌∷◌, ◌++◌, Memᴰ}
@@ -9,8 +9,6 @@ use Rattle.std.proofs.Math.ListN.{length}
 use Rattle.record.specs.Records.{next, whole, places_from, places, first_bad}
 use Rattle.record.proofs.RecordsLaws.{places_all, places_step, places_end, whole_is, good_ok, good_next, first_append, first_pass, first_hit, or_else}
 use Rattle.record.proofs.BehindLaws.{le16_before}
-use Rattle.record.specs.declared.Layout.{Layout}
-use Rattle.record.specs.declared.Layout.TheVariants.{Good}
 
 pub is_whole : (s : List ℕ) (at : ℕ) → at + 4 ≤ length s → next s at ≤ length s → whole s at ≡ true
 is_whole s at h n = (and-eq-true_iff (leb (at + 4) (length s)) (leb (next s at) (length s))).1 (le-leb (at + 4) (length s) h, le-leb (next s at) (length s) n)
@@ -24,11 +22,11 @@ whole_before l r at w =
     (is_whole (l ++ r) at (omega arith) (omega arith), e)
 
 -- at each place of a list that keeps its layout the test passes
-pub good_each : (ok : ℕ → Bool) (ps : List ℕ) → first_bad ok ps ≡ Good → (p : ℕ) → Memᴰ p ps → ok p ≡ true
+pub good_each : (ok : ℕ → Bool) (ps : List ℕ) → first_bad ok ps ≡ None → (p : ℕ) → Memᴰ p ps → ok p ≡ true
 good_each ok [] g p m = elim m [ ]
 good_each ok (q ∷ ps) g p m = go (ok q) refl (λ h t. good_each ok ps h p t)
   where
-    go : (b : Bool) → ok q ≡ b → (first_bad ok ps ≡ Good → Memᴰ p ps → ok p ≡ true) → ok p ≡ true
+    go : (b : Bool) → ok q ≡ b → (first_bad ok ps ≡ None → Memᴰ p ps → ok p ≡ true) → ok p ≡ true
     go true e ih = ⊎_elim (λ (h : p ≡ q). ap ok h ∙ e) (λ t. ih (sym (first_pass ok q ps e) ∙ g) t) (Memᴰ.cases_cons m)
     go false e ih = cc (first_hit ok q ps e)
 
@@ -41,7 +39,7 @@ module _ (ok : List ℕ → ℕ → Bool) (local : Local ok) (l r : List ℕ) wh
   -- the places from `at` on are those of l and then those of what is behind it, and those of l pass
   record Kept (at : ℕ) : Type 0 where
     joined : places_from (l ++ r) at ≡ places_from l at ++ places_from (l ++ r) (length l)
-    passes : first_bad (ok (l ++ r)) (places_from l at) ≡ Good
+    passes : first_bad (ok (l ++ r)) (places_from l at) ≡ None
 
   ended : (at : ℕ) → at ≡ length l → Kept at
   unfolding first_bad
@@ -63,7 +61,7 @@ module _ (ok : List ℕ → ℕ → Bool) (local : Local ok) (l r : List ℕ) wh
         passes = ap (first_bad (ok (l ++ r))) p ∙ first_pass (ok (l ++ r)) at (places_from l (next l at)) (local.stays l r at t) ∙ k.passes;
       }
 
-  kept : (n at : ℕ) → length l ≤ at + n → at ≤ length l → first_bad (ok l) (places_from l at) ≡ Good → Kept at
+  kept : (n at : ℕ) → length l ≤ at + n → at ≤ length l → first_bad (ok l) (places_from l at) ≡ None → Kept at
   kept zero at b h g = ended at (omega arith)
   kept (suc n) at b h g = go (ltb at (length l)) refl (λ i w. kept n (next l at) (omega arith) (whole_is l at w).1 (good_next (ok l) l at i w g))
     where
@@ -77,9 +75,9 @@ module _ (ok : List ℕ → ℕ → Bool) (local : Local ok) (l r : List ℕ) wh
   -- a list that keeps its layout, with one more record behind it that passes and ends the list
   pub record OneMore : Type 0 where
     pub places_are : places (l ++ r) ≡ places l ++ length l ∷ []
-    pub keeps : first_bad (ok (l ++ r)) (places (l ++ r)) ≡ Good
+    pub keeps : first_bad (ok (l ++ r)) (places (l ++ r)) ≡ None
 
-  pub one_more : first_bad (ok l) (places l) ≡ Good → ok (l ++ r) (length l) ≡ true → next (l ++ r) (length l) ≡ length (l ++ r) → OneMore
+  pub one_more : first_bad (ok l) (places l) ≡ None → ok (l ++ r) (length l) ≡ true → next (l ++ r) (length l) ≡ length (l ++ r) → OneMore
   unfolding first_bad
   one_more g t e =
       let s = l ++ r in
@@ -93,6 +91,6 @@ module _ (ok : List ℕ → ℕ → Bool) (local : Local ok) (l r : List ℕ) wh
       record {
         places_are = all;
         keeps = ap (first_bad (ok s)) all ∙ first_append (ok s) (places l) (length l ∷ [])
-            ∙ ap (λ (y : Layout). or_else y (first_bad (ok s) (length l ∷ []))) (ap (first_bad (ok s)) (places_all l) ∙ k.passes)
+            ∙ ap (λ (y : Option ℕ). or_else y (first_bad (ok s) (length l ∷ []))) (ap (first_bad (ok s)) (places_all l) ∙ k.passes)
             ∙ first_pass (ok s) (length l) [] t;
       }

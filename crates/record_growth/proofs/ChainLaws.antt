@@ -1,5 +1,5 @@
 -- Whole records one after another: their places by their ends, and the places of a list of which one record has grown. Assumes nothing.
-use Rattle.std.specs.Prelude.{ℕ, ◌+◌, ◌≤◌, ◌<◌, ◌⊎◌, Bool, true, false, ◌≡◌, refl, length, ltb, leb}
+use Rattle.std.specs.Prelude.{ℕ, ◌+◌, ◌≤◌, ◌<◌, ◌⊎◌, Bool, true, false, ◌≡◌, refl, length, ltb, leb, None}
 use Rattle.std.proofs.Common.{arith, inl, inr, ⊎_elim, sym, ap, subst, ◌∙◌, ltb-true, ltb-false, le-leb}
 use mathlib.Core.List.Memᴰ
 use mathlib.Core.List.{List, [], ◌∷◌, map, Memᴰ}
@@ -8,7 +8,6 @@ use Rattle.record.specs.Bytes.{byte_at}
 use Rattle.record.specs.Records.{next, body_len, whole, places_from, places, first_bad}
 use Rattle.record.proofs.RecordsLaws.{places_all, places_step, places_cut, places_end, places_cons, whole_is, first_good}
 use Rattle.record.proofs.OneMoreLaws.{is_whole}
-use Rattle.record.specs.declared.Layout.TheVariants.{Good}
 
 -- each place is where the record before it ends, each record is whole, and the last ends with the list
 abbrev pub Chain : List ℕ → ℕ → List ℕ → Type 0
@@ -21,7 +20,7 @@ chain_places s at (p ∷ ps) c =
     let w = whole_is s at c.1 in
     places_step s at (omega arith) c.1 ∙ cc (c.0, chain_places s (next s at) ps c.2)
 
-pub places_chain : (s : List ℕ) (at : ℕ) (ps : List ℕ) → places_from s at ≡ ps → first_bad (whole s) ps ≡ Good → at ≤ length s → Chain s at ps
+pub places_chain : (s : List ℕ) (at : ℕ) (ps : List ℕ) → places_from s at ≡ ps → first_bad (whole s) ps ≡ None → at ≤ length s → Chain s at ps
 places_chain s at [] e g h = go (ltb at (length s)) refl (whole s at) refl
   where
     go : (b : Bool) → ltb at (length s) ≡ b → (w : Bool) → whole s at ≡ w → at ≡ length s
@@ -104,6 +103,6 @@ module _ (s t : List ℕ) (from k : ℕ) (g : Grows s t from k) where
           (ap (shift from k) c.0 ∙ shift_not from k at (omega arith), is_whole t at (omega (arith, w, g.longer)) (omega (arith, w, n, g.longer)), subst (λ (m : ℕ). Chain t m (map (shift from k) ps)) (sym n) (ih tail))
 
   -- the places
-  pub grown_places : first_bad (whole s) (places s) ≡ Good → Memᴰ from (places s) → places t ≡ map (shift from k) (places s)
+  pub grown_places : first_bad (whole s) (places s) ≡ None → Memᴰ from (places s) → places t ≡ map (shift from k) (places s)
   grown_places good m =
       places_all t ∙ chain_places t 0 (map (shift from k) (places s)) (grown_chain 0 (places s) m (places_chain s 0 (places s) (sym (places_all s)) good (omega arith)))

@@ -1,21 +1,15 @@
 -- Laws of checks one after the other: what passes. Assumes nothing.
-use Rattle.std.specs.Prelude.{ℕ, ◌≡◌, refl}
-use Rattle.record.specs.declared.Layout.{Layout}
-use Rattle.record.specs.declared.Layout.TheVariants.{Good, Bad}
-use Rattle.names.specs.declared.Repeat.{Repeat}
-use Rattle.names.specs.declared.Repeat.TheVariants.{None, Later}
-use Rattle.refusal.specs.Verdicts.{and_then, layout_verdict, name_verdict}
-use Rattle.refusal.specs.declared.Verdict.{Verdict}
-use Rattle.refusal.specs.declared.Verdict.TheVariants.{Pass, Stop}
+use Rattle.std.specs.Prelude.{ℕ, ◌≡◌, refl, Err, None, Ok, Option, Some}
+use Rattle.refusal.specs.Verdicts.{and_then, layout_verdict, name_verdict, Verdict}
 
-pub both_pass : (a b : Verdict) → and_then a b ≡ Pass → (a ≡ Pass) × (b ≡ Pass)
-both_pass Pass b e = (refl, e)
-both_pass (Stop r) b e = (e, cc)
+pub both_pass : (a b : Verdict) → and_then a b ≡ Ok tt → (a ≡ Ok tt) × (b ≡ Ok tt)
+both_pass (Ok tt) b e = (refl, e)
+both_pass (Err r) b e = (e, cc)
 
-pub layout_pass : (n : ℕ) (l : Layout) → layout_verdict n l ≡ Pass → l ≡ Good
-layout_pass n Good e = refl
-layout_pass n (Bad p) e = cc
+pub layout_pass : (n : ℕ) (l : Option ℕ) → layout_verdict n l ≡ Ok tt → l ≡ None
+layout_pass n None e = refl
+layout_pass n (Some p) e = cc
 
-pub name_pass : (n : ℕ) (r : Repeat) → name_verdict n r ≡ Pass → r ≡ None
+pub name_pass : (n : ℕ) (r : Option ℕ) → name_verdict n r ≡ Ok tt → r ≡ None
 name_pass n None e = refl
-name_pass n (Later p) e = cc
+name_pass n (Some p) e = cc

@@ -56,13 +56,6 @@ pub enum Refusal {
     StartPastEnd,
 }
 
-// Whether a check is passed.
-#[derive(Clone, Copy)]
-pub enum Verdict {
-    Pass,
-    Stop(Refusal),
-}
-
 // a and b, where neither is negative.
 #[derive(Clone, Copy)]
 struct Values {

@@ -1,11 +1,10 @@
 -- Laws of regions: what a layout that is kept says of each region, that regions stand one after another, that a change within one region's data moves none, and where a layout breaks. Assumes nothing.
-use Rattle.std.specs.Prelude.{ℕ, zero, suc, ◌+◌, ◌-◌, ◌≤◌, ◌<◌, List, [], ◌∷◌, Bool, true, false, ◌&&◌, ◌⊎◌, ◌≡◌, refl, length, get_or, leb, eqb, ltb}
+use Rattle.std.specs.Prelude.{ℕ, zero, suc, ◌+◌, ◌-◌, ◌≤◌, ◌<◌, List, [], ◌∷◌, Bool, true, false, ◌&&◌, ◌⊎◌, ◌≡◌, refl, length, get_or, leb, eqb, ltb, None, Some}
 use Rattle.std.proofs.Common.{add-one, arith, inl, inr, ⊎_elim, sym, ap, ◌∙◌, leb-true, ltb-true, ltb-false}
 use Rattle.std.proofs.Math.Bool.{and-eq-true_iff}
 use Rattle.record.specs.Bytes.{byte_at, le16}
 use Rattle.record.specs.Records.{body_len, kind_at, whole, next, places, places_from, first_bad, first_bad_of, limit, within_limit}
 use Rattle.record.proofs.RecordsLaws.{places_end, places_step, places_cut, places_all, places_cons, whole_is, good_at, of_good, of_place, limit_bad, limit_good, limit_kept, limit_passed}
-use Rattle.record.specs.declared.Layout.TheVariants.{Good, Bad}
 use Rattle.regions.specs.Regions.{region_ok, region_records, region_layout, region_count, region_place, region_at}
 
 -- ---- one region
@@ -119,7 +118,7 @@ ok_same s t at l b k = rw (whole_same s t at l b, k, b)
 
 records_same : (s t ps : List ℕ) → length s ≡ length t → ((n : ℕ) → n < length ps → region_ok s (get_or ps n 0) ≡ region_ok t (get_or ps n 0)) → region_records s ps ≡ region_records t ps
 unfolding region_records
-records_same s t [] l h = ap Bad l
+records_same s t [] l h = ap Some l
 records_same s t (p ∷ ps) l h = of_same 16 (region_ok s) (region_ok t) (p ∷ ps) h
 
 layout_same : (s t : List ℕ) → length s ≡ length t
@@ -133,30 +132,30 @@ layout_same s t l h =
 
 -- ---- the layout
 
-records_good : (s ps : List ℕ) → region_records s ps ≡ Good → (first_bad (region_ok s) ps ≡ Good) × (0 < length ps) × (length ps ≤ 16)
+records_good : (s ps : List ℕ) → region_records s ps ≡ None → (first_bad (region_ok s) ps ≡ None) × (0 < length ps) × (length ps ≤ 16)
 unfolding region_records
 records_good s [] g = let z : ◌≡◌ {A = ℕ} 0 1 = cc in absurd (omega arith)
 records_good s (p ∷ ps) g = let h = of_good 16 (region_ok s) (p ∷ ps) g in (h.0, omega arith, h.1)
 
-pub region_good : (s : List ℕ) → region_layout s ≡ Good
-    → (length s ≤ limit) × (first_bad (region_ok s) (places s) ≡ Good) × (0 < length (places s)) × (length (places s) ≤ 16)
+pub region_good : (s : List ℕ) → region_layout s ≡ None
+    → (length s ≤ limit) × (first_bad (region_ok s) (places s) ≡ None) × (0 < length (places s)) × (length (places s) ≤ 16)
 unfolding region_layout
 region_good s g =
     let l = limit_good s (region_records s (places s)) g in
     let r = records_good s (places s) l.1 in
     (l.0, r.0, r.1, r.2)
 
-pub region_place_ok : (s : List ℕ) (n : ℕ) → region_layout s ≡ Good → n < region_count s → region_ok s (region_place s n) ≡ true
+pub region_place_ok : (s : List ℕ) (n : ℕ) → region_layout s ≡ None → n < region_count s → region_ok s (region_place s n) ≡ true
 region_place_ok s n g h = good_at (region_ok s) (places s) (region_good s g).1 n h
 
 -- the cases of the layout
-pub layout_long : (s : List ℕ) → limit < length s → region_layout s ≡ Bad limit
+pub layout_long : (s : List ℕ) → limit < length s → region_layout s ≡ Some limit
 unfolding region_layout
 layout_long s h = limit_passed s (region_records s (places s)) h
 
-pub layout_none : (s : List ℕ) → length s ≡ 0 → region_layout s ≡ Bad 0
+pub layout_none : (s : List ℕ) → length s ≡ 0 → region_layout s ≡ Some 0
 unfolding region_layout region_records
-layout_none s h = limit_kept s (region_records s (places s)) (omega arith) ∙ rw (places_all s ∙ places_end s 0 (omega arith)) (ap Bad h)
+layout_none s h = limit_kept s (region_records s (places s)) (omega arith) ∙ rw (places_all s ∙ places_end s 0 (omega arith)) (ap Some h)
 
 pub layout_some : (s : List ℕ) → 0 < length s → length s ≤ limit → region_layout s ≡ first_bad_of 16 (region_ok s) (places_from s 0)
 unfolding region_layout
@@ -167,12 +166,12 @@ layout_some s h l = limit_kept s (region_records s (places s)) l ∙ rw (places_
     go (p ∷ ps) h = refl
 
 -- a region's data is in the list
-pub region_within : (s : List ℕ) (r : ℕ) → region_layout s ≡ Good → r < region_count s
+pub region_within : (s : List ℕ) (r : ℕ) → region_layout s ≡ None → r < region_count s
     → (region_at s (region_place s r)).start + (region_at s (region_place s r)).size ≤ length s
 region_within s r g h = let f = region_is s (region_place s r) (region_place_ok s r g h) in omega arith
 
 -- ---- a change of four bytes within one region's data
-module _ (s t : List ℕ) (r i : ℕ) (l : length s ≡ length t) (g : region_layout s ≡ Good) (hr : r < region_count s) (lo : region_place s r + 8 ≤ i)
+module _ (s t : List ℕ) (r i : ℕ) (l : length s ≡ length t) (g : region_layout s ≡ None) (hr : r < region_count s) (lo : region_place s r + 8 ≤ i)
     (hi : i + 4 ≤ next s (region_place s r)) (same : (j : ℕ) → (j < i) ⊎ (i + 4 ≤ j) → byte_at s j ≡ byte_at t j) where
   -- each region's head and address stand before the four bytes or after them
   apart : (n : ℕ) → n < region_count s → (region_place s n + 8 ≤ i) ⊎ (i + 4 ≤ region_place s n)
@@ -198,16 +197,16 @@ module _ (s t : List ℕ) (r i : ℕ) (l : length s ≡ length t) (g : region_la
       let p = region_place s n in
       (half_kept n p h (omega arith) (omega arith), half_kept n (p + 2) h (omega arith) (omega arith))
 
-  pub places_kept : (places t ≡ places s) × (region_layout t ≡ Good)
+  pub places_kept : (places t ≡ places s) × (region_layout t ≡ None)
   places_kept = (places_same s t l (λ n h. (heads_same n h).0), layout_same s t l heads_same ∙ g)
 
 -- ---- the place of a list that breaks its layout is within the limit
 
-record_place : (s ps : List ℕ) (p : ℕ) → places s ≡ ps → region_records s ps ≡ Bad p → p ≤ length s
+record_place : (s ps : List ℕ) (p : ℕ) → places s ≡ ps → region_records s ps ≡ Some p → p ≤ length s
 unfolding region_records
 record_place s [] p q e = let z : length s ≡ p = cc in omega arith
 record_place s (x ∷ ps) p q e = of_place 16 (region_ok s) s p (ap (first_bad_of 16 (region_ok s)) q ∙ e)
 
-pub region_place_lem : (s : List ℕ) (p : ℕ) → region_layout s ≡ Bad p → p ≤ limit
+pub region_place_lem : (s : List ℕ) (p : ℕ) → region_layout s ≡ Some p → p ≤ limit
 unfolding region_layout
 region_place_lem s p e = limit_bad s (region_records s (places s)) p e (record_place s (places s) p refl)

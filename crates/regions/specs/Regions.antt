@@ -1,9 +1,7 @@
 -- Region records, kind 35 (document 01, 'Label 34, region 35, entry 38'). Assumes nothing.
-use Rattle.std.specs.Prelude.{ℕ, ◌+◌, ◌-◌, List, [], ◌∷◌, Bool, ◌&&◌, length, get_or, leb, eqb}
+use Rattle.std.specs.Prelude.{ℕ, ◌+◌, ◌-◌, List, [], ◌∷◌, Bool, ◌&&◌, length, get_or, leb, eqb, Option, Some}
 use Rattle.record.specs.Bytes.{le32}
 use Rattle.record.specs.Records.{body_len, kind_at, whole, places, first_bad_of, within_limit}
-use Rattle.record.specs.declared.Layout.{Layout}
-use Rattle.record.specs.declared.Layout.TheVariants.{Bad}
 use Rattle.regions.specs.declared.Region.{Region}
 
 -- "Region: address (4), data"
@@ -11,12 +9,12 @@ unfoldable pub region_ok : List ℕ → ℕ → Bool
 region_ok s at = whole s at && (eqb (kind_at s at) 35 && leb 4 (body_len s at))
 
 -- "1 to 16 regions": without one the list's end is the place, and a seventeenth breaks the layout.
-unfoldable pub region_records : List ℕ → List ℕ → Layout
+unfoldable pub region_records : List ℕ → List ℕ → Option ℕ
 unfolding region_ok first_bad_of
-region_records s [] = Bad (length s)
+region_records s [] = Some (length s)
 region_records s (p ∷ ps) = first_bad_of 16 (region_ok s) (p ∷ ps)
 
-unfoldable pub region_layout : List ℕ → Layout
+unfoldable pub region_layout : List ℕ → Option ℕ
 unfolding region_records places within_limit
 region_layout s = within_limit s (region_records s (places s))
 

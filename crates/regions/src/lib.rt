@@ -4,7 +4,6 @@
 ghost use Rattle.std.specs.Prelude.{◌≡◌, ◌≤◌, ◌<◌, length};
 ghost use Rattle.regions.specs.Regions.{region_ok, region_layout, region_count, region_place, region_at};
 
-use record::Layout;
 
 // The record kind.
 const REGION: usize = 35;
@@ -35,32 +34,32 @@ fn region_ok(regions: &[u8], at: usize) -> bool
 }
 
 // The place of the first record that breaks the layout, the list's end where there is none, or the limit.
-pub fn first_bad_region(regions: &[u8]) -> Layout
+pub fn first_bad_region(regions: &[u8]) -> Option<usize>
     ensures { result ≡ region_layout regions.now }
 {
     if regions.len() > record::LIMIT {
-        return Layout::Bad(record::LIMIT);
+        return Some(record::LIMIT);
     }
     if regions.len() == 0 {
-        return Layout::Bad(0);
+        return Some(0);
     }
     let mut left: usize = MOST;
     let mut at: usize = 0;
     while at < regions.len() {
         if left == 0 {
-            return Layout::Bad(at);
+            return Some(at);
         }
         if !region_ok(regions, at) {
-            return Layout::Bad(at);
+            return Some(at);
         }
         at = record::next(regions, at);
         left = left - 1;
     }
-    Layout::Good
+    None
 }
 
 pub fn region_count(regions: &[u8]) -> usize
-    requires { region_layout regions.now ≡ Layout.Good }
+    requires { region_layout regions.now ≡ None }
     ensures { (result ≡ region_count regions.now) × (result ≤ 16) }
 {
     let mut count: usize = 0;
@@ -74,7 +73,7 @@ pub fn region_count(regions: &[u8]) -> usize
 
 // The region of that number.
 pub fn region_at(regions: &[u8], number: usize) -> Region
-    requires regions_value { region_layout regions.now ≡ Layout.Good }
+    requires regions_value { region_layout regions.now ≡ None }
     requires number_bound { number < region_count regions.now }
     ensures { result ≡ region_at regions.now (region_place regions.now number) }
 {

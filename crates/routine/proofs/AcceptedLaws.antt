@@ -1,13 +1,10 @@
 -- An accepted emit call, taken apart: its lists passed, its line was made and has room, and its outcome is the line's. Assumes nothing.
-use Rattle.std.specs.Prelude.{ℕ}
+use Rattle.std.specs.Prelude.{ℕ, Err, None, Ok}
 use Rattle.std.proofs.Common.{arith, ◌∙◌}
 use Rattle.std.proofs.Math.Path.{◌≡◌, refl, sym, ap}
 use Rattle.jobs.specs.declared.Job.{Job}
-use Rattle.record.specs.declared.Layout.TheVariants.{Good}
-use Rattle.refusal.specs.Verdicts.{layout_verdict, name_verdict}
+use Rattle.refusal.specs.Verdicts.{layout_verdict, name_verdict, Verdict}
 use Rattle.refusal.proofs.VerdictsLaws.{both_pass, layout_pass}
-use Rattle.refusal.specs.declared.Verdict.{Verdict}
-use Rattle.refusal.specs.declared.Verdict.TheVariants.{Pass, Stop}
 use Rattle.lexer.specs.Tokens.{token_layout, tokens}
 use Rattle.descriptors.specs.Mnemonics.{mnemonic_layout, mnemonic_name, mnemonic_location}
 use Rattle.descriptors.specs.Descriptors.{descriptor_layout, descriptor_repeat, instruction_at}
@@ -33,12 +30,12 @@ call_stop c = list_stop c.token_list c.mnemonic c.descriptors c.lent c.numbers.p
 
 -- the layouts of a call's lists that pass
 pub record ListsPass (c : Call) : Type 0 where
-  pub tokens_good : token_layout c.token_list ≡ Good
-  pub data_good : data_buffer_layout c.numbers.place.region c.numbers.counts.data_len c.lent.region_data ≡ Good
-  pub pending_good : pending_buffer_layout c.numbers.counts.pending c.lent.pending ≡ Good
-  pub breakpoints_good : breakpoint_buffer_layout c.numbers.counts.breakpoints c.lent.breakpoints ≡ Good
+  pub tokens_good : token_layout c.token_list ≡ None
+  pub data_good : data_buffer_layout c.numbers.place.region c.numbers.counts.data_len c.lent.region_data ≡ None
+  pub pending_good : pending_buffer_layout c.numbers.counts.pending c.lent.pending ≡ None
+  pub breakpoints_good : breakpoint_buffer_layout c.numbers.counts.breakpoints c.lent.breakpoints ≡ None
 
-pub lists_pass : (c : Call) → call_stop c ≡ Pass → ListsPass c
+pub lists_pass : (c : Call) → call_stop c ≡ Ok tt → ListsPass c
 unfolding list_stop layout_stop
 lists_pass c e =
     let counts = c.numbers.counts in
@@ -68,10 +65,10 @@ module _ (c : Call) where
 
   pub record LinePasses (made : Line) : Type 0 where
     pub made_is : made.answer ≡ Made
-    pub passes : stop_of made ≡ Pass
+    pub passes : stop_of made ≡ Ok tt
     pub outcome_is : call_line c made ≡ accept_line c made
 
-  answer_made : (made : Line) (a : LineAnswer) → answer_stop c.token_list (mnemonic_location c.mnemonic) c.numbers c.lent made.pairs a ≡ Pass → a ≡ Made
+  answer_made : (made : Line) (a : LineAnswer) → answer_stop c.token_list (mnemonic_location c.mnemonic) c.numbers c.lent made.pairs a ≡ Ok tt → a ≡ Made
   answer_made made Made e = refl
   answer_made made (Missed m) e = cc
   answer_made made (OutOfRange fault) e = cc
@@ -84,8 +81,8 @@ module _ (c : Call) where
       outcome = accept_or c.token_list (mnemonic_location c.mnemonic) c.numbers c.lent made
 
       go : (v : Verdict) → stop_of made ≡ v → (outcome v).answer ≡ Done position loaded → LinePasses made
-      go Pass p d = record { made_is = answer_made made made.answer p; passes = p; outcome_is = ap outcome p }
-      go (Stop r) p d = let z : ◌≡◌ {A = ℕ} 0 1 = cc in absurd (omega arith)
+      go (Ok tt) p d = record { made_is = answer_made made made.answer p; passes = p; outcome_is = ap outcome p }
+      go (Err r) p d = let z : ◌≡◌ {A = ℕ} 0 1 = cc in absurd (omega arith)
 
 module _ (job : Job) (c : Call) where
   -- ---- the call
@@ -99,7 +96,7 @@ module _ (job : Job) (c : Call) where
     pub outcome_is : emit_outcome job c ≡ accept_line c made
 
   module _ (position : ℕ) (loaded : LoadForm) (bytes : Bytes c.token_list) where
-    accepted_as : call_stop c ≡ Pass → (m : Meaning) → meaning c.descriptors (mnemonic_name c.mnemonic) ≡ m → (meaning_outcome job c m).answer ≡ Done position loaded → AcceptedCall
+    accepted_as : call_stop c ≡ Ok tt → (m : Meaning) → meaning c.descriptors (mnemonic_name c.mnemonic) ≡ m → (meaning_outcome job c m).answer ≡ Done position loaded → AcceptedCall
     unfolding emit_outcome call_pairs table_line
     accepted_as s (Table p) e d =
         let ts = tokens c.token_list in
@@ -135,5 +132,5 @@ module _ (job : Job) (c : Call) where
     accepted d = go (call_stop c) refl d
       where
         go : (v : Verdict) → call_stop c ≡ v → (list_outcome job c v).answer ≡ Done position loaded → AcceptedCall
-        go Pass s d = accepted_as s (meaning c.descriptors (mnemonic_name c.mnemonic)) refl d
-        go (Stop r) s d = let z : ◌≡◌ {A = ℕ} 0 1 = cc in absurd (omega arith)
+        go (Ok tt) s d = accepted_as s (meaning c.descriptors (mnemonic_name c.mnemonic)) refl d
+        go (Err r) s d = let z : ◌≡◌ {A = ℕ} 0 1 = cc in absurd (omega arith)

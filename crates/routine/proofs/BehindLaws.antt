@@ -1,12 +1,11 @@
 -- Records written behind a list, as values: the list's own are as before, and those of what was written follow them. Assumes nothing.
-use Rattle.std.specs.Prelude.{ℕ, ◌+◌, ◌*◌, ◌^◌, ◌≤◌, ◌<◌, ◌≡◌, refl}
+use Rattle.std.specs.Prelude.{ℕ, ◌+◌, ◌*◌, ◌^◌, ◌≤◌, ◌<◌, ◌≡◌, refl, None, Option, Some}
 use Rattle.std.proofs.Common.{arith, sym, ◌∙◌}
 use Rattle.std.proofs.Math.Path.{ap, ap₂, subst}
 use mathlib.Core.List.{List, [], ◌∷◌, ◌++◌, map, append_assoc, append-nil, Memᴰ}
 use Rattle.std.proofs.Math.ListN.{length}
 use Rattle.record.specs.Records.{places, first_bad}
 use Rattle.record.specs.Stores.{LocationFits}
-use Rattle.record.specs.declared.Layout.TheVariants.{Good}
 use Rattle.record.specs.declared.Location.{Location}
 use Rattle.address_label.specs.LabelBytes.{name_bytes}
 use Rattle.address_label.proofs.Written.{label_as_read}
@@ -20,12 +19,11 @@ use Rattle.breakpoints.specs.Breakpoints.{breakpoint_ok}
 use Rattle.breakpoints.specs.BreakpointBytes.{pcs_from, breakpoint_bytes, BreakpointFits}
 use Rattle.breakpoints.proofs.Written.{written_behind as written_breakpoint}
 use Rattle.emit_pairs.specs.declared.InstructionPair.{InstructionPair}
-use Rattle.emit_pairs.specs.declared.PairLabel.{PairLabel}
-use Rattle.emit_pairs.specs.declared.PairLabel.TheVariants.{Nothing, Some}
 use Rattle.emit_bytes.specs.Appended.{onward, pair_bytes, pendings_bytes}
 use Rattle.routine.specs.PatchValues.{Patch, target_of, patch_of, patch_at, patches_in, origin_at, patch_to, pair_patches, patches_from}
 use Rattle.routine.specs.BreakpointValues.{Breakpoint, breakpoint_at, breakpoints_in}
 use Rattle.routine.proofs.WordLaws.{PairFits, PairsFit}
+use Rattle.pending.specs.declared.InstructionLabel.{InstructionLabel}
 
 -- ---- lists of values
 
@@ -65,11 +63,11 @@ next_origin origin i = at_offset origin ((origin_at origin i).offset + 4) (origi
 module _ (regions : ℕ) where
   -- a list of pendings, with these patches behind it
   pub record Behind (old new : List ℕ) (patches : List Patch) : Type 0 where
-    pub keeps : first_bad (pending_ok regions new) (places new) ≡ Good
+    pub keeps : first_bad (pending_ok regions new) (places new) ≡ None
     pub patches_are : patches_in new ≡ patches_in old ++ patches
 
   abbrev Kept : List ℕ → Type 0
-  Kept s = first_bad (pending_ok regions s) (places s) ≡ Good
+  Kept s = first_bad (pending_ok regions s) (places s) ≡ None
 
   none_behind : (old : List ℕ) → Kept old → Behind old (old ++ []) []
   none_behind old kept = subst (λ (new : List ℕ). Behind old new []) (sym (append-nil old)) (record { keeps = kept; patches_are = sym (append-nil (patches_in old)) })
@@ -87,10 +85,10 @@ module _ (regions : ℕ) where
     pub location_fits : LocationFits origin.location
 
   module _ (names : List ℕ) where
-    one_behind : (old : List ℕ) (origin : Origin) (waits : PairLabel) → Kept old → OriginFits origin → origin.offset < 2 ^ 32 → PairFits names waits
+    one_behind : (old : List ℕ) (origin : Origin) (waits : Option InstructionLabel) → Kept old → OriginFits origin → origin.offset < 2 ^ 32 → PairFits names waits
         → Behind old (old ++ pair_bytes names origin waits) (pair_patches names origin waits)
     unfolding patches_in
-    one_behind old origin Nothing kept fits o h = none_behind old kept
+    one_behind old origin None kept fits o h = none_behind old kept
     one_behind old origin (Some waits) kept fits o h =
         let w = written_behind regions old names origin waits kept fits.region_ok (record { region_fits = fits.region_fits; offset_fits = o; location_fits = fits.location_fits; label_fits = h }) in
         let new = old ++ pending_bytes names origin waits in
@@ -127,13 +125,13 @@ module _ (regions : ℕ) where
 
 -- ---- the breakpoint record of a line
 pub record BreakpointBehind (old new : List ℕ) (breakpoint : Breakpoint) : Type 0 where
-  pub keeps : first_bad (breakpoint_ok new) (places new) ≡ Good
+  pub keeps : first_bad (breakpoint_ok new) (places new) ≡ None
   pub breakpoints_are : breakpoints_in new ≡ breakpoints_in old ++ breakpoint ∷ []
 
 abbrev pub breakpoint_of : Location → (pcs : List ℕ) → Breakpoint
 breakpoint_of location pcs = record { location = location; pcs = pcs }
 
-pub breakpoint_follows : (old : List ℕ) (location : Location) (pc n : ℕ) → first_bad (breakpoint_ok old) (places old) ≡ Good → BreakpointFits location pc n
+pub breakpoint_follows : (old : List ℕ) (location : Location) (pc n : ℕ) → first_bad (breakpoint_ok old) (places old) ≡ None → BreakpointFits location pc n
     → BreakpointBehind old (old ++ breakpoint_bytes location pc n) (breakpoint_of location (pcs_from n pc))
 unfolding breakpoints_in
 breakpoint_follows old location pc n kept fits =

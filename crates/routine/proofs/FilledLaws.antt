@@ -1,12 +1,11 @@
 -- Laws of a buffer that bytes were appended to: its length, its filled part and its layout; and of a region number that is selected. Assumes nothing.
-use Rattle.std.specs.Prelude.{ℕ, ◌+◌, ◌≤◌, ◌<◌, ◌≡◌, refl, List, ◌++◌, Bool, true, false, length, take, leb, eqb}
+use Rattle.std.specs.Prelude.{ℕ, ◌+◌, ◌≤◌, ◌<◌, ◌≡◌, refl, List, ◌++◌, Bool, true, false, length, take, leb, eqb, None}
 use Rattle.std.proofs.Common.{arith, ◌∙◌, length-append, length-drop, leb-true}
 use Rattle.std.proofs.Math.ListN.{length-take}
 use Rattle.record.specs.Records.{places, first_bad, limit}
 use Rattle.record.proofs.RecordsLaws.{limit_kept}
 use Rattle.record.specs.Stores.{append, filled_with}
 use Rattle.record.proofs.StoresLaws.{filled_append}
-use Rattle.record.specs.declared.Layout.TheVariants.{Good}
 use Rattle.pending.specs.Pendings.{pending_ok, pending_layout}
 use Rattle.breakpoints.specs.Breakpoints.{region_number_ok, data_buffer_layout, pending_buffer_layout, breakpoint_buffer_layout, breakpoint_ok}
 use Rattle.breakpoints.proofs.BreakpointsLaws.{filled_kept, data_layout}
@@ -28,19 +27,19 @@ module _ (d : List ℕ) (fill : ℕ) (bs : List ℕ) (room : fill + length bs �
 
 -- ---- the layouts of the three buffers, by their filled parts
 module _ (fill : ℕ) (s : List ℕ) (short : length s ≤ limit) (filled : fill ≤ length s) where
-  pub data_passes : (region : ℕ) → region_number_ok region ≡ true → data_buffer_layout region fill s ≡ Good
-  data_passes region e = data_layout fill s region e ∙ filled_kept fill s Good short filled
+  pub data_passes : (region : ℕ) → region_number_ok region ≡ true → data_buffer_layout region fill s ≡ None
+  data_passes region e = data_layout fill s region e ∙ filled_kept fill s None short filled
 
-  pub pending_passes : first_bad (pending_ok 16 (take fill s)) (places (take fill s)) ≡ Good → pending_buffer_layout fill s ≡ Good
+  pub pending_passes : first_bad (pending_ok 16 (take fill s)) (places (take fill s)) ≡ None → pending_buffer_layout fill s ≡ None
   unfolding pending_buffer_layout
   pending_passes g = filled_kept fill s (first_bad (pending_ok 16 (take fill s)) (places (take fill s))) short filled ∙ g
 
-  pub breakpoints_pass : first_bad (breakpoint_ok (take fill s)) (places (take fill s)) ≡ Good → breakpoint_buffer_layout fill s ≡ Good
+  pub breakpoints_pass : first_bad (breakpoint_ok (take fill s)) (places (take fill s)) ≡ None → breakpoint_buffer_layout fill s ≡ None
   unfolding breakpoint_buffer_layout
   breakpoints_pass g = filled_kept fill s (first_bad (breakpoint_ok (take fill s)) (places (take fill s))) short filled ∙ g
 
   -- as a build's list
-  pub build_passes : (regions : ℕ) → first_bad (pending_ok regions (take fill s)) (places (take fill s)) ≡ Good → pending_layout regions (take fill s) ≡ Good
+  pub build_passes : (regions : ℕ) → first_bad (pending_ok regions (take fill s)) (places (take fill s)) ≡ None → pending_layout regions (take fill s) ≡ None
   unfolding pending_layout
   build_passes regions g =
       limit_kept (take fill s) (first_bad (pending_ok regions (take fill s)) (places (take fill s))) (omega (arith, length-take fill s)) ∙ g

@@ -1,14 +1,13 @@
 -- The patches of a line begin where the data ended before it, and lie inside the data that its words are appended to. Assumes nothing.
-use Rattle.std.specs.Prelude.{ℕ, ◌+◌, ◌*◌, ◌≤◌, ◌≡◌, refl, ◌⊎◌, length}
+use Rattle.std.specs.Prelude.{ℕ, ◌+◌, ◌*◌, ◌≤◌, ◌≡◌, refl, ◌⊎◌, length, None, Option, Some}
 use Rattle.std.proofs.Common.{arith, inl, inr}
 use mathlib.Core.List.Memᴰ
 use mathlib.Core.List.{List, [], ◌∷◌, ◌++◌, map, Memᴰ}
 use Rattle.pending.specs.declared.Origin.{Origin}
 use Rattle.emit_pairs.specs.declared.InstructionPair.{InstructionPair}
-use Rattle.emit_pairs.specs.declared.PairLabel.{PairLabel}
-use Rattle.emit_pairs.specs.declared.PairLabel.TheVariants.{Nothing, Some}
 use Rattle.routine.specs.PatchValues.{Patch, origin_at, pair_patches, patches_from}
 use Rattle.routine.specs.Run.{Each}
+use Rattle.pending.specs.declared.InstructionLabel.{InstructionLabel}
 
 module _ {A : Type 0} where
   pub each_append : (P : A → Type 0) (xs ys : List A) → Each P xs → Each P ys → Each P (xs ++ ys)
@@ -32,8 +31,8 @@ each_mem P f (x ∷ xs) q e m = go (Memᴰ.cases_cons m) (each_mem P f xs q e.1)
 abbrev pub Before : (region end : ℕ) → Patch → Type 0
 Before region end p = (p.region ≡ region) × (p.offset + 4 ≤ end)
 
-one_before : (token_list : List ℕ) (word : Origin) (end : ℕ) (waits : PairLabel) → word.offset + 4 ≤ end → Each (Before word.region end) (pair_patches token_list word waits)
-one_before token_list word end Nothing h = tt
+one_before : (token_list : List ℕ) (word : Origin) (end : ℕ) (waits : Option InstructionLabel) → word.offset + 4 ≤ end → Each (Before word.region end) (pair_patches token_list word waits)
+one_before token_list word end None h = tt
 one_before token_list word end (Some waits) h = ((refl, h), tt)
 
 pub patches_before : (token_list : List ℕ) (origin : Origin) (i end : ℕ) (ps : List InstructionPair) → origin.offset + 4 * (i + length ps) ≤ end
@@ -48,8 +47,8 @@ patches_before token_list origin i end (p ∷ ps) h =
 abbrev pub Behind : (region offset : ℕ) → Patch → Type 0
 Behind region offset p = (p.region ≡ region) × (offset ≤ p.offset)
 
-one_behind : (token_list : List ℕ) (word : Origin) (offset : ℕ) (waits : PairLabel) → offset ≤ word.offset → Each (Behind word.region offset) (pair_patches token_list word waits)
-one_behind token_list word offset Nothing h = tt
+one_behind : (token_list : List ℕ) (word : Origin) (offset : ℕ) (waits : Option InstructionLabel) → offset ≤ word.offset → Each (Behind word.region offset) (pair_patches token_list word waits)
+one_behind token_list word offset None h = tt
 one_behind token_list word offset (Some waits) h = ((refl, h), tt)
 
 pub patches_behind : (token_list : List ℕ) (origin : Origin) (i offset : ℕ) (ps : List InstructionPair) → offset ≤ origin.offset + 4 * i

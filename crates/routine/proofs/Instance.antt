@@ -1,5 +1,5 @@
 -- The premises can be met: a routine of three lines in two regions, and what the theorem says there. Assumes nothing.
-use Rattle.std.specs.Prelude.{ℕ, ◌≡◌, refl, List, [], ◌∷◌, ◌++◌, true, ltb}
+use Rattle.std.specs.Prelude.{ℕ, ◌≡◌, refl, List, [], ◌∷◌, ◌++◌, true, ltb, None, Ok}
 use Rattle.std.proofs.Common.{arith, ◌∙◌}
 use Rattle.jobs.specs.declared.Job.{Job}
 use Rattle.jobs.specs.declared.Job.TheVariants.{Commit}
@@ -7,8 +7,6 @@ use Rattle.record.specs.Bytes.{all, same_bytes}
 use Rattle.record.specs.Records.{places_f, places_from, places, first_bad, first_bad_of, within_limit}
 use Rattle.record.specs.Stores.{le32_bytes, location_bytes, record_bytes, append}
 use Rattle.record.specs.declared.Location.{Location}
-use Rattle.record.specs.declared.Layout.TheVariants.{Good}
-use Rattle.refusal.specs.declared.Verdict.TheVariants.{Pass}
 use Rattle.names.specs.Names.{first_where, first_later}
 use Rattle.loading.specs.declared.LoadForm.TheVariants.{Nothing as Unloaded, BothHalves}
 use Rattle.loading.specs.Load.{is_small, form_of, load_words}
@@ -133,11 +131,11 @@ pub example_fits : RoutineFits example start
 example_fits = routine_fits example start example_empty example_bytes computed.accepted
 
 -- b loop may come again, and a build of two regions takes what there is
-pub example_next : lists_of b (run example start) ≡ Pass
+pub example_next : lists_of b (run example start) ≡ Ok tt
 unfolding token_layout token_ok payload_of payload_ok mnemonic_layout one_mnemonic mnemonic_ok descriptor_layout first_later places_f places_from places first_bad first_bad_of within_limit all
 example_next = example_fits.next_passes b (record { tokens_good = refl; mnemonic_good = refl; descriptors_good = refl; names_apart = refl; region_ok = refl })
 
-pub example_build : pending_layout 2 (filled (run example start).pending) ≡ Good
+pub example_build : pending_layout 2 (filled (run example start).pending) ≡ None
 example_build = example_fits.build_takes 2 (omega arith, (omega arith, (omega arith, tt)))
 
 pub example_words : filled ((run example start).region_data 0) ≡ words

@@ -1,9 +1,8 @@
 -- What an accepted line leaves is taken by the next call and by a build, and reads as what was there and then the line's own
 -- (document 01: "the filled parts of the last two are checked as lists"). Assumes nothing.
-use Rattle.std.specs.Prelude.{ℕ, ◌+◌, ◌*◌, ◌<◌, ◌≡◌, List, [], ◌∷◌, ◌++◌, true, length, take}
+use Rattle.std.specs.Prelude.{ℕ, ◌+◌, ◌*◌, ◌<◌, ◌≡◌, List, [], ◌∷◌, ◌++◌, true, length, take, None}
 use Rattle.std.proofs.Common.{sym, subst}
 use Rattle.jobs.specs.declared.Job.{Job}
-use Rattle.record.specs.declared.Layout.TheVariants.{Good}
 use Rattle.pending.specs.Pendings.{pending_layout}
 use Rattle.breakpoints.specs.Breakpoints.{region_number_ok, data_buffer_layout, pending_buffer_layout, breakpoint_buffer_layout}
 use Rattle.emit_bytes.specs.Appended.{word_bytes}
@@ -31,14 +30,14 @@ filled_breakpoints lent counts = take counts.breakpoints lent.breakpoints
 
 pub record LineFits (job : Job) (c : Call) (o : EmitOutcome) : Type 0 where
   -- the next call's checks of the three buffers pass
-  pub data_good : (region : ℕ) → region_number_ok region ≡ true → data_buffer_layout region o.counts.data_len o.lent.region_data ≡ Good
-  pub pending_good : pending_buffer_layout o.counts.pending o.lent.pending ≡ Good
-  pub breakpoints_good : breakpoint_buffer_layout o.counts.breakpoints o.lent.breakpoints ≡ Good
+  pub data_good : (region : ℕ) → region_number_ok region ≡ true → data_buffer_layout region o.counts.data_len o.lent.region_data ≡ None
+  pub pending_good : pending_buffer_layout o.counts.pending o.lent.pending ≡ None
+  pub breakpoints_good : breakpoint_buffer_layout o.counts.breakpoints o.lent.breakpoints ≡ None
   -- "in an emit call a pending needs 0 to 15"
   pub region_below : c.numbers.place.region < 16
   -- a build of enough regions that takes the earlier pendings takes these
-  pub build_takes : (regions : ℕ) → c.numbers.place.region < regions → pending_layout regions (filled_pending c.lent c.numbers.counts) ≡ Good
-      → pending_layout regions (filled_pending o.lent o.counts) ≡ Good
+  pub build_takes : (regions : ℕ) → c.numbers.place.region < regions → pending_layout regions (filled_pending c.lent c.numbers.counts) ≡ None
+      → pending_layout regions (filled_pending o.lent o.counts) ≡ None
   -- the data grows by the line's words
   pub data_grown : o.counts.data_len ≡ c.numbers.counts.data_len + 4 * length (call_pairs job c)
   -- what is read is what was there before, and then the line's

@@ -1,15 +1,12 @@
 -- Lemmas on an accepted call: the room it has, and what its bytes leave in each buffer. Assumes nothing.
-use Rattle.std.specs.Prelude.{ℕ, ◌+◌, ◌*◌, ◌^◌, ◌<◌, ◌≤◌, ◌≡◌, refl, List, [], ◌∷◌, ◌++◌, Bool, true, false, length, take, eqb}
+use Rattle.std.specs.Prelude.{ℕ, ◌+◌, ◌*◌, ◌^◌, ◌<◌, ◌≤◌, ◌≡◌, refl, List, [], ◌∷◌, ◌++◌, Bool, true, false, length, take, eqb, Err, None, Ok}
 use Rattle.std.proofs.Common.{arith, sym, ap, subst, ◌∙◌}
 use Rattle.jobs.specs.declared.Job.{Job}
 use Rattle.record.specs.Records.{places, first_bad, limit}
 use Rattle.record.specs.Stores.{LocationFits, append, filled_with}
-use Rattle.record.specs.declared.Layout.TheVariants.{Good}
 use Rattle.record.specs.declared.Location.{Location}
 use Rattle.refusal.proofs.VerdictsLaws.{both_pass}
 use Rattle.refusal.specs.declared.Refusal.TheVariants.{MissingRegion}
-use Rattle.refusal.specs.declared.Verdict.{Verdict}
-use Rattle.refusal.specs.declared.Verdict.TheVariants.{Pass, Stop}
 use Rattle.descriptors.specs.Mnemonics.{mnemonic_location}
 use Rattle.pending.specs.Pendings.{pending_ok, pending_layout}
 use Rattle.pending.proofs.PendingsLaws.{pending_good}
@@ -33,9 +30,10 @@ use Rattle.routine.proofs.TokenLaws.{location_fits}
 use Rattle.routine.proofs.BehindLaws.{OriginFits, Behind, pendings_behind, BreakpointBehind, breakpoint_of, breakpoint_follows}
 use Rattle.routine.proofs.AcceptedLaws.{AcceptedCall}
 use Rattle.routine.proofs.FilledLaws.{still_short, filled_within, filled_is, data_passes, pending_passes, breakpoints_pass, build_passes, selected_below}
+use Rattle.refusal.specs.Verdicts.{Verdict}
 
 -- a check that passes finds a region selected
-some_region : (line : Location) (b : Bool) → ◌≡◌ {A = Verdict} (elim b [ true ↦ Stop (MissingRegion line) | false ↦ Pass ]) Pass → b ≡ false
+some_region : (line : Location) (b : Bool) → ◌≡◌ {A = Verdict} (elim b [ true ↦ Err (MissingRegion line) | false ↦ Ok tt ]) (Ok tt) → b ≡ false
 some_region line true e = cc
 some_region line false e = refl
 
@@ -49,7 +47,7 @@ module _ (job : Job) (c : Call) (a : AcceptedCall job c) (mnemonic : Bytes c.mne
   abbrev pairs : List InstructionPair
   pairs = a.made.pairs
 
-  room_passes : room_stop c.token_list line c.numbers c.lent pairs ≡ Pass
+  room_passes : room_stop c.token_list line c.numbers c.lent pairs ≡ Ok tt
   room_passes = line_room c.token_list line c.numbers c.lent a.made a.line.passes
 
   room : RoomFor c.numbers c.lent (length pairs) (pendings_len c.token_list pairs)
@@ -74,7 +72,7 @@ module _ (job : Job) (c : Call) (a : AcceptedCall job c) (mnemonic : Bytes c.mne
   data_room : counts.data_len + length (word_bytes pairs) ≤ length c.lent.region_data
   data_room = omega (arith, room.data_fits, data_count)
 
-  pub data_after : (region : ℕ) → region_number_ok region ≡ true → data_buffer_layout region (counts.data_len + 4 * length pairs) (append c.lent.region_data counts.data_len (word_bytes pairs)) ≡ Good
+  pub data_after : (region : ℕ) → region_number_ok region ≡ true → data_buffer_layout region (counts.data_len + 4 * length pairs) (append c.lent.region_data counts.data_len (word_bytes pairs)) ≡ None
   data_after region e =
       let d = c.lent.region_data in
       let bs = word_bytes pairs in
@@ -97,13 +95,13 @@ module _ (job : Job) (c : Call) (a : AcceptedCall job c) (mnemonic : Bytes c.mne
   abbrev pendings : List ℕ
   pendings = take counts.pending c.lent.pending
 
-  pending_before : (length c.lent.pending ≤ limit) × (counts.pending ≤ length c.lent.pending) × (first_bad (pending_ok 16 pendings) (places pendings) ≡ Good)
+  pending_before : (length c.lent.pending ≤ limit) × (counts.pending ≤ length c.lent.pending) × (first_bad (pending_ok 16 pendings) (places pendings) ≡ None)
   pending_before = pending_buffer_good counts.pending c.lent.pending a.lists.pending_good
 
   pending_room : counts.pending + length waits ≤ length c.lent.pending
   pending_room = omega (arith, room.pending_fits, pendings_length c.token_list (call_origin c) pairs)
 
-  behind : (regions : ℕ) → c.numbers.place.region < regions → first_bad (pending_ok regions pendings) (places pendings) ≡ Good
+  behind : (regions : ℕ) → c.numbers.place.region < regions → first_bad (pending_ok regions pendings) (places pendings) ≡ None
       → Behind regions pendings (filled_with c.lent.pending counts.pending waits) (patches_from c.token_list (call_origin c) 0 pairs)
   behind regions h kept =
       subst (λ (new : List ℕ). Behind regions pendings new (patches_from c.token_list (call_origin c) 0 pairs)) (sym (filled_is c.lent.pending counts.pending waits pending_room))
@@ -115,7 +113,7 @@ module _ (job : Job) (c : Call) (a : AcceptedCall job c) (mnemonic : Bytes c.mne
   pub pending_is : filled_with c.lent.pending counts.pending waits ≡ take counts.pending c.lent.pending ++ waits
   pending_is = filled_is c.lent.pending counts.pending waits pending_room
 
-  pub pending_kept : first_bad (pending_ok 16 (take counts.pending c.lent.pending)) (places (take counts.pending c.lent.pending)) ≡ Good
+  pub pending_kept : first_bad (pending_ok 16 (take counts.pending c.lent.pending)) (places (take counts.pending c.lent.pending)) ≡ None
   pending_kept = pending_before.2
 
   pub origin_fits : OriginFits 16 (call_origin c)
@@ -124,7 +122,7 @@ module _ (job : Job) (c : Call) (a : AcceptedCall job c) (mnemonic : Bytes c.mne
   pub offsets_fit : counts.data_len + 4 * length pairs ≤ 2 ^ 32
   offsets_fit = omega (arith, room.data_fits, data_before.1)
 
-  pub pending_after : pending_buffer_layout (counts.pending + length waits) (append c.lent.pending counts.pending waits) ≡ Good
+  pub pending_after : pending_buffer_layout (counts.pending + length waits) (append c.lent.pending counts.pending waits) ≡ None
   pending_after =
       pending_passes (counts.pending + length waits) (append c.lent.pending counts.pending waits)
       (still_short c.lent.pending counts.pending waits pending_room pending_before.0) (filled_within c.lent.pending counts.pending waits pending_room)
@@ -135,8 +133,8 @@ module _ (job : Job) (c : Call) (a : AcceptedCall job c) (mnemonic : Bytes c.mne
       (behind 16 region_selected pending_before.2).patches_are
       ∙ ap (λ (ps : List InstructionPair). patches_in pendings ++ patches_from c.token_list (call_origin c) 0 ps) a.pairs_are
 
-  pub build_after : (regions : ℕ) → c.numbers.place.region < regions → pending_layout regions pendings ≡ Good
-      → pending_layout regions (filled_with c.lent.pending counts.pending waits) ≡ Good
+  pub build_after : (regions : ℕ) → c.numbers.place.region < regions → pending_layout regions pendings ≡ None
+      → pending_layout regions (filled_with c.lent.pending counts.pending waits) ≡ None
   build_after regions h g =
       build_passes (counts.pending + length waits) (append c.lent.pending counts.pending waits)
       (still_short c.lent.pending counts.pending waits pending_room pending_before.0) (filled_within c.lent.pending counts.pending waits pending_room)
@@ -152,7 +150,7 @@ module _ (job : Job) (c : Call) (a : AcceptedCall job c) (mnemonic : Bytes c.mne
   abbrev first_pc_lem : ℕ
   first_pc_lem = c.numbers.place.address + counts.data_len
 
-  breakpoints_before : (length c.lent.breakpoints ≤ limit) × (counts.breakpoints ≤ length c.lent.breakpoints) × (first_bad (breakpoint_ok breakpoints) (places breakpoints) ≡ Good)
+  breakpoints_before : (length c.lent.breakpoints ≤ limit) × (counts.breakpoints ≤ length c.lent.breakpoints) × (first_bad (breakpoint_ok breakpoints) (places breakpoints) ≡ None)
   breakpoints_before = breakpoint_buffer_good counts.breakpoints c.lent.breakpoints a.lists.breakpoints_good
 
   breakpoints_room : counts.breakpoints + length pcs ≤ length c.lent.breakpoints
@@ -164,7 +162,7 @@ module _ (job : Job) (c : Call) (a : AcceptedCall job c) (mnemonic : Bytes c.mne
       (breakpoint_follows breakpoints line first_pc_lem (length pairs) breakpoints_before.2
       (record { location_fits = location_within; least = a.words.at_least; most = a.words.at_most; pcs_fit = room.last_pc a.words.at_least }))
 
-  pub breakpoints_after : breakpoint_buffer_layout (counts.breakpoints + length pcs) (append c.lent.breakpoints counts.breakpoints pcs) ≡ Good
+  pub breakpoints_after : breakpoint_buffer_layout (counts.breakpoints + length pcs) (append c.lent.breakpoints counts.breakpoints pcs) ≡ None
   breakpoints_after =
       breakpoints_pass (counts.breakpoints + length pcs) (append c.lent.breakpoints counts.breakpoints pcs)
       (still_short c.lent.breakpoints counts.breakpoints pcs breakpoints_room breakpoints_before.0) (filled_within c.lent.breakpoints counts.breakpoints pcs breakpoints_room)

@@ -1,22 +1,16 @@
 -- What the operand readers give of tokens that fit: each label fits a pending record. Assumes nothing.
-use Rattle.std.specs.Prelude.{ℕ, ◌^◌, ◌<◌, List, Bool, length, get_or, ltb}
+use Rattle.std.specs.Prelude.{ℕ, ◌^◌, ◌<◌, List, Bool, length, get_or, ltb, None, Option, Some}
 use Rattle.std.proofs.Common.{arith}
 use Rattle.std.proofs.Math.Bool.{true, false}
 use Rattle.record.specs.Stores.{LocationFits}
 use Rattle.record.specs.declared.Location.{Location}
 use Rattle.registers.specs.declared.RegisterSlot.{RegisterSlot}
 use Rattle.lexer.specs.Views.{as_integer, as_symbol}
-use Rattle.lexer.specs.declared.MaybeInteger.{MaybeInteger}
-use Rattle.lexer.specs.declared.MaybeInteger.TheVariants.{Some as SomeInteger, Nothing as NoInteger}
-use Rattle.lexer.specs.declared.MaybeText.{MaybeText}
-use Rattle.lexer.specs.declared.MaybeText.TheVariants.{Some as SomeText, Nothing as NoText}
 use Rattle.lexer.specs.declared.Text.{Text}
 use Rattle.lexer.specs.declared.Token.{Token}
 use Rattle.address_label.specs.LabelBytes.{LabelFits}
 use Rattle.address_label.specs.declared.AddressLabel.{AddressLabel}
 use Rattle.cursor.specs.Cursors.{At, no_token, seek, peek, step, next_adjacent, peek_adjacent}
-use Rattle.cursor.specs.declared.Seen.{Seen}
-use Rattle.cursor.specs.declared.Seen.TheVariants.{Met, End}
 use Rattle.operand.specs.Answers.{Answer, Got, Missed, Asked, here}
 use Rattle.operand.specs.declared.OffsetOrLabel.{OffsetOrLabel}
 use Rattle.operand.specs.declared.OffsetOrLabel.TheVariants.{Label as LabelAlone, Offset}
@@ -41,9 +35,9 @@ module _ (names : List ℕ) where
   OffsetFits (LabelAlone label) = LabelFits names label
   OffsetFits (Offset label r) = LabelFits names label
 
-  abbrev SeenFits : Seen → Type 0
-  SeenFits End = Unit {0}
-  SeenFits (Met t) = TokenFits names t
+  abbrev SeenFits : Option Token → Type 0
+  SeenFits None = Unit {0}
+  SeenFits (Some t) = TokenFits names t
 
   -- the labels of an operand fit
   abbrev pub AskedFits : (w : Want) → Asked w → Type 0
@@ -67,14 +61,14 @@ either P false p q = q
 
 -- ---- numbers
 
-sign_fits : (minus : Bool) (back next : ℕ) (m : MaybeInteger) → IntegerFits m → IntegerFits (literal_met minus back next m).answer
-sign_fits true back next (SomeInteger n) h = omega arith
-sign_fits false back next (SomeInteger n) h = h
-sign_fits minus back next NoInteger h = tt
+sign_fits : (minus : Bool) (back next : ℕ) (m : Option ℕ) → IntegerFits m → IntegerFits (literal_met minus back next m).answer
+sign_fits true back next (Some n) h = omega arith
+sign_fits false back next (Some n) h = h
+sign_fits minus back next None h = tt
 
-constant_met_lem : (t : Token) (m : MaybeInteger) → IntegerFits m → Of Small (constant_met t m)
-constant_met_lem t (SomeInteger n) h = h
-constant_met_lem t NoInteger h = tt
+constant_met_lem : (t : Token) (m : Option ℕ) → IntegerFits m → Of Small (constant_met t m)
+constant_met_lem t (Some n) h = h
+constant_met_lem t None h = tt
 
 -- ---- labels
 
@@ -94,9 +88,9 @@ module _ (names : List ℕ) where
   alone_fits (Got label) h = h
   alone_fits (Missed m) h = tt
 
-  closed_fits : (label : AddressLabel) (r : RegisterSlot) → LabelFits names label → (seen : Seen) → Of (OffsetFits names) (closed_seen label r seen)
-  closed_fits label r h End = tt
-  closed_fits label r h (Met t) = either (Of (OffsetFits names)) (is_kind 15 t) h tt
+  closed_fits : (label : AddressLabel) (r : RegisterSlot) → LabelFits names label → (seen : Option Token) → Of (OffsetFits names) (closed_seen label r seen)
+  closed_fits label r h None = tt
+  closed_fits label r h (Some t) = either (Of (OffsetFits names)) (is_kind 15 t) h tt
 
 -- ---- the readers on tokens that fit
 
@@ -109,9 +103,9 @@ module _ (names : List ℕ) (ts : List Token) (fit : (i : ℕ) → TokenFits nam
   unfolding next_adjacent
   next_fits i = peek_fits (seek ts i)
 
-  literal_fits : (minus : Bool) (back next : ℕ) (seen : Seen) → SeenFits names seen → IntegerFits (literal_seen minus back next seen).answer
-  literal_fits minus back next End h = tt
-  literal_fits minus back next (Met t) h = sign_fits minus back next (as_integer t.kind) h.integer_fits
+  literal_fits : (minus : Bool) (back next : ℕ) (seen : Option Token) → SeenFits names seen → IntegerFits (literal_seen minus back next seen).answer
+  literal_fits minus back next None h = tt
+  literal_fits minus back next (Some t) h = sign_fits minus back next (as_integer t.kind) h.integer_fits
 
   signed_fits : (minus : Bool) (i : ℕ) → IntegerFits (signed minus ts i).answer
   unfolding signed
@@ -120,12 +114,12 @@ module _ (names : List ℕ) (ts : List Token) (fit : (i : ℕ) → TokenFits nam
   integer_fits : (t : Token) → TokenFits names t → (i : ℕ) → IntegerFits (get_integer t ts i).answer
   unfolding get_integer
   integer_fits t h i =
-      either (λ (x : At MaybeInteger). IntegerFits x.answer) (is_kind 9 t) (signed_fits false i)
-      (either (λ (x : At MaybeInteger). IntegerFits x.answer) (is_kind 10 t) (signed_fits true i) h.integer_fits)
+      either (λ (x : At (Option ℕ)). IntegerFits x.answer) (is_kind 9 t) (signed_fits false i)
+      (either (λ (x : At (Option ℕ)). IntegerFits x.answer) (is_kind 10 t) (signed_fits true i) h.integer_fits)
 
-  constant_seen : (i : ℕ) (seen : Seen) → SeenFits names seen → Of Small (number_seen constant_met ts i seen).answer
-  constant_seen i End h = tt
-  constant_seen i (Met t) h = constant_met_lem t (get_integer t ts i).answer (integer_fits t h i)
+  constant_seen : (i : ℕ) (seen : Option Token) → SeenFits names seen → Of Small (number_seen constant_met ts i seen).answer
+  constant_seen i None h = tt
+  constant_seen i (Some t) h = constant_met_lem t (get_integer t ts i).answer (integer_fits t h i)
 
   constant_fits : (i : ℕ) → Of Small (get_constant ts i).answer
   unfolding get_constant
@@ -140,7 +134,7 @@ module _ (names : List ℕ) (ts : List Token) (fit : (i : ℕ) → TokenFits nam
   abbrev OffsetAt : At (Answer OffsetOrLabel) → Type 0
   OffsetAt x = Of (OffsetFits names) x.answer
 
-  plus_seen_lem : (x : Text) (l : Location) → TextFits names x → LocationFits l → (i : ℕ) (ahead : At Seen) → LabelAt (plus_seen x l ts i ahead)
+  plus_seen_lem : (x : Text) (l : Location) → TextFits names x → LocationFits l → (i : ℕ) (ahead : At (Option Token)) → LabelAt (plus_seen x l ts i ahead)
   plus_seen_lem x l h p i ahead =
       let j = step ts ahead.index in
       either LabelAt (is_met 9 ahead.answer) (plus_fits names x l h p (get_constant ts j).answer (constant_fits j)) (named_fits names x l 0 h p (omega arith))
@@ -149,21 +143,21 @@ module _ (names : List ℕ) (ts : List Token) (fit : (i : ℕ) → TokenFits nam
   unfolding symbol_label
   symbol_fits x l h p i = plus_seen_lem x l h p i (peek_adjacent ts i)
 
-  symbol_met_lem : (t : Token) → TokenFits names t → (i : ℕ) (m : MaybeText) → SymbolFits names m → LabelAt (symbol_met t ts i m)
-  symbol_met_lem t h i (SomeText x) f = symbol_fits x t.location f h.place_fits i
-  symbol_met_lem t h i NoText f = tt
+  symbol_met_lem : (t : Token) → TokenFits names t → (i : ℕ) (m : Option Text) → SymbolFits names m → LabelAt (symbol_met t ts i m)
+  symbol_met_lem t h i (Some x) f = symbol_fits x t.location f h.place_fits i
+  symbol_met_lem t h i None f = tt
 
-  label_met_lem : (t : Token) → TokenFits names t → (i : ℕ) (m : MaybeInteger) → IntegerFits m → LabelAt (label_met t ts i m)
-  label_met_lem t h i (SomeInteger n) f = f
-  label_met_lem t h i NoInteger f = symbol_met_lem t h i (as_symbol t.kind) h.symbol_fits
+  label_met_lem : (t : Token) → TokenFits names t → (i : ℕ) (m : Option ℕ) → IntegerFits m → LabelAt (label_met t ts i m)
+  label_met_lem t h i (Some n) f = f
+  label_met_lem t h i None f = symbol_met_lem t h i (as_symbol t.kind) h.symbol_fits
 
   first_fits : (t : Token) → TokenFits names t → (i : ℕ) → LabelAt (to_label t ts i)
   unfolding to_label
   first_fits t h i = label_met_lem t h (get_integer t ts i).index (get_integer t ts i).answer (integer_fits t h i)
 
-  label_seen_lem : (i : ℕ) (seen : Seen) → SeenFits names seen → LabelAt (label_seen ts i seen)
-  label_seen_lem i End h = tt
-  label_seen_lem i (Met t) h = first_fits t h i
+  label_seen_lem : (i : ℕ) (seen : Option Token) → SeenFits names seen → LabelAt (label_seen ts i seen)
+  label_seen_lem i None h = tt
+  label_seen_lem i (Some t) h = first_fits t h i
 
   label_fits : (i : ℕ) → LabelAt (get_label ts i)
   unfolding get_label
@@ -179,7 +173,7 @@ module _ (names : List ℕ) (ts : List Token) (fit : (i : ℕ) → TokenFits nam
   unfolding braced
   braced_fits label h i = braced_by_lem label h (get_register ts i).index (get_register ts i).answer
 
-  brace_seen_lem : (label : Answer AddressLabel) → Of (LabelFits names) label → (ahead : At Seen) → OffsetAt (brace_seen label ts ahead)
+  brace_seen_lem : (label : Answer AddressLabel) → Of (LabelFits names) label → (ahead : At (Option Token)) → OffsetAt (brace_seen label ts ahead)
   brace_seen_lem label h ahead =
       either OffsetAt (is_met 14 ahead.answer) (braced_fits (or_zero label) (zero_fits names label h) (step ts ahead.index)) (alone_fits names label h)
 

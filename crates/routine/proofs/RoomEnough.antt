@@ -1,12 +1,10 @@
 -- How much room is enough for any line: what `line_grows` says that one adds at most, in data short of its limit. Assumes nothing.
-use Rattle.std.specs.Prelude.{ℕ, ◌+◌, ◌≤◌, length}
+use Rattle.std.specs.Prelude.{ℕ, ◌+◌, ◌≤◌, length, Err, Ok}
 use native.Mathlib.Omega.{arith}
 use Rattle.std.proofs.Math.Path.{◌≡◌, refl}
 use Rattle.jobs.specs.declared.Job.{Job}
 use Rattle.record.specs.declared.Location.{Location}
 use Rattle.refusal.specs.declared.Refusal.TheVariants.{NoSpace}
-use Rattle.refusal.specs.declared.Verdict.{Verdict}
-use Rattle.refusal.specs.declared.Verdict.TheVariants.{Pass, Stop}
 use Rattle.lexer.specs.Tokens.{tokens}
 use Rattle.descriptors.specs.Mnemonics.{mnemonic_name, mnemonic_location}
 use Rattle.descriptors.specs.Descriptors.{instruction_at}
@@ -30,6 +28,7 @@ use Rattle.routine.proofs.WordLaws.{Words, encoding_made, pseudo_made}
 use Rattle.routine.proofs.AcceptedLaws.{call_stop, ListsPass, lists_pass}
 use Rattle.routine.proofs.WaitsLaws.{waits, waits_bytes, meaning_waits}
 use Rattle.routine.proofs.SpaceLaws.{Other, lists_other, miss_other, fault_other, room_other}
+use Rattle.refusal.specs.Verdicts.{Verdict}
 
 pub record Roomy (counts : FillCounts) (lent : Lent) : Type 0 where
   pub data_room : counts.data_len + 20 ≤ length lent.region_data
@@ -61,8 +60,8 @@ module _ (job : Job) (c : Call) (roomy : Roomy c.numbers.counts c.lent) where
   outcome_other made other l a position e = go (line_stop c.token_list line c.numbers c.lent made) refl e
     where
       go : (v : Verdict) → line_stop c.token_list line c.numbers c.lent made ≡ v → (accept_or c.token_list line c.numbers c.lent made v).answer ≡ Refused (NoSpace l a) position → ⊥
-      go Pass s f = let z : ◌≡◌ {A = ℕ} 0 1 = cc in omega arith
-      go (Stop r) s f = other l a cc
+      go (Ok tt) s f = let z : ◌≡◌ {A = ℕ} 0 1 = cc in omega arith
+      go (Err r) s f = other l a cc
 
   meaning_other : Bytes c.token_list → ListsPass c → (m : Meaning) (l : Location) (a position : ℕ) → (meaning_outcome job c m).answer ≡ Refused (NoSpace l a) position → ⊥
   unfolding table_line
@@ -85,5 +84,5 @@ module _ (job : Job) (c : Call) (roomy : Roomy c.numbers.counts c.lent) where
   room_enough bytes l a position e = go (call_stop c) refl e
     where
       go : (v : Verdict) → call_stop c ≡ v → (list_outcome job c v).answer ≡ Refused (NoSpace l a) position → ⊥
-      go (Stop r) s f = lists_other c.token_list c.mnemonic c.descriptors c.lent c.numbers.place.region c.numbers.counts l a cc
-      go Pass s f = meaning_other bytes (lists_pass c s) (meaning c.descriptors (mnemonic_name c.mnemonic)) l a position f
+      go (Err r) s f = lists_other c.token_list c.mnemonic c.descriptors c.lent c.numbers.place.region c.numbers.counts l a cc
+      go (Ok tt) s f = meaning_other bytes (lists_pass c s) (meaning c.descriptors (mnemonic_name c.mnemonic)) l a position f

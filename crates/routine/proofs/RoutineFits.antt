@@ -1,11 +1,7 @@
 -- Lines and a build fit together: what a routine of accepted lines leaves, begun on empty buffers, is taken by a next line and by a build
 -- (document 01: "1. A record breaks the layout"; "2. Two descriptors .. share a name"). Assumes nothing.
-use Rattle.std.specs.Prelude.{ℕ, ◌<◌, ◌≡◌, List, ◌++◌, true}
+use Rattle.std.specs.Prelude.{ℕ, ◌<◌, ◌≡◌, List, ◌++◌, true, None, Ok}
 use Rattle.std.proofs.Common.{ap, ◌∙◌}
-use Rattle.record.specs.declared.Layout.TheVariants.{Good}
-use Rattle.names.specs.declared.Repeat.TheVariants.{None}
-use Rattle.refusal.specs.declared.Verdict.{Verdict}
-use Rattle.refusal.specs.declared.Verdict.TheVariants.{Pass}
 use Rattle.lexer.specs.Tokens.{token_layout}
 use Rattle.descriptors.specs.Mnemonics.{mnemonic_layout}
 use Rattle.descriptors.specs.Descriptors.{descriptor_layout, descriptor_repeat}
@@ -17,6 +13,7 @@ use Rattle.routine.specs.PatchValues.{Patch, patches_in}
 use Rattle.routine.specs.BreakpointValues.{Breakpoint, breakpoints_in}
 use Rattle.routine.specs.Run.{filled, Buffers, RoutineLine, call_on, run, AllAccepted, Each, OfBytes, AllEmpty, routine_words, routine_patches, routine_breakpoints, Inside}
 use Rattle.routine.proofs.RoutineLaws.{Sound, empty_filled, empty_sound, empty_taken, no_patches, no_breakpoints, run_fits}
+use Rattle.refusal.specs.Verdicts.{Verdict}
 
 -- checks 1 and 2 of a line on these buffers
 abbrev pub lists_of : RoutineLine → Buffers → Verdict
@@ -26,18 +23,18 @@ lists_of l b =
 
 -- a line whose own lists and region number these checks pass
 pub record GoodLine (l : RoutineLine) : Type 0 where
-  pub tokens_good : token_layout l.token_list ≡ Good
-  pub mnemonic_good : mnemonic_layout l.mnemonic ≡ Good
-  pub descriptors_good : descriptor_layout l.descriptors ≡ Good
+  pub tokens_good : token_layout l.token_list ≡ None
+  pub mnemonic_good : mnemonic_layout l.mnemonic ≡ None
+  pub descriptors_good : descriptor_layout l.descriptors ≡ None
   pub names_apart : descriptor_repeat l.descriptors ≡ None
   pub region_ok : region_number_ok l.place.region ≡ true
 
 pub record RoutineFits (lines : List RoutineLine) (start : Buffers) : Type 0 where
   -- a next line is not refused with 1 or 2 for what the lines wrote
-  pub next_passes : (l : RoutineLine) → GoodLine l → lists_of l (run lines start) ≡ Pass
+  pub next_passes : (l : RoutineLine) → GoodLine l → lists_of l (run lines start) ≡ Ok tt
   -- a build takes the filled pendings where its regions are more than those that the lines selected, and 16 always are
-  pub build_takes : (regions : ℕ) → Each (λ l. l.place.region < regions) lines → pending_layout regions (filled (run lines start).pending) ≡ Good
-  pub sixteen_take : pending_layout 16 (filled (run lines start).pending) ≡ Good
+  pub build_takes : (regions : ℕ) → Each (λ l. l.place.region < regions) lines → pending_layout regions (filled (run lines start).pending) ≡ None
+  pub sixteen_take : pending_layout 16 (filled (run lines start).pending) ≡ None
   -- none of the patches "ends past its region's data"
   pub patches_inside : Each (Inside (run lines start)) (routine_patches lines start)
   -- what is filled are the words of the lines that selected a region, and the patches and the breakpoints of all lines, in order
@@ -45,7 +42,7 @@ pub record RoutineFits (lines : List RoutineLine) (start : Buffers) : Type 0 whe
   pub patches_are : patches_in (filled (run lines start).pending) ≡ routine_patches lines start
   pub breakpoints_are : breakpoints_in (filled (run lines start).breakpoints) ≡ routine_breakpoints lines start
 
-sound_passes : (l : RoutineLine) (b : Buffers) → GoodLine l → Sound b → lists_of l b ≡ Pass
+sound_passes : (l : RoutineLine) (b : Buffers) → GoodLine l → Sound b → lists_of l b ≡ Ok tt
 sound_passes l b g s =
     let c = call_on l b in
     let region = l.place.region in

@@ -1,9 +1,8 @@
 -- Laws of a routine: a line leaves buffers that keep their layouts, and so do the lines one after the other. Assumes nothing.
-use Rattle.std.specs.Prelude.{ℕ, ◌≤◌, ◌<◌, ◌≡◌, refl, List, [], ◌∷◌, ◌++◌, Bool, true, false, cond, length, take, eqb}
+use Rattle.std.specs.Prelude.{ℕ, ◌≤◌, ◌<◌, ◌≡◌, refl, List, [], ◌∷◌, ◌++◌, Bool, true, false, cond, length, take, eqb, None}
 use Rattle.std.proofs.Common.{arith, sym, subst, ◌∙◌, append_assoc, append-nil, eqb-true}
 use Rattle.std.proofs.Math.Path.{ap}
 use Rattle.record.specs.Records.{places_f, places_from, places, first_bad}
-use Rattle.record.specs.declared.Layout.TheVariants.{Good}
 use Rattle.pending.specs.Pendings.{pending_ok, pending_layout}
 use Rattle.breakpoints.specs.Breakpoints.{breakpoint_ok, region_number_ok, data_buffer_layout, pending_buffer_layout, breakpoint_buffer_layout}
 use Rattle.emit_bytes.specs.Appended.{word_bytes}
@@ -18,12 +17,12 @@ use Rattle.routine.proofs.RunChainLaws.{run_chained}
 
 -- buffers that keep their layouts
 pub record Sound (b : Buffers) : Type 0 where
-  pub data_good : (r region : ℕ) → region_number_ok region ≡ true → data_buffer_layout region (b.region_data r).fill (b.region_data r).bytes ≡ Good
-  pub pending_good : pending_buffer_layout b.pending.fill b.pending.bytes ≡ Good
-  pub breakpoints_good : breakpoint_buffer_layout b.breakpoints.fill b.breakpoints.bytes ≡ Good
+  pub data_good : (r region : ℕ) → region_number_ok region ≡ true → data_buffer_layout region (b.region_data r).fill (b.region_data r).bytes ≡ None
+  pub pending_good : pending_buffer_layout b.pending.fill b.pending.bytes ≡ None
+  pub breakpoints_good : breakpoint_buffer_layout b.breakpoints.fill b.breakpoints.bytes ≡ None
 
 abbrev Taken : ℕ → Buffers → Type 0
-Taken regions b = pending_layout regions (filled b.pending) ≡ Good
+Taken regions b = pending_layout regions (filled b.pending) ≡ None
 
 -- what holds of both buffers holds of the one that a test picks
 one_of : (P : Buffer → Type 0) {x y : Buffer} (t : Bool) → P x → P y → P (cond t x y)
@@ -33,7 +32,7 @@ one_of P false p q = q
 pub after_sound : (l : RoutineLine) (b : Buffers) → Sound b → LineFits l.job (call_on l b) (emit_outcome l.job (call_on l b)) → Sound (after_line l b)
 after_sound l b s f = record {
   data_good = λ r region e.
-      one_of (λ (d : Buffer). data_buffer_layout region d.fill d.bytes ≡ Good) (eqb r l.place.region) (f.data_good region e) (s.data_good r region e);
+      one_of (λ (d : Buffer). data_buffer_layout region d.fill d.bytes ≡ None) (eqb r l.place.region) (f.data_good region e) (s.data_good r region e);
   pending_good = f.pending_good;
   breakpoints_good = f.breakpoints_good;
 }
@@ -54,7 +53,7 @@ after_words l b f region = go (eqb region l.place.region) refl
 pub empty_filled : (b : Buffer) → Empty b → filled b ≡ []
 empty_filled b e = ap (λ (n : ℕ). take n b.bytes) e.none_filled
 
-none_bad : (ok : ℕ → Bool) → first_bad ok (places []) ≡ Good
+none_bad : (ok : ℕ → Bool) → first_bad ok (places []) ≡ None
 unfolding places places_from places_f first_bad
 none_bad ok = refl
 
@@ -62,23 +61,23 @@ module _ (b : Buffer) (e : Empty b) where
   filled_within : b.fill ≤ length b.bytes
   filled_within = omega (arith, e.none_filled)
 
-  pub empty_data : (region : ℕ) → region_number_ok region ≡ true → data_buffer_layout region b.fill b.bytes ≡ Good
+  pub empty_data : (region : ℕ) → region_number_ok region ≡ true → data_buffer_layout region b.fill b.bytes ≡ None
   empty_data region h = data_passes b.fill b.bytes e.within filled_within region h
 
-  pub empty_pending : pending_buffer_layout b.fill b.bytes ≡ Good
+  pub empty_pending : pending_buffer_layout b.fill b.bytes ≡ None
   empty_pending =
       pending_passes b.fill b.bytes e.within filled_within
-      (subst (λ (s : List ℕ). first_bad (pending_ok 16 s) (places s) ≡ Good) (sym (empty_filled b e)) (none_bad (pending_ok 16 [])))
+      (subst (λ (s : List ℕ). first_bad (pending_ok 16 s) (places s) ≡ None) (sym (empty_filled b e)) (none_bad (pending_ok 16 [])))
 
-  pub empty_taken : (regions : ℕ) → pending_layout regions (filled b) ≡ Good
+  pub empty_taken : (regions : ℕ) → pending_layout regions (filled b) ≡ None
   empty_taken regions =
       build_passes b.fill b.bytes e.within filled_within regions
-      (subst (λ (s : List ℕ). first_bad (pending_ok regions s) (places s) ≡ Good) (sym (empty_filled b e)) (none_bad (pending_ok regions [])))
+      (subst (λ (s : List ℕ). first_bad (pending_ok regions s) (places s) ≡ None) (sym (empty_filled b e)) (none_bad (pending_ok regions [])))
 
-  pub empty_breakpoints : breakpoint_buffer_layout b.fill b.bytes ≡ Good
+  pub empty_breakpoints : breakpoint_buffer_layout b.fill b.bytes ≡ None
   empty_breakpoints =
       breakpoints_pass b.fill b.bytes e.within filled_within
-      (subst (λ (s : List ℕ). first_bad (breakpoint_ok s) (places s) ≡ Good) (sym (empty_filled b e)) (none_bad (breakpoint_ok [])))
+      (subst (λ (s : List ℕ). first_bad (breakpoint_ok s) (places s) ≡ None) (sym (empty_filled b e)) (none_bad (breakpoint_ok [])))
 
   -- it holds no record
   pub no_patches : patches_in (filled b) ≡ []

@@ -1,16 +1,10 @@
 -- Lemmas on which checks of an emit call may be refusal 12: only those of its room. Assumes nothing.
-use Rattle.std.specs.Prelude.{ℕ, zero, suc, ◌+◌, ◌*◌, ◌^◌, ◌-◌, ◌≤◌, ◌≡◌, List, Bool, true, false, length, leb, eqb}
+use Rattle.std.specs.Prelude.{ℕ, zero, suc, ◌+◌, ◌*◌, ◌^◌, ◌-◌, ◌≤◌, ◌≡◌, List, Bool, true, false, length, leb, eqb, Err, None, Ok, Option, Some}
 use Rattle.std.proofs.Common.{arith, ap₂, le-leb}
 use Rattle.std.proofs.Math.Bool.{◌&&◌}
-use Rattle.record.specs.declared.Layout.{Layout}
-use Rattle.record.specs.declared.Layout.TheVariants.{Good, Bad}
 use Rattle.record.specs.declared.Location.{Location}
-use Rattle.names.specs.declared.Repeat.{Repeat}
-use Rattle.names.specs.declared.Repeat.TheVariants.{None, Later}
-use Rattle.refusal.specs.Verdicts.{and_then, layout_verdict, name_verdict}
+use Rattle.refusal.specs.Verdicts.{and_then, layout_verdict, name_verdict, Verdict}
 use Rattle.refusal.specs.declared.Refusal.TheVariants.{MissingRegion, OverwriteEdge, NoSpace}
-use Rattle.refusal.specs.declared.Verdict.{Verdict}
-use Rattle.refusal.specs.declared.Verdict.TheVariants.{Pass, Stop}
 use Rattle.operand.specs.declared.Miss.{Miss}
 use Rattle.operand.specs.declared.Miss.TheVariants.{EndOfFile, ExpectedRegister, ExpectedConstant, ExpectedLabel, ExpectedRightBrace}
 use Rattle.descriptors.specs.Descriptors.{descriptor_repeat, descriptor_layout}
@@ -29,25 +23,25 @@ use Rattle.emit_outcome.specs.declared.LineNumbers.{LineNumbers}
 
 -- a check that is not refusal 12
 abbrev pub Other : Verdict → Type 0
-Other v = (line : Location) (a : ℕ) → v ≡ Stop (NoSpace line a) → ⊥
+Other v = (line : Location) (a : ℕ) → v ≡ Err (NoSpace line a) → ⊥
 
 unlike : ◌≡◌ {A = ℕ} 0 1 → ⊥
 unlike e = omega arith
 
-pub pass_other : Other Pass
+pub pass_other : Other (Ok tt)
 pass_other line a e = unlike cc
 
 then_other : (v w : Verdict) → Other v → Other w → Other (and_then v w)
-then_other Pass w h i = i
-then_other (Stop r) w h i = h
+then_other (Ok tt) w h i = i
+then_other (Err r) w h i = h
 
-layout_other : (n : ℕ) (l : Layout) → Other (layout_verdict n l)
-layout_other n Good = pass_other
-layout_other n (Bad p) = λ line a e. unlike cc
+layout_other : (n : ℕ) (l : Option ℕ) → Other (layout_verdict n l)
+layout_other n None = pass_other
+layout_other n (Some p) = λ line a e. unlike cc
 
-name_other : (n : ℕ) (r : Repeat) → Other (name_verdict n r)
+name_other : (n : ℕ) (r : Option ℕ) → Other (name_verdict n r)
 name_other n None = pass_other
-name_other n (Later p) = λ line a e. unlike cc
+name_other n (Some p) = λ line a e. unlike cc
 
 pub lists_other : (token_list mnemonic descriptors : List ℕ) (lent : Lent) (region : ℕ) (counts : FillCounts) → Other (list_stop token_list mnemonic descriptors lent region counts)
 unfolding list_stop layout_stop
@@ -61,14 +55,14 @@ lists_other token_list mnemonic descriptors lent region counts =
     (layout_other 5 (breakpoint_buffer_layout counts.breakpoints lent.breakpoints)))))))
     (name_other 2 (descriptor_repeat descriptors))
 
-pub miss_other : (line : Location) (m : Miss) → Other (Stop (miss_refusal line m))
+pub miss_other : (line : Location) (m : Miss) → Other (Err (miss_refusal line m))
 miss_other line EndOfFile = λ l a e. unlike cc
 miss_other line (ExpectedRegister kind met) = λ l a e. unlike cc
 miss_other line (ExpectedConstant kind met) = λ l a e. unlike cc
 miss_other line (ExpectedLabel kind met) = λ l a e. unlike cc
 miss_other line (ExpectedRightBrace kind met) = λ l a e. unlike cc
 
-pub fault_other : (line : Location) (fault : Fault) → Other (Stop (fault_refusal line fault))
+pub fault_other : (line : Location) (fault : Fault) → Other (Err (fault_refusal line fault))
 fault_other line Immediate = λ l a e. unlike cc
 fault_other line ShiftAmount = λ l a e. unlike cc
 fault_other line ConditionCode = λ l a e. unlike cc
@@ -77,7 +71,7 @@ fault_other line Dropped = λ l a e. unlike cc
 region_other : (line : Location) (region : ℕ) → Other (region_stop line region)
 region_other line region = go (eqb region no_region)
   where
-    go : (b : Bool) → Other (elim b [ true ↦ Stop (MissingRegion line) | false ↦ Pass ])
+    go : (b : Bool) → Other (elim b [ true ↦ Err (MissingRegion line) | false ↦ Ok tt ])
     go true = λ l a e. unlike cc
     go false = pass_other
 
@@ -86,7 +80,7 @@ unfolding edge_stop
 edge_other line address zero size = pass_other
 edge_other line address (suc n) size = go (leb (address + size) (2 ^ 32 - 1)) (edge_other line address n (size + 4))
   where
-    go : (b : Bool) → Other (edge_stop line address n (size + 4)) → Other (elim b [ true ↦ edge_stop line address n (size + 4) | false ↦ Stop (OverwriteEdge line address size) ])
+    go : (b : Bool) → Other (edge_stop line address n (size + 4)) → Other (elim b [ true ↦ edge_stop line address n (size + 4) | false ↦ Err (OverwriteEdge line address size) ])
     go true h = h
     go false h = λ l a e. unlike cc
 

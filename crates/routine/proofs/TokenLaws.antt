@@ -1,5 +1,5 @@
 -- What a token of a list that keeps its layout holds: numbers that fit eight bytes, names of 1 to 64 text bytes. Assumes nothing.
-use Rattle.std.specs.Prelude.{ℕ, zero, suc, ◌+◌, ◌^◌, ◌≤◌, ◌<◌, ◌≡◌, List, [], ◌∷◌, map, ◌&&◌, length, get_or}
+use Rattle.std.specs.Prelude.{ℕ, zero, suc, ◌+◌, ◌^◌, ◌≤◌, ◌<◌, ◌≡◌, List, [], ◌∷◌, map, ◌&&◌, length, get_or, None, Option, Some}
 use Rattle.std.proofs.Common.{arith, subst, length-take, length-drop}
 use Rattle.std.proofs.Math.Bool.{true, and-eq-true_iff}
 use Rattle.std.proofs.Math.Dec.{leb}
@@ -8,14 +8,9 @@ use Rattle.record.specs.Bytes.{le64, location_at, part, is_text, all}
 use Rattle.record.specs.Records.{body_len, kind_at, whole, places, first_bad}
 use Rattle.record.proofs.RecordsLaws.{whole_is, first_good}
 use Rattle.record.specs.Stores.{LocationFits}
-use Rattle.record.specs.declared.Layout.TheVariants.{Good}
 use Rattle.lexer.specs.Tokens.{payload_len, text_of, payload_of, payload_ok, token_ok, token_layout, text_at, kinds_at, token_at, tokens}
 use Rattle.lexer.proofs.TokensLaws.{token_good}
 use Rattle.lexer.specs.Views.{as_integer, as_symbol}
-use Rattle.lexer.specs.declared.MaybeInteger.{MaybeInteger}
-use Rattle.lexer.specs.declared.MaybeInteger.TheVariants.{Some as SomeInteger, Nothing as NoInteger}
-use Rattle.lexer.specs.declared.MaybeText.{MaybeText}
-use Rattle.lexer.specs.declared.MaybeText.TheVariants.{Some as SomeText, Nothing as NoText}
 use Rattle.lexer.specs.declared.Payload.TheVariants.{Number, Name}
 use Rattle.lexer.specs.declared.Text.{Text}
 use Rattle.lexer.specs.declared.Token.{Token}
@@ -41,13 +36,13 @@ pub record TextFits (s : List ℕ) (x : Text) : Type 0 where
   pub most : length (part s x.start x.len) ≤ 64
   pub text : all is_text (part s x.start x.len) ≡ true
 
-abbrev pub IntegerFits : MaybeInteger → Type 0
-IntegerFits (SomeInteger n) = n < 2 ^ 64
-IntegerFits NoInteger = Unit {0}
+abbrev pub IntegerFits : Option ℕ → Type 0
+IntegerFits (Some n) = n < 2 ^ 64
+IntegerFits None = Unit {0}
 
-abbrev pub SymbolFits : List ℕ → MaybeText → Type 0
-SymbolFits s (SomeText x) = TextFits s x
-SymbolFits s NoText = Unit {0}
+abbrev pub SymbolFits : List ℕ → Option Text → Type 0
+SymbolFits s (Some x) = TextFits s x
+SymbolFits s None = Unit {0}
 
 pub record TokenFits (s : List ℕ) (t : Token) : Type 0 where
   pub place_fits : LocationFits t.location
@@ -84,8 +79,8 @@ module _ (s : List ℕ) (at : ℕ) (bytes : Bytes s) where
   kinds_fit : whole s at ≡ true → 8 ≤ body_len s at → EachAt KindFits 0 (kinds_at s at)
   unfolding payload_of
   kinds_fit w h =
-      let number : payload_ok Number s at ≡ true → IntegerFits (SomeInteger (le64 s (at + 12))) × Unit {0} = λ e. (le64_fits s bytes (at + 12), tt) in
-      let name : payload_ok Name s at ≡ true → Unit {0} × SymbolFits s (SomeText (text_at s at)) = λ e. (tt, named w h e) in
+      let number : payload_ok Number s at ≡ true → IntegerFits (Some (le64 s (at + 12))) × Unit {0} = λ e. (le64_fits s bytes (at + 12), tt) in
+      let name : payload_ok Name s at ≡ true → Unit {0} × SymbolFits s (Some (text_at s at)) = λ e. (tt, named w h e) in
       (neither, (neither, (neither, (neither, (neither, (number, (neither, (neither, (name, (neither, (neither, (neither, (neither, (neither, (neither, (neither, tt))))))))))))))))
 
   -- so it is with the kind at any number
@@ -107,11 +102,11 @@ module _ (s : List ℕ) (at : ℕ) (bytes : Bytes s) where
       record { place_fits = location_fits s bytes (at + 4); integer_fits = k.0; symbol_fits = k.1 }
 
 -- each token of a list that keeps its layout, and the one past its end
-each_fits : (s : List ℕ) → Bytes s → (ps : List ℕ) → first_bad (token_ok s) ps ≡ Good → (i : ℕ) → TokenFits s (get_or (map (token_at s) ps) i no_token)
+each_fits : (s : List ℕ) → Bytes s → (ps : List ℕ) → first_bad (token_ok s) ps ≡ None → (i : ℕ) → TokenFits s (get_or (map (token_at s) ps) i no_token)
 each_fits s bytes [] g i = record { place_fits = record { source_fits = omega arith; index_fits = omega arith }; integer_fits = tt; symbol_fits = tt }
 each_fits s bytes (p ∷ ps) g zero = token_fits s p bytes (first_good (token_ok s) p ps g).0
 each_fits s bytes (p ∷ ps) g (suc i) = each_fits s bytes ps (first_good (token_ok s) p ps g).1 i
 
-pub tokens_fit : (s : List ℕ) → Bytes s → token_layout s ≡ Good → (i : ℕ) → TokenFits s (get_or (tokens s) i no_token)
+pub tokens_fit : (s : List ℕ) → Bytes s → token_layout s ≡ None → (i : ℕ) → TokenFits s (get_or (tokens s) i no_token)
 unfolding tokens
 tokens_fit s bytes g i = each_fits s bytes (places s) (token_good s g).1 i

@@ -1,14 +1,11 @@
 -- Lemmas on how many words of a line wait for a label: an address takes two, and no line more. Assumes nothing.
-use Rattle.std.specs.Prelude.{ℕ, ◌+◌, ◌*◌, ◌%◌, ◌≤◌, ◌≡◌, refl, List, [], ◌∷◌, ◌++◌, map, Bool, true, false, length}
+use Rattle.std.specs.Prelude.{ℕ, ◌+◌, ◌*◌, ◌%◌, ◌≤◌, ◌≡◌, refl, List, [], ◌∷◌, ◌++◌, map, Bool, true, false, length, None, Ok, Result, Some, Option}
 use native.Mathlib.Omega.{arith}
-use Rattle.std.proofs.Math.Option.{Option, none, some}
 use Rattle.jobs.specs.declared.Job.{Job}
 use Rattle.registers.specs.Numbers.{register_number}
 use Rattle.registers.specs.declared.RegisterSlot.{RegisterSlot}
 use Rattle.instructions.specs.declared.Opcode.{Opcode}
 use Rattle.instructions.specs.declared.Opcode.TheVariants.{Op, Func}
-use Rattle.instructions.specs.declared.Alternative.{Alternative}
-use Rattle.instructions.specs.declared.Alternative.TheVariants.{Nothing as NoAlternative, Some as SomeAlternative}
 use Rattle.instructions.specs.declared.Encoding.{Encoding}
 use Rattle.instructions.specs.declared.Encoding.TheVariants.{Register, RegisterShift, Source, Destination, Inputs, Sham, SpecialBranch, Immediate, LoadImmediate, Jump, Branch, BranchZero, Parameterless, Offset, FPOffset, FP3Register, FP2Register, FPMove, FPCond, FPCrossMove, FPBranch}
 use Rattle.pseudo_names.specs.declared.Pseudo.{Pseudo}
@@ -30,10 +27,6 @@ use Rattle.operand.specs.declared.OffsetOrLabel.TheVariants.{Label as LabelAlone
 use Rattle.operand_list.specs.OperandLists.{AskedAll, read_operands}
 use Rattle.emit_words.specs.Words.{immediate_word}
 use Rattle.emit_pairs.specs.declared.InstructionPair.{InstructionPair}
-use Rattle.emit_pairs.specs.declared.PairLabel.{PairLabel}
-use Rattle.emit_pairs.specs.declared.PairLabel.TheVariants.{Nothing, Some}
-use Rattle.emit_pairs.specs.declared.Range.{Range}
-use Rattle.emit_pairs.specs.declared.Range.TheVariants.{Within}
 use Rattle.emit_pairs.specs.Pairs.{plain, at_number, load_pairs, label_pairs, is_immediate, fallback_pairs, immediate_pairs}
 use Rattle.emit_pairs.specs.Values.{value_pairs, added_pairs, constant_pairs, offset_pairs}
 use Rattle.emit_bytes.specs.Appended.{pair_len, pendings_len}
@@ -48,9 +41,11 @@ use Rattle.emit_outcome.specs.declared.Meaning.{Meaning}
 use Rattle.emit_outcome.specs.declared.Meaning.TheVariants.{Table, Builtin, Neither}
 use Rattle.routine.specs.CallValues.{meaning_pairs, call_pairs}
 use Rattle.routine.proofs.WordLaws.{PairFits, PairsFit}
+use Rattle.emit_pairs.specs.declared.Fault.{Fault}
+use Rattle.pending.specs.declared.InstructionLabel.{InstructionLabel}
 
-abbrev waits_for : PairLabel → ℕ
-waits_for Nothing = 0
+abbrev waits_for : Option InstructionLabel → ℕ
+waits_for None = 0
 waits_for (Some label) = 1
 
 unfoldable pub waits : List InstructionPair → ℕ
@@ -62,8 +57,8 @@ label_length : (names : List ℕ) (l : AddressLabel) → LabelFits names l → l
 label_length names (Constant c) h = omega arith
 label_length names (Label name) h = h.most
 
-one_record : (names : List ℕ) (l : PairLabel) → PairFits names l → pair_len names l ≤ 100 * waits_for l
-one_record names Nothing f = omega arith
+one_record : (names : List ℕ) (l : Option InstructionLabel) → PairFits names l → pair_len names l ≤ 100 * waits_for l
+one_record names None f = omega arith
 one_record names (Some waiting) f = omega (arith, label_length names waiting.label f)
 
 pub waits_bytes : (names : List ℕ) (ps : List InstructionPair) → PairsFit names ps → pendings_len names ps ≤ 100 * waits ps
@@ -112,12 +107,12 @@ offset_waits (LabelAlone l) = label_waits l at_number
 offset_waits (Based (Constant c) r) = constant_waits (is_immediate c) c r
 offset_waits (Based (Label name) r) = added_waits (Label name) r
 
-fallback_waits : (alt : Alternative) (rt rs c : ℕ) → waits (fallback_pairs alt rt rs c) ≡ 0
+fallback_waits : (alt : Option Opcode) (rt rs c : ℕ) → waits (fallback_pairs alt rt rs c) ≡ 0
 unfolding waits
-fallback_waits NoAlternative rt rs c = refl
-fallback_waits (SomeAlternative op) rt rs c = rw (waits_append (load_pairs c at_number)) (omega (arith, load_waits c at_number))
+fallback_waits None rt rs c = refl
+fallback_waits (Some op) rt rs c = rw (waits_append (load_pairs c at_number)) (omega (arith, load_waits c at_number))
 
-immediate_waits : (op : Opcode) (alt : Alternative) (rt rs c : ℕ) → waits (immediate_pairs op alt rt rs c) ≡ 0
+immediate_waits : (op : Opcode) (alt : Option Opcode) (rt rs c : ℕ) → waits (immediate_pairs op alt rt rs c) ≡ 0
 unfolding waits immediate_pairs
 immediate_waits op alt rt rs c = go (is_immediate c)
   where
@@ -132,8 +127,8 @@ behind a b e h = rw (waits_append a b) (omega arith)
 
 inputs_waits : (op : Opcode) (a b : RegisterSlot) (v : Option InstructionValue) → waits (inputs_pairs op a b v) ≤ 2
 unfolding waits
-inputs_waits op a b none = omega arith
-inputs_waits op a b (some v) = behind (value_pairs v) _ (value_waits v) (omega arith)
+inputs_waits op a b None = omega arith
+inputs_waits op a b (Some v) = behind (value_pairs v) _ (value_waits v) (omega arith)
 
 sne_waits : (a b : RegisterSlot) (v : InstructionValue) → waits (sne_pairs a b v) ≡ 0
 unfolding waits
@@ -190,10 +185,10 @@ pseudo_waits job Li x = omega (arith, load_waits x.1 (register_number x.0))
 pseudo_waits job La x = label_waits x.1 (register_number x.0)
 pseudo_waits job Move x = omega arith
 pseudo_waits job B x = omega arith
-pseudo_waits job Subi x = omega (arith, immediate_waits (Op 8) (SomeAlternative (Func 32)) (register_number x.0) (register_number x.1) (with_sign true x.2))
-pseudo_waits job Subiu x = omega (arith, immediate_waits (Op 9) (SomeAlternative (Func 33)) (register_number x.0) (register_number x.1) (with_sign true x.2))
+pseudo_waits job Subi x = omega (arith, immediate_waits (Op 8) (Some (Func 32)) (register_number x.0) (register_number x.1) (with_sign true x.2))
+pseudo_waits job Subiu x = omega (arith, immediate_waits (Op 9) (Some (Func 33)) (register_number x.0) (register_number x.1) (with_sign true x.2))
 
-line_waits : {A : Type 0} (a : Answer A) (i : ℕ) (range : A → Range) (pairs : A → List InstructionPair) (form : A → LoadForm)
+line_waits : {A : Type 0} (a : Answer A) (i : ℕ) (range : A → Result (Unit {0}) Fault) (pairs : A → List InstructionPair) (form : A → LoadForm)
     → ((x : A) → waits (pairs x) ≤ 2) → waits (line_by a i range pairs form).pairs ≤ 2
 unfolding waits
 line_waits (Got x) i range pairs form h = h x
@@ -209,7 +204,7 @@ module _ (job : Job) (c : Call) where
       (encoding_waits job x.encoding x.opcode)
   meaning_waits (Builtin p) =
       let read = read_operands (pseudo_wants p) (tokens c.token_list) (start_of c) in
-      line_waits read.answer read.index (λ x. Within) (pseudo_pairs job p) (pseudo_form p) (pseudo_waits job p)
+      line_waits read.answer read.index (λ x. (Ok tt)) (pseudo_pairs job p) (pseudo_form p) (pseudo_waits job p)
   meaning_waits Neither = omega arith
 
   pub call_waits : waits (call_pairs job c) ≤ 2

@@ -1,14 +1,11 @@
 -- A line that was made has one to five words, and each label that one waits for fits a pending record. Assumes nothing.
-use Rattle.std.specs.Prelude.{ℕ, suc, ◌+◌, ◌≤◌, ◌≡◌, refl, List, [], ◌∷◌, ◌++◌, map, Bool, true, false, length, get_or}
+use Rattle.std.specs.Prelude.{ℕ, suc, ◌+◌, ◌≤◌, ◌≡◌, refl, List, [], ◌∷◌, ◌++◌, map, Bool, true, false, length, get_or, None, Ok, Result, Some, Option}
 use Rattle.std.proofs.Common.{arith, subst, length-append}
-use Rattle.std.proofs.Math.Option.{Option, none, some}
 use Rattle.jobs.specs.declared.Job.{Job}
 use Rattle.registers.specs.Numbers.{register_number}
 use Rattle.registers.specs.declared.RegisterSlot.{RegisterSlot}
 use Rattle.instructions.specs.declared.Opcode.{Opcode}
 use Rattle.instructions.specs.declared.Opcode.TheVariants.{Op, Func}
-use Rattle.instructions.specs.declared.Alternative.{Alternative}
-use Rattle.instructions.specs.declared.Alternative.TheVariants.{Nothing as NoAlternative, Some as SomeAlternative}
 use Rattle.instructions.specs.declared.Encoding.{Encoding}
 use Rattle.instructions.specs.declared.Encoding.TheVariants.{Register, RegisterShift, Source, Destination, Inputs, Sham, SpecialBranch, Immediate, LoadImmediate, Jump, Branch, BranchZero, Parameterless, Offset, FPOffset, FP3Register, FP2Register, FPMove, FPCond, FPCrossMove, FPBranch}
 use Rattle.pseudo_names.specs.declared.Pseudo.{Pseudo}
@@ -27,10 +24,6 @@ use Rattle.operand.specs.declared.OffsetOrLabel.{OffsetOrLabel}
 use Rattle.operand.specs.declared.OffsetOrLabel.TheVariants.{Label as LabelAlone, Offset as Based}
 use Rattle.operand_list.specs.OperandLists.{AskedAll, read_operands}
 use Rattle.emit_pairs.specs.declared.InstructionPair.{InstructionPair}
-use Rattle.emit_pairs.specs.declared.PairLabel.{PairLabel}
-use Rattle.emit_pairs.specs.declared.PairLabel.TheVariants.{Nothing, Some}
-use Rattle.emit_pairs.specs.declared.Range.TheVariants.{Within}
-use Rattle.emit_pairs.specs.declared.Range.{Range}
 use Rattle.emit_pairs.specs.Pairs.{plain, at_number, load_pairs, label_pairs, is_immediate, immediate_range, immediate_pairs}
 use Rattle.emit_pairs.proofs.PairsLaws.{load_pairs_length, pairs_taken, pairs_alternative, range_refused}
 use Rattle.emit_pairs.specs.Values.{value_pairs, constant_pairs, base_pairs, offset_pairs}
@@ -43,10 +36,12 @@ use Rattle.emit_dispatch.specs.Lines.{encoding_pairs, pseudo_pairs, encoding_for
 use Rattle.emit_dispatch.specs.declared.LineAnswer.TheVariants.{Made}
 use Rattle.routine.proofs.TokenLaws.{TokenFits}
 use Rattle.routine.proofs.ReadLaws.{Of, OffsetFits, AllFit, operands_fit}
+use Rattle.emit_pairs.specs.declared.Fault.{Fault}
+use Rattle.pending.specs.declared.InstructionLabel.{InstructionLabel}
 
 module _ (names : List ℕ) where
-  abbrev pub PairFits : PairLabel → Type 0
-  PairFits Nothing = Unit {0}
+  abbrev pub PairFits : Option InstructionLabel → Type 0
+  PairFits None = Unit {0}
   PairFits (Some waits) = LabelFits names waits.label
 
   abbrev pub PairsFit : List InstructionPair → Type 0
@@ -116,15 +111,15 @@ module _ (names : List ℕ) where
   offset_words (LabelAlone label) h = widened (omega arith) (omega arith) (label_words label at_number h)
 
   -- within its range an immediate operand has words
-  immediate_words : (op : Opcode) (alt : Alternative) (rt rs c : ℕ) → immediate_range alt c ≡ Within → Words 1 3 (immediate_pairs op alt rt rs c)
+  immediate_words : (op : Opcode) (alt : Option Opcode) (rt rs c : ℕ) → immediate_range alt c ≡ Ok tt → Words 1 3 (immediate_pairs op alt rt rs c)
   immediate_words op alt rt rs c e = go (is_immediate c) refl alt e
     where
-      go : (b : Bool) → is_immediate c ≡ b → (a : Alternative) → immediate_range a c ≡ Within → Words 1 3 (immediate_pairs op a rt rs c)
+      go : (b : Bool) → is_immediate c ≡ b → (a : Option Opcode) → immediate_range a c ≡ Ok tt → Words 1 3 (immediate_pairs op a rt rs c)
       go true q a r = subst (λ (ps : List InstructionPair). Words 1 3 ps) (pairs_taken op a rt rs c q refl) (widened (omega arith) (omega arith) (one_word tt))
-      go false q NoAlternative r =
-          let z : ◌≡◌ {A = ℕ} 0 1 = cc (range_refused {alt = NoAlternative} c q refl) in
+      go false q None r =
+          let z : ◌≡◌ {A = ℕ} 0 1 = cc (range_refused {alt = None} c q refl) in
           absurd (omega arith)
-      go false q (SomeAlternative other) r =
+      go false q (Some other) r =
           subst (λ (ps : List InstructionPair). Words 1 3 ps) (pairs_alternative op rt rs c q refl refl) (widened (omega arith) (omega arith) (then_words (load_words_lem c at_number) (one_word tt)))
 
   -- ---- lines
@@ -133,10 +128,10 @@ module _ (names : List ℕ) where
   single h = widened (omega arith) (omega arith) (one_word h)
 
   maybe_words : (op : Opcode) (first second : RegisterSlot) (v : Option InstructionValue) → Words 1 5 (inputs_pairs op first second v)
-  maybe_words op first second none = single tt
-  maybe_words op first second (some v) = widened (omega arith) (omega arith) (then_words (value_words v) (one_more tt (one_word tt)))
+  maybe_words op first second None = single tt
+  maybe_words op first second (Some v) = widened (omega arith) (omega arith) (then_words (value_words v) (one_more tt (one_word tt)))
 
-  encoding_words : (job : Job) (e : Encoding) (op : Opcode) (x : AskedAll (encoding_wants e)) → AllFit names (encoding_wants e) x → encoding_range job e op x ≡ Within → Words 1 5 (encoding_pairs job e op x)
+  encoding_words : (job : Job) (e : Encoding) (op : Opcode) (x : AskedAll (encoding_wants e)) → AllFit names (encoding_wants e) x → encoding_range job e op x ≡ Ok tt → Words 1 5 (encoding_pairs job e op x)
   encoding_words job Register op x h r = widened (omega arith) (omega arith) (then_words (value_words x.2) (one_word tt))
   encoding_words job RegisterShift op x h r = single tt
   encoding_words job Source op x h r = single tt
@@ -180,12 +175,12 @@ module _ (names : List ℕ) where
   pseudo_words job La x h = widened (omega arith) (omega arith) (label_words x.1 (register_number x.0) h.1)
   pseudo_words job Move x h = single tt
   pseudo_words job B x h = single h.0
-  pseudo_words job Subi x h = widened (omega arith) (omega arith) (immediate_words (Op 8) (SomeAlternative (Func 32)) (register_number x.0) (register_number x.1) (with_sign true x.2) refl)
-  pseudo_words job Subiu x h = widened (omega arith) (omega arith) (immediate_words (Op 9) (SomeAlternative (Func 33)) (register_number x.0) (register_number x.1) (with_sign true x.2) refl)
+  pseudo_words job Subi x h = widened (omega arith) (omega arith) (immediate_words (Op 8) (Some (Func 32)) (register_number x.0) (register_number x.1) (with_sign true x.2) refl)
+  pseudo_words job Subiu x h = widened (omega arith) (omega arith) (immediate_words (Op 9) (Some (Func 33)) (register_number x.0) (register_number x.1) (with_sign true x.2) refl)
 
   -- ---- what was read, made into words
 
-  line_words : {A : Type 0} (fits : A → Type 0) (range : A → Range) (pairs : A → List InstructionPair) (form : A → LoadForm) → ((x : A) → fits x → range x ≡ Within → Words 1 5 (pairs x))
+  line_words : {A : Type 0} (fits : A → Type 0) (range : A → Result (Unit {0}) Fault) (pairs : A → List InstructionPair) (form : A → LoadForm) → ((x : A) → fits x → range x ≡ Ok tt → Words 1 5 (pairs x))
       → (a : Answer A) (i : ℕ) → Of fits a → (line_by a i range pairs form).answer ≡ Made → Words 1 5 (line_by a i range pairs form).pairs
   line_words fits range pairs form w (Got x) i h e = w x h (within_made (range x) e)
   line_words fits range pairs form w (Missed m) i h e =
@@ -202,5 +197,5 @@ module _ (names : List ℕ) (ts : List Token) (fit : (i : ℕ) → TokenFits nam
   pub pseudo_made : (job : Job) (p : Pseudo) (i : ℕ) → (pseudo_line job p ts i).answer ≡ Made → Words names 1 5 (pseudo_line job p ts i).pairs
   unfolding pseudo_line
   pseudo_made job p i =
-      line_words names (AllFit names (pseudo_wants p)) (λ x. Within) (pseudo_pairs job p) (pseudo_form p) (λ x h r. pseudo_words names job p x h)
+      line_words names (AllFit names (pseudo_wants p)) (λ x. (Ok tt)) (pseudo_pairs job p) (pseudo_form p) (λ x h r. pseudo_words names job p x h)
       (read_operands (pseudo_wants p) ts i).answer (read_operands (pseudo_wants p) ts i).index (operands_fit names ts fit (pseudo_wants p) i)

@@ -1,11 +1,9 @@
 -- Patches as values, with names as bytes, so that those of two buffers can be compared (document 01, 'Pending 36, breakpoint 37').
 -- Assumes nothing.
-use Rattle.std.specs.Prelude.{ℕ, ◌+◌, ◌*◌, List, [], ◌∷◌, ◌++◌, map}
+use Rattle.std.specs.Prelude.{ℕ, ◌+◌, ◌*◌, List, [], ◌∷◌, ◌++◌, map, None, Option, Some}
 use Rattle.record.specs.Records.{places}
 use Rattle.record.specs.declared.Location.{Location}
 use Rattle.labels.specs.Labels.{Table}
-use Rattle.labels.specs.declared.Address.{Address}
-use Rattle.labels.specs.declared.Address.TheVariants.{Known}
 use Rattle.patch.specs.Patches.{wrap32, plus_offset}
 use Rattle.address_label.specs.LabelBytes.{name_bytes}
 use Rattle.address_label.specs.declared.AddressLabel.{AddressLabel}
@@ -14,9 +12,8 @@ use Rattle.pending.specs.Pendings.{pending_at}
 use Rattle.pending.specs.declared.InstructionLabelKind.{InstructionLabelKind}
 use Rattle.pending.specs.declared.Origin.{Origin}
 use Rattle.pending.specs.declared.Pending.{Pending}
-use Rattle.emit_pairs.specs.declared.PairLabel.{PairLabel}
-use Rattle.emit_pairs.specs.declared.PairLabel.TheVariants.{Nothing, Some}
 use Rattle.emit_pairs.specs.declared.InstructionPair.{InstructionPair}
+use Rattle.pending.specs.declared.InstructionLabel.{InstructionLabel}
 
 -- what a patch waits for: "form (1 byte: 0 constant, 1 name), value or added offset (8), the name's location, name"
 pub data Target : Type 0 where
@@ -38,8 +35,8 @@ target_of (Label label) name = Name name label.location label.offset
 
 -- "A destination is a constant's low 32 bits, or label address plus offset"; document 02, P6: a name resolves by "the source in the name's
 -- location"
-abbrev pub target_address : Table → Target → Address
-target_address labels (Value value) = Known (wrap32 value)
+abbrev pub target_address : Table → Target → Option ℕ
+target_address labels (Value value) = Some (wrap32 value)
 target_address labels (Name name location offset) = plus_offset (labels.address location.source name) offset
 
 -- ---- those of a pending list
@@ -65,8 +62,8 @@ abbrev pub patch_to : (word : Origin) → InstructionLabelKind → Target → Pa
 patch_to word kind target = record { region = word.region; offset = word.offset; location = word.location; kind = kind; target = target }
 
 -- one for a word that waits for a label
-abbrev pub pair_patches : (token_list : List ℕ) → (word : Origin) → PairLabel → List Patch
-pair_patches token_list word Nothing = []
+abbrev pub pair_patches : (token_list : List ℕ) → (word : Origin) → Option InstructionLabel → List Patch
+pair_patches token_list word None = []
 pair_patches token_list word (Some waits) = patch_to word waits.kind (target_of waits.label (name_bytes token_list waits.label)) ∷ []
 
 -- from the word with index i on

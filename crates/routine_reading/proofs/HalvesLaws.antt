@@ -1,14 +1,11 @@
 -- The words of a line: those that wait for a half of an address are a lui with the upper half and straight behind it an ori with the lower,
 -- both for one name; the others wait for a branch's or a jump's destination, or for nothing. Whatever the line. Assumes nothing.
-use Rattle.std.specs.Prelude.{ℕ, ◌%◌, ◌≡◌, refl, List, [], ◌∷◌, ◌++◌, map, Bool, true, false}
-use Rattle.std.proofs.Math.Option.{Option, none, some}
+use Rattle.std.specs.Prelude.{ℕ, ◌%◌, ◌≡◌, refl, List, [], ◌∷◌, ◌++◌, map, Bool, true, false, None, Ok, Result, Some, Option}
 use Rattle.jobs.specs.declared.Job.{Job}
 use Rattle.registers.specs.Numbers.{register_number}
 use Rattle.registers.specs.declared.RegisterSlot.{RegisterSlot}
 use Rattle.instructions.specs.declared.Opcode.{Opcode}
 use Rattle.instructions.specs.declared.Opcode.TheVariants.{Op, Func}
-use Rattle.instructions.specs.declared.Alternative.{Alternative}
-use Rattle.instructions.specs.declared.Alternative.TheVariants.{Nothing as NoAlternative, Some as SomeAlternative}
 use Rattle.instructions.specs.declared.Encoding.{Encoding}
 use Rattle.instructions.specs.declared.Encoding.TheVariants.{Register, RegisterShift, Source, Destination, Inputs, Sham, SpecialBranch, Immediate, LoadImmediate, Jump as JumpTo, Branch as BranchOn, BranchZero, Parameterless, Offset, FPOffset, FP3Register, FP2Register, FPMove, FPCond, FPCrossMove, FPBranch}
 use Rattle.pseudo_names.specs.declared.Pseudo.{Pseudo}
@@ -32,10 +29,6 @@ use Rattle.operand.specs.declared.OffsetOrLabel.TheVariants.{Label as LabelAlone
 use Rattle.operand_list.specs.OperandLists.{AskedAll, read_operands}
 use Rattle.emit_words.specs.Words.{immediate_word}
 use Rattle.emit_pairs.specs.declared.InstructionPair.{InstructionPair}
-use Rattle.emit_pairs.specs.declared.PairLabel.{PairLabel}
-use Rattle.emit_pairs.specs.declared.PairLabel.TheVariants.{Nothing, Some}
-use Rattle.emit_pairs.specs.declared.Range.{Range}
-use Rattle.emit_pairs.specs.declared.Range.TheVariants.{Within}
 use Rattle.emit_pairs.specs.Pairs.{plain, at_number, load_pairs, label_pairs, is_immediate, fallback_pairs, immediate_pairs}
 use Rattle.emit_pairs.specs.Values.{value_pairs, added_pairs, constant_pairs, offset_pairs}
 use Rattle.emit_integer.specs.IntegerWords.{inputs_pairs}
@@ -49,14 +42,16 @@ use Rattle.emit_outcome.specs.declared.Meaning.{Meaning}
 use Rattle.emit_outcome.specs.declared.Meaning.TheVariants.{Table, Builtin, Neither}
 use Rattle.reading.specs.OnTarget.{Going}
 use Rattle.routine.specs.CallValues.{meaning_pairs, call_pairs}
+use Rattle.emit_pairs.specs.declared.Fault.{Fault}
+use Rattle.pending.specs.declared.InstructionLabel.{InstructionLabel}
 
 -- a word that waits for no half, and for no whole address
-abbrev pub Whole : PairLabel → Type 0
-Whole Nothing = Unit {0}
+abbrev pub Whole : Option InstructionLabel → Type 0
+Whole None = Unit {0}
 Whole (Some waits) = Going waits.kind
 
 -- a word that waits for this kind of patch of a name
-abbrev pub waits_for : InstructionLabelKind → NamedLabel → PairLabel
+abbrev pub waits_for : InstructionLabelKind → NamedLabel → Option InstructionLabel
 waits_for kind name = Some (record { kind = kind; label = Label name })
 
 -- each half beside its other
@@ -105,11 +100,11 @@ offset_halves (LabelAlone l) = label_halves l at_number
 offset_halves (Based (Constant c) r) = constant_halves (is_immediate c) c r
 offset_halves (Based (Label name) r) = added_halves (Label name) r
 
-fallback_halves : (alt : Alternative) (rt rs c : ℕ) → Halves (fallback_pairs alt rt rs c)
-fallback_halves NoAlternative rt rs c = done
-fallback_halves (SomeAlternative op) rt rs c = joined (load_halves c at_number) (one tt)
+fallback_halves : (alt : Option Opcode) (rt rs c : ℕ) → Halves (fallback_pairs alt rt rs c)
+fallback_halves None rt rs c = done
+fallback_halves (Some op) rt rs c = joined (load_halves c at_number) (one tt)
 
-immediate_halves : (op : Opcode) (alt : Alternative) (rt rs c : ℕ) → Halves (immediate_pairs op alt rt rs c)
+immediate_halves : (op : Opcode) (alt : Option Opcode) (rt rs c : ℕ) → Halves (immediate_pairs op alt rt rs c)
 unfolding immediate_pairs
 immediate_halves op alt rt rs c = go (is_immediate c)
   where
@@ -120,8 +115,8 @@ immediate_halves op alt rt rs c = go (is_immediate c)
 -- ---- lines
 
 inputs_halves : (op : Opcode) (a b : RegisterSlot) (v : Option InstructionValue) → Halves (inputs_pairs op a b v)
-inputs_halves op a b none = one tt
-inputs_halves op a b (some v) = joined (value_halves v) (alone tt (one tt))
+inputs_halves op a b None = one tt
+inputs_halves op a b (Some v) = joined (value_halves v) (alone tt (one tt))
 
 sne_halves : (a b : RegisterSlot) (v : InstructionValue) → Halves (sne_pairs a b v)
 sne_halves a b v = joined (value_halves v) (alone tt (one tt))
@@ -170,10 +165,10 @@ pseudo_halves job Li x = load_halves x.1 (register_number x.0)
 pseudo_halves job La x = label_halves x.1 (register_number x.0)
 pseudo_halves job Move x = one tt
 pseudo_halves job B x = one tt
-pseudo_halves job Subi x = immediate_halves (Op 8) (SomeAlternative (Func 32)) (register_number x.0) (register_number x.1) (with_sign true x.2)
-pseudo_halves job Subiu x = immediate_halves (Op 9) (SomeAlternative (Func 33)) (register_number x.0) (register_number x.1) (with_sign true x.2)
+pseudo_halves job Subi x = immediate_halves (Op 8) (Some (Func 32)) (register_number x.0) (register_number x.1) (with_sign true x.2)
+pseudo_halves job Subiu x = immediate_halves (Op 9) (Some (Func 33)) (register_number x.0) (register_number x.1) (with_sign true x.2)
 
-line_halves : {A : Type 0} (a : Answer A) (i : ℕ) (range : A → Range) (pairs : A → List InstructionPair) (form : A → LoadForm)
+line_halves : {A : Type 0} (a : Answer A) (i : ℕ) (range : A → Result (Unit {0}) Fault) (pairs : A → List InstructionPair) (form : A → LoadForm)
     → ((x : A) → Halves (pairs x)) → Halves (line_by a i range pairs form).pairs
 line_halves (Got x) i range pairs form h = h x
 line_halves (Missed m) i range pairs form h = done
@@ -188,7 +183,7 @@ module _ (job : Job) (c : Call) where
       (encoding_halves job x.encoding x.opcode)
   meaning_halves (Builtin p) =
       let read = read_operands (pseudo_wants p) (tokens c.token_list) (start_of c) in
-      line_halves read.answer read.index (λ x. Within) (pseudo_pairs job p) (pseudo_form p) (pseudo_halves job p)
+      line_halves read.answer read.index (λ x. (Ok tt)) (pseudo_pairs job p) (pseudo_form p) (pseudo_halves job p)
   meaning_halves Neither = done
 
   pub call_halves : Halves (call_pairs job c)

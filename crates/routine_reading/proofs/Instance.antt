@@ -1,20 +1,15 @@
 -- The premises can be met: a routine of three lines, each for another sort of job, in two regions, and what the theorems say of its builds.
 -- Assumes nothing.
-use Rattle.std.specs.Prelude.{ℕ, zero, suc, ◌+◌, ◌%◌, ◌<◌, ◌≤◌, ◌≡◌, refl, List, [], ◌∷◌, ◌++◌, false}
+use Rattle.std.specs.Prelude.{ℕ, zero, suc, ◌+◌, ◌%◌, ◌<◌, ◌≤◌, ◌≡◌, refl, List, [], ◌∷◌, ◌++◌, false, None, Ok, Option, Some}
 use Rattle.std.proofs.Common.{arith, sym, ap, subst, ◌∙◌}
 use Rattle.jobs.specs.declared.Job.{Job}
 use Rattle.jobs.specs.declared.Job.TheVariants.{Commit, Manual, Release6}
 use Rattle.record.specs.Bytes.{all, same_bytes}
 use Rattle.record.specs.Records.{places}
 use Rattle.record.specs.Stores.{le32_bytes, record_bytes}
-use Rattle.record.specs.declared.Layout.TheVariants.{Good}
-use Rattle.refusal.specs.declared.Verdict.TheVariants.{Pass}
 use Rattle.names.specs.Names.{first_later}
-use Rattle.names.specs.declared.Repeat.TheVariants.{None}
 use Rattle.loading.specs.declared.LoadForm.TheVariants.{Nothing as Unloaded}
 use Rattle.labels.specs.Labels.{label_layout, label_repeat, resolve, table_of}
-use Rattle.labels.specs.declared.Address.{Address}
-use Rattle.labels.specs.declared.Address.TheVariants.{Known}
 use Rattle.regions.specs.Regions.{region_layout, region_count, region_place, region_at}
 use Rattle.address_label.specs.Entries.{entry_layout, entry_of}
 use Rattle.pending.specs.declared.InstructionLabelKind.{InstructionLabelKind}
@@ -109,18 +104,18 @@ computed = record {
 -- ---- the build's own lists, by computation
 
 record Lists : Type 0 where
-  labels_good : label_layout labels ≡ Good
+  labels_good : label_layout labels ≡ None
   names_good : label_repeat labels ≡ None
-  entry_good : entry_layout [] ≡ Good
-  entry_passes : entry_verdict (table_of labels) [] (entry_of [] (places [])) ≡ Pass
-  regions_good : region_layout regions ≡ Good
+  entry_good : entry_layout [] ≡ None
+  entry_passes : entry_verdict (table_of labels) [] (entry_of [] (places [])) ≡ Ok tt
+  regions_good : region_layout regions ≡ None
   two_regions : region_count regions ≡ 2
   first_address : (region_at regions (region_place regions 0)).address ≡ 0x00400000
   second_address : (region_at regions (region_place regions 1)).address ≡ 0x00500000
   first_size : (region_at regions (region_place regions 0)).size ≡ 8
   second_size : (region_at regions (region_place regions 1)).size ≡ 8
-  loop_at : resolve labels 1 loop ≡ Known 0x00400000
-  end_at : resolve labels 1 end ≡ Known 0x00400008
+  loop_at : resolve labels 1 loop ≡ Some 0x00400000
+  end_at : resolve labels 1 end ≡ Some 0x00400008
 
 lists : Lists
 unfolding label_layout resolve first_later entry_layout region_layout same_bytes
@@ -168,7 +163,7 @@ plain kind = record { below = omega (arith, lists.first_address, lists.first_siz
 
 -- a branch or a jump of the first region to a label that stands there
 to_label : (y : Patch) → y.region ≡ 0 → Going y.kind → (name : List ℕ) (n mark : ℕ) → y.target ≡ Name name (place n) 0 → LineMark 0 example start mark
-    → resolve labels 1 name ≡ Known (0x00400000 + mark) → Settled example start (table_of labels) regions y
+    → resolve labels 1 name ≡ Some (0x00400000 + mark) → Settled example start (table_of labels) regions y
 to_label y r g name n mark t m e = record {
   half_known = λ k. absurd (k g);
   to_line = λ k. record {
@@ -178,7 +173,7 @@ to_label y r g name n mark t m e = record {
     region = 0;
     mark = mark;
     marked = m;
-    address_is = e ∙ ap (λ (a : ℕ). Known (a + mark)) (sym lists.first_address);
+    address_is = e ∙ ap (λ (a : ℕ). Some (a + mark)) (sym lists.first_address);
   };
   in_own = λ k. sym r;
   plain = λ k. subst (λ (x : ℕ). Plain y.kind (region_number regions x)) (sym r) (plain y.kind);
@@ -186,7 +181,7 @@ to_label y r g name n mark t m e = record {
 
 half : (y : Patch) → (Going y.kind → ⊥) → (n : ℕ) → y.target ≡ Name loop (place n) 0 → Settled example start (table_of labels) regions y
 half y h n t = record {
-  half_known = λ k. (wrap32 (0x00400000 + 0), ap (target_address (table_of labels)) t ∙ ap (λ (x : Address). plus_offset x 0) lists.loop_at);
+  half_known = λ k. (wrap32 (0x00400000 + 0), ap (target_address (table_of labels)) t ∙ ap (λ (x : Option ℕ). plus_offset x 0) lists.loop_at);
   to_line = λ k. absurd (h k);
   in_own = λ k. absurd (h k);
   plain = λ k. absurd (h k);
@@ -216,15 +211,15 @@ page_refused job = refl
 pub example_reads_back : RoutineReads example start
 example_reads_back = routine_reads example start example_empty example_bytes computed.accepted
 
-pub example_accepted : (job : Job) → build_verdict job (table_of labels) [] regions pending ≡ Pass
+pub example_accepted : (job : Job) → build_verdict job (table_of labels) [] regions pending ≡ Ok tt
 example_accepted job = (example_reads_back.every_job (table_of labels) [] regions holds others on_words settled job).0
 
-come_to : destinations (table_of labels) pending ≡ Known 0x00400008 ∷ Known 0x00400000 ∷ Known 0x00400000 ∷ Known 0x00400000 ∷ []
+come_to : destinations (table_of labels) pending ≡ Some 0x00400008 ∷ Some 0x00400000 ∷ Some 0x00400000 ∷ Some 0x00400000 ∷ []
 unfolding destinations run emit_outcome pcs_bytes label_pairs immediate_pairs call_pairs resolve first_later same_bytes
 come_to = refl
 
 -- b end goes behind the last line, both halves of la and j loop to the first
 pub example_reads : (job : Job)
     → readings (image_of (build_outcome job (table_of labels) [] regions pending).regions) pending
-    ≡ Known 0x00400008 ∷ Known 0x00400000 ∷ Known 0x00400000 ∷ Known 0x00400000 ∷ []
+    ≡ Some 0x00400008 ∷ Some 0x00400000 ∷ Some 0x00400000 ∷ Some 0x00400000 ∷ []
 example_reads job = (example_reads_back.every_job (table_of labels) [] regions holds others on_words settled job).1 ∙ come_to

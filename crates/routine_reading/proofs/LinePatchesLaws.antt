@@ -1,6 +1,6 @@
 -- The patches of a line, as a list of values: each at a multiple of four, each behind those before it, and each half beside its other.
 -- Assumes nothing.
-use Rattle.std.specs.Prelude.{ℕ, ◌+◌, ◌*◌, ◌%◌, ◌≤◌, ◌≡◌, refl}
+use Rattle.std.specs.Prelude.{ℕ, ◌+◌, ◌*◌, ◌%◌, ◌≤◌, ◌≡◌, refl, None, Option, Some}
 use Rattle.std.proofs.Common.{arith, sym}
 use Rattle.std.proofs.Math.Path.{subst}
 use mathlib.Core.List.Memᴰ
@@ -13,13 +13,12 @@ use Rattle.pending.specs.declared.InstructionLabelKind.{InstructionLabelKind}
 use Rattle.pending.specs.declared.InstructionLabelKind.TheVariants.{Lower, Upper, Full}
 use Rattle.pending.specs.declared.Origin.{Origin}
 use Rattle.emit_pairs.specs.declared.InstructionPair.{InstructionPair}
-use Rattle.emit_pairs.specs.declared.PairLabel.{PairLabel}
-use Rattle.emit_pairs.specs.declared.PairLabel.TheVariants.{Nothing, Some}
 use Rattle.reading.specs.OnTarget.{Going}
 use Rattle.routine.specs.PatchValues.{Patch, Name, target_of, origin_at, patch_to, pair_patches, patches_from}
 use Rattle.routine.specs.Run.{Each}
 use Rattle.routine.proofs.InsideLaws.{each_append, each_so, Behind, patches_behind}
 use Rattle.routine_reading.proofs.HalvesLaws.{Whole, waits_for, Halves, done, alone, both}
+use Rattle.pending.specs.declared.InstructionLabel.{InstructionLabel}
 
 -- ---- what is said of patches
 
@@ -67,8 +66,8 @@ pub record Mated (xs : List Patch) (p : Patch) : Type 0 where
 -- ---- the patches of a line
 
 module _ (tl : List ℕ) where
-  going_mated : (xs : List Patch) (word : Origin) (waits : PairLabel) → Whole waits → Each (Mated xs) (pair_patches tl word waits)
-  going_mated xs word Nothing w = tt
+  going_mated : (xs : List Patch) (word : Origin) (waits : Option InstructionLabel) → Whole waits → Each (Mated xs) (pair_patches tl word waits)
+  going_mated xs word None w = tt
   going_mated xs word (Some waits) w =
       (record { has_lower = λ e. absurd (subst Going e w); has_upper = λ e. absurd (subst Going e w); not_full = λ e. subst Going e w }, tt)
 
@@ -132,16 +131,16 @@ module _ (tl : List ℕ) where
         (more_mated first rest rest (line_mated (i + 1) h))
     line_mated i (both {u} {l} {ps} name eu el h) =
         let rest = patches_from tl origin (i + 1 + 1) ps in
-        let shape : PairLabel → PairLabel → List Patch = λ a b. pair_patches tl (origin_at origin i) a ++ (pair_patches tl (origin_at origin (i + 1)) b ++ rest) in
-        subst (λ (a : PairLabel). Each (Mated (shape a l.label)) (shape a l.label)) (sym eu)
-        (subst (λ (b : PairLabel). Each (Mated (shape (waits_for Upper name) b)) (shape (waits_for Upper name) b)) (sym el)
+        let shape : Option InstructionLabel → Option InstructionLabel → List Patch = λ a b. pair_patches tl (origin_at origin i) a ++ (pair_patches tl (origin_at origin (i + 1)) b ++ rest) in
+        subst (λ (a : Option InstructionLabel). Each (Mated (shape a l.label)) (shape a l.label)) (sym eu)
+        (subst (λ (b : Option InstructionLabel). Each (Mated (shape (waits_for Upper name) b)) (shape (waits_for Upper name) b)) (sym el)
         (two_mated i name rest (line_mated (i + 1 + 1) h)))
 
     -- ---- where they stand
 
-    first_spaced : (i : ℕ) (waits : PairLabel) (rest : List Patch) → Each (Behind origin.region (origin.offset + 4 * i + 4)) rest → Spaced rest
+    first_spaced : (i : ℕ) (waits : Option InstructionLabel) (rest : List Patch) → Each (Behind origin.region (origin.offset + 4 * i + 4)) rest → Spaced rest
         → Spaced (pair_patches tl (origin_at origin i) waits ++ rest)
-    first_spaced i Nothing rest h s = s
+    first_spaced i None rest h s = s
     first_spaced i (Some waits) rest h s = (each_so (Behind origin.region (origin.offset + 4 * i + 4)) (Beyond (patch_to (origin_at origin i) waits.kind (target_of waits.label (name_bytes tl waits.label)))) (λ y b e. b.1) rest h, s)
 
     pub line_spaced : (i : ℕ) (ps : List InstructionPair) → Spaced (patches_from tl origin i ps)
@@ -150,8 +149,8 @@ module _ (tl : List ℕ) where
     line_spaced i (p ∷ ps) =
         first_spaced i p.label (patches_from tl origin (i + 1) ps) (patches_behind tl origin (i + 1) (origin.offset + 4 * i + 4) ps (omega arith)) (line_spaced (i + 1) ps)
 
-    one_word : (i : ℕ) (waits : PairLabel) → origin.offset % 4 ≡ 0 → Each OnWord (pair_patches tl (origin_at origin i) waits)
-    one_word i Nothing h = tt
+    one_word : (i : ℕ) (waits : Option InstructionLabel) → origin.offset % 4 ≡ 0 → Each OnWord (pair_patches tl (origin_at origin i) waits)
+    one_word i None h = tt
     one_word i (Some waits) h = (omega arith, tt)
 
     pub line_on_words : (i : ℕ) (ps : List InstructionPair) → origin.offset % 4 ≡ 0 → Each OnWord (patches_from tl origin i ps)

@@ -1,15 +1,11 @@
 -- Labels mean lines: what branches and jumps to labels before lines read as, and that no build refuses them. Assumes nothing.
-use Rattle.std.specs.Prelude.{ℕ, ◌+◌, ◌%◌, ◌^◌, ◌<◌, ◌≤◌, ◌≡◌, refl, List, true}
+use Rattle.std.specs.Prelude.{ℕ, ◌+◌, ◌%◌, ◌^◌, ◌<◌, ◌≤◌, ◌≡◌, refl, List, true, None, Ok, Option, Some}
 use Rattle.std.proofs.Common.{arith, sym, ap, subst, ◌∙◌}
 use Rattle.jobs.specs.declared.Job.{Job}
 use Rattle.jobs.specs.declared.Job.TheVariants.{Commit}
 use Rattle.record.specs.Records.{places}
 use Rattle.record.proofs.OneMoreLaws.{good_each}
-use Rattle.record.specs.declared.Layout.TheVariants.{Good}
-use Rattle.refusal.specs.declared.Verdict.TheVariants.{Pass}
 use Rattle.labels.specs.Labels.{Table}
-use Rattle.labels.specs.declared.Address.{Address}
-use Rattle.labels.specs.declared.Address.TheVariants.{Known}
 use Rattle.regions.specs.Regions.{region_count}
 use Rattle.pending.specs.Pendings.{pending_ok, pending_layout, pending_at}
 use Rattle.pending.proofs.PendingsLaws.{pending_good, pending_region}
@@ -45,10 +41,10 @@ module _ (lines : List RoutineLine) (start : Buffers) (empty : AllEmpty start) (
     at_mark = marked lines start empty bytes accepted t.region t.mark t.marked
 
     -- where the label is below 2^32 it is the destination
-    pub to_label : label_address < 2 ^ 32 → destination labels pending (pending_at pending p).label ≡ Known label_address
+    pub to_label : label_address < 2 ^ 32 → destination labels pending (pending_at pending p).label ≡ Some label_address
     to_label small =
         let z : wrap32 (label_address + 0) ≡ label_address = omega (arith, small) in
-        destination_is labels pending (pending_at pending p).label ∙ ap (target_address labels) t.waits_for ∙ ap (λ (x : Address). plus_offset x 0) t.address_is ∙ ap Known z
+        destination_is labels pending (pending_at pending p).label ∙ ap (target_address labels) t.waits_for ∙ ap (λ (x : Option ℕ). plus_offset x 0) t.address_is ∙ ap Some z
 
     own_stays : t.region ≡ (pending_at pending p).region
         → ((run lines start).region_data (pending_at pending p).region).fill ≤ (region_number regions (pending_at pending p).region).size
@@ -56,7 +52,7 @@ module _ (lines : List RoutineLine) (start : Buffers) (empty : AllEmpty start) (
     own_stays own kept = subst (λ (r : ℕ). ((run lines start).region_data r).fill ≤ (region_number regions r).size → Stays (region_number regions r) label_address) own (λ k. record { from = omega arith; to = omega (arith, k, at_mark.within) }) kept
 
     -- it is on target in every accepted build
-    pub label_on : (job : Job) (entry : List ℕ) → build_verdict job labels entry regions pending ≡ Pass → In pending p
+    pub label_on : (job : Job) (entry : List ℕ) → build_verdict job labels entry regions pending ≡ Ok tt → In pending p
         → label_address < 2 ^ 32 → (region_number regions t.region).address % 4 ≡ 0
         → (job ≡ Commit → (pending_at pending p).kind ≡ Branch → t.region ≡ (pending_at pending p).region)
         → ((run lines start).region_data (pending_at pending p).region).fill ≤ (region_number regions (pending_at pending p).region).size
@@ -78,7 +74,7 @@ module _ (lines : List RoutineLine) (start : Buffers) (empty : AllEmpty start) (
   -- ---- no refusal
 
   module _ (regions : List ℕ) (holds : Holds lines start regions) where
-    taken : pending_layout (region_count regions) pending ≡ Good
+    taken : pending_layout (region_count regions) pending ≡ None
     taken = (routine_fits lines start empty bytes accepted).build_takes (region_count regions) holds.selected
 
     pub numbered : (p : ℕ) → In pending p → (pending_at pending p).region < region_count regions
@@ -91,18 +87,18 @@ module _ (lines : List RoutineLine) (start : Buffers) (empty : AllEmpty start) (
     ends_inside p m = omega (arith, inside lines start empty bytes accepted p m, holds.data_kept (pending_at pending p).region (numbered p m))
 
     module _ (labels : Table) (job : Job) where
-      reached : (p : ℕ) → In pending p → (d : ℕ) → destination labels pending (pending_at pending p).label ≡ Known d
+      reached : (p : ℕ) → In pending p → (d : ℕ) → destination labels pending (pending_at pending p).label ≡ Some d
           → in_range job (pending_at pending p).kind (wrap32 ((region_number regions (pending_at pending p).region).address + (pending_at pending p).offset)) d ≡ true
-          → patch_verdict job labels regions pending p ≡ Pass
+          → patch_verdict job labels regions pending p ≡ Ok tt
       reached p m d e r =
-          verdict_is job labels pending (region_number regions (pending_at pending p).region) (pending_at pending p) (Known d) e
+          verdict_is job labels pending (region_number regions (pending_at pending p).region) (pending_at pending p) (Some d) e
           ∙ passes job (region_number regions (pending_at pending p).region) (pending_at pending p) d (ends_inside p m) r
 
       -- nor 15 or 16
-      pub settled_passes : (p : ℕ) → In pending p → Settled lines start labels regions (patch_at pending p) → patch_verdict job labels regions pending p ≡ Pass
+      pub settled_passes : (p : ℕ) → In pending p → Settled lines start labels regions (patch_at pending p) → patch_verdict job labels regions pending p ≡ Ok tt
       settled_passes p m s = go (pending_at pending p).kind refl
         where
-          goes : Going (pending_at pending p).kind → patch_verdict job labels regions pending p ≡ Pass
+          goes : Going (pending_at pending p).kind → patch_verdict job labels regions pending p ≡ Ok tt
           goes g =
               let t = s.to_line g in
               let plain = s.plain g in
@@ -112,19 +108,19 @@ module _ (lines : List RoutineLine) (start : Buffers) (empty : AllEmpty start) (
               (stays_taken job (region_number regions (pending_at pending p).region) (pending_at pending p).offset (label_address labels regions p t) (ends_inside p m) stays
               (pending_at pending p).kind g (region_short regions (pending_at pending p).region holds.regions_good (numbered p m)) plain)
 
-          waits : (Going (pending_at pending p).kind → ⊥) → patch_verdict job labels regions pending p ≡ Pass
+          waits : (Going (pending_at pending p).kind → ⊥) → patch_verdict job labels regions pending p ≡ Ok tt
           waits n =
               let k = s.half_known n in
               reached p m k.0 (destination_is labels pending (pending_at pending p).label ∙ k.1) (half_taken job (pending_at pending p).kind _ k.0 n)
 
-          go : (k : InstructionLabelKind) → (pending_at pending p).kind ≡ k → patch_verdict job labels regions pending p ≡ Pass
+          go : (k : InstructionLabelKind) → (pending_at pending p).kind ≡ k → patch_verdict job labels regions pending p ≡ Ok tt
           go Branch e = goes (subst Going (sym e) tt)
           go Jump e = goes (subst Going (sym e) tt)
           go Lower e = waits (λ g. subst Going e g)
           go Upper e = waits (λ g. subst Going e g)
           go Full e = waits (λ g. subst Going e g)
 
-      pub settled_accepted : (entry : List ℕ) → OthersPass labels entry → Each (Settled lines start labels regions) (routine_patches lines start) → build_verdict job labels entry regions pending ≡ Pass
+      pub settled_accepted : (entry : List ℕ) → OthersPass labels entry → Each (Settled lines start labels regions) (routine_patches lines start) → build_verdict job labels entry regions pending ≡ Ok tt
       settled_accepted entry others all =
           is_accepted job labels entry regions pending (record {
             labels_good = others.labels_good;
@@ -139,7 +135,7 @@ module _ (lines : List RoutineLine) (start : Buffers) (empty : AllEmpty start) (
           })
 
       -- so each of its branches and jumps is on target
-      pub settled_on : (entry : List ℕ) → build_verdict job labels entry regions pending ≡ Pass → OnWords regions → Each (Settled lines start labels regions) (routine_patches lines start)
+      pub settled_on : (entry : List ℕ) → build_verdict job labels entry regions pending ≡ Ok tt → OnWords regions → Each (Settled lines start labels regions) (routine_patches lines start)
           → (p : ℕ) → In pending p → Going (pending_at pending p).kind → OnTarget job labels regions pending p
       settled_on entry pass words all p m g =
           let s = of_patches lines start empty bytes accepted (Settled lines start labels regions) all p m in

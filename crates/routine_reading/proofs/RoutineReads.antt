@@ -1,12 +1,10 @@
 -- What emit calls leave reads back: demand 3 of a routine of accepted lines, begun on empty buffers, of any jobs, in any regions in any order.
 -- Nothing is asked about patches. Assumes nothing.
-use Rattle.std.specs.Prelude.{ℕ, ◌+◌, ◌%◌, ◌≤◌, ◌≡◌, refl, List}
+use Rattle.std.specs.Prelude.{ℕ, ◌+◌, ◌%◌, ◌≤◌, ◌≡◌, refl, List, Ok, Some}
 use Rattle.std.proofs.Common.{arith, sym, subst, ◌∙◌}
 use Rattle.jobs.specs.declared.Job.{Job}
 use Rattle.jobs.specs.declared.Job.TheVariants.{Commit}
-use Rattle.refusal.specs.declared.Verdict.TheVariants.{Pass}
 use Rattle.labels.specs.Labels.{Table, table_of}
-use Rattle.labels.specs.declared.Address.TheVariants.{Known}
 use Rattle.pending.specs.Pendings.{pending_at}
 use Rattle.pending.specs.declared.InstructionLabelKind.{InstructionLabelKind}
 use Rattle.pending.specs.declared.InstructionLabelKind.TheVariants.{Branch, Jump, Lower, Upper, Full}
@@ -44,14 +42,14 @@ module _ (lines : List RoutineLine) (start : Buffers) where
         → (build_outcome job (table_of labels₁) entry regions left).answer ≡ (build_outcome job (table_of labels₂) entry regions left).answer → ⊥
     -- patch by patch, in every accepted build and whatever the others go to: a half reads back, and a branch or a jump if it is on target, and
     -- only then
-    pub halves : (job : Job) (labels : Table) (entry regions : List ℕ) → build_verdict job labels entry regions left ≡ Pass
+    pub halves : (job : Job) (labels : Table) (entry regions : List ℕ) → build_verdict job labels entry regions left ≡ Ok tt
         → (p : ℕ) → In left p → (Going (pending_at left p).kind → ⊥) → ReadsBack job labels entry regions left p
-    pub exact : (job : Job) (labels : Table) (entry regions : List ℕ) → build_verdict job labels entry regions left ≡ Pass
+    pub exact : (job : Job) (labels : Table) (entry regions : List ℕ) → build_verdict job labels entry regions left ≡ Ok tt
         → (p : ℕ) → In left p → Going (pending_at left p).kind → RegionOnWord regions left p
         → (OnTarget job labels regions left p → ReadsBack job labels entry regions left p) × (ReadsBack job labels entry regions left p → OnTarget job labels regions left p)
     -- labels mean lines: in every accepted build a branch or a jump to a label reads as the address of the line that the label stands before, or of
     -- the data's end. Of the distance nothing is asked but that the commit's branches stay in their region, which holds the data left.
-    pub to_lines : (job : Job) (labels entry regions : List ℕ) → Bytes labels → build_verdict job (table_of labels) entry regions left ≡ Pass
+    pub to_lines : (job : Job) (labels entry regions : List ℕ) → Bytes labels → build_verdict job (table_of labels) entry regions left ≡ Ok tt
         → (p : ℕ) → In left p → Going (pending_at left p).kind → RegionOnWord regions left p
         → (t : ToLine lines start (table_of labels) regions (patch_at left p)) → (region_number regions t.region).address % 4 ≡ 0
         → (job ≡ Commit → (pending_at left p).kind ≡ Branch → t.region ≡ (pending_at left p).region)
@@ -59,11 +57,11 @@ module _ (lines : List RoutineLine) (start : Buffers) where
         → reading (image_of (build_outcome job (table_of labels) entry regions left).regions) (pending_at left p) ≡ (region_number regions t.region).address + t.mark
     -- a build of any job passes 14, 15 and 16 at what a loft has settled
     pub passes : (job : Job) (labels : Table) (regions : List ℕ) → Holds lines start regions → (p : ℕ) → In left p → Settled lines start labels regions (patch_at left p)
-        → patch_verdict job labels regions left p ≡ Pass
+        → patch_verdict job labels regions left p ≡ Ok tt
     -- where all is settled, a build of any job is accepted and reads back
     pub every_job : (labels : Table) (entry regions : List ℕ) → Holds lines start regions → OthersPass labels entry → OnWords regions
         → Each (Settled lines start labels regions) (routine_patches lines start) → (job : Job)
-        → (build_verdict job labels entry regions left ≡ Pass) × (readings (image_of (build_outcome job labels entry regions left).regions) left ≡ destinations labels left)
+        → (build_verdict job labels entry regions left ≡ Ok tt) × (readings (image_of (build_outcome job labels entry regions left).regions) left ≡ destinations labels left)
 
 module _ (lines : List RoutineLine) (start : Buffers) (empty : AllEmpty start) (bytes : Each OfBytes lines) (accepted : AllAccepted lines start) where
   abbrev pending : List ℕ
@@ -96,12 +94,12 @@ module _ (lines : List RoutineLine) (start : Buffers) (empty : AllEmpty start) (
   half_readable job labels regions Upper p m e n = tidy.upper_paired p m e
   half_readable job labels regions Full p m e n = tt
 
-  reads_exactly : (job : Job) (labels : Table) (entry regions : List ℕ) → build_verdict job labels entry regions pending ≡ Pass
+  reads_exactly : (job : Job) (labels : Table) (entry regions : List ℕ) → build_verdict job labels entry regions pending ≡ Ok tt
       → (p : ℕ) → In pending p → Going (pending_at pending p).kind → RegionOnWord regions pending p
       → (OnTarget job labels regions pending p → ReadsBack job labels entry regions pending p) × (ReadsBack job labels entry regions pending p → OnTarget job labels regions pending p)
   reads_exactly job labels entry regions pass p m g h = exactly job labels entry regions pending pass tidy.apart p m g (aligned regions p m h)
 
-  line_reads : (job : Job) (labels entry regions : List ℕ) → Bytes labels → build_verdict job (table_of labels) entry regions pending ≡ Pass
+  line_reads : (job : Job) (labels entry regions : List ℕ) → Bytes labels → build_verdict job (table_of labels) entry regions pending ≡ Ok tt
       → (p : ℕ) → In pending p → Going (pending_at pending p).kind → RegionOnWord regions pending p
       → (t : ToLine lines start (table_of labels) regions (patch_at pending p)) → (region_number regions t.region).address % 4 ≡ 0
       → (job ≡ Commit → (pending_at pending p).kind ≡ Branch → t.region ≡ (pending_at pending p).region)
@@ -111,13 +109,13 @@ module _ (lines : List RoutineLine) (start : Buffers) (empty : AllEmpty start) (
       let small = resolve_lt labels t.location.source t.name ((region_number regions t.region).address + t.mark) b t.address_is in
       let on = label_on lines start empty bytes accepted (table_of labels) regions p t job entry pass m small word own kept in
       let back = (reads_exactly job (table_of labels) entry regions pass p m g h).0 on in
-      let goal : Known (reading (image_of (build_outcome job (table_of labels) entry regions pending).regions) (pending_at pending p)) ≡ Known ((region_number regions t.region).address + t.mark) =
+      let goal : Some (reading (image_of (build_outcome job (table_of labels) entry regions pending).regions) (pending_at pending p)) ≡ Some ((region_number regions t.region).address + t.mark) =
       back ∙ to_label lines start empty bytes accepted (table_of labels) regions p t small in
       cc
 
   all_jobs : (labels : Table) (entry regions : List ℕ) → Holds lines start regions → OthersPass labels entry → OnWords regions
       → Each (Settled lines start labels regions) (routine_patches lines start) → (job : Job)
-      → (build_verdict job labels entry regions pending ≡ Pass) × (readings (image_of (build_outcome job labels entry regions pending).regions) pending ≡ destinations labels pending)
+      → (build_verdict job labels entry regions pending ≡ Ok tt) × (readings (image_of (build_outcome job labels entry regions pending).regions) pending ≡ destinations labels pending)
   all_jobs labels entry regions holds others words all job =
       let pass = settled_accepted lines start empty bytes accepted regions holds labels job entry others all in (
         pass,

@@ -2,12 +2,11 @@
 -- plain. Assumes nothing.
 use Prim.Native.Nat.{ℕ, ◌+◌, ◌/◌, ◌^◌, ◌<◌, ◌≤◌}
 use Rattle.std.proofs.Common.{arith}
-use Rattle.std.specs.Prelude.{◌≡◌, refl, List, Bool, true, false, leb}
+use Rattle.std.specs.Prelude.{◌≡◌, refl, List, Bool, true, false, leb, None}
 use Rattle.std.proofs.Math.Bool.{and-eq-true_iff}
 use borrow.Author.Tests.{le-leb, eq-eqb}
 use Rattle.jobs.specs.declared.Job.{Job}
 use Rattle.jobs.specs.Jobs.{by_manual, most_back, most_ahead}
-use Rattle.record.specs.declared.Layout.TheVariants.{Good}
 use Rattle.regions.specs.declared.Region.{Region}
 use Rattle.regions.specs.Regions.{region_layout, region_count, region_place}
 use Rattle.regions.proofs.RegionsLaws.{region_is, region_place_ok, region_good}
@@ -24,7 +23,7 @@ pub record Stays (region : Region) (dest : ℕ) : Type 0 where
   pub to : dest ≤ region.address + region.size
 
 -- "A lent buffer is at most 65,536 bytes": a region has at most 65,528 bytes of data
-pub region_short : (regions : List ℕ) (n : ℕ) → region_layout regions ≡ Good → n < region_count regions → (region_number regions n).size ≤ 65528
+pub region_short : (regions : List ℕ) (n : ℕ) → region_layout regions ≡ None → n < region_count regions → (region_number regions n).size ≤ 65528
 region_short regions n g h =
     let r = region_is regions (region_place regions n) (region_place_ok regions n g h) in
     omega (arith, r.body, r.least, (region_good regions g).0)

@@ -1,10 +1,9 @@
 -- A pending list that reads as patches of calls one after the other is tidy. Assumes nothing.
-use Rattle.std.specs.Prelude.{ℕ, ◌+◌, ◌≤◌, ◌≡◌, ◌⊎◌, true}
+use Rattle.std.specs.Prelude.{ℕ, ◌+◌, ◌≤◌, ◌≡◌, ◌⊎◌, true, None}
 use Rattle.std.proofs.Common.{sym, subst, inl, inr}
 use mathlib.Core.List.{List, map, Memᴰ}
 use Rattle.record.specs.Records.{places}
 use Rattle.record.proofs.OneMoreLaws.{good_each}
-use Rattle.record.specs.declared.Layout.TheVariants.{Good}
 use Rattle.pending.specs.Pendings.{pending_ok, pending_layout}
 use Rattle.pending.proofs.PendingsLaws.{pending_good}
 use Rattle.finished_words.specs.Listed.{In}
@@ -20,7 +19,7 @@ use Rattle.routine_reading.specs.Tidy.{Tidy}
 -- a pending list that keeps its layout, for some count of regions, and that reads as these patches
 pub record Left (pending : List ℕ) (patches : List Patch) : Type 0 where
   pub regions : ℕ
-  pub takes : pending_layout regions pending ≡ Good
+  pub takes : pending_layout regions pending ≡ None
   pub patches_are : patches_in pending ≡ patches
   pub listed : Listed patches
 

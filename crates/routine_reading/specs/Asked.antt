@@ -1,7 +1,6 @@
 -- What reading back still asks of a build of what emit calls left: nothing about patches. Assumes nothing.
-use Rattle.std.specs.Prelude.{ℕ, ◌%◌, ◌≡◌, List}
+use Rattle.std.specs.Prelude.{ℕ, ◌%◌, ◌≡◌, List, Ok}
 use Rattle.jobs.specs.declared.Job.{Job}
-use Rattle.refusal.specs.declared.Verdict.TheVariants.{Pass}
 use Rattle.labels.specs.Labels.{Table}
 use Rattle.pending.specs.Pendings.{pending_at}
 use Rattle.patch.specs.Patches.{region_for}
@@ -15,7 +14,7 @@ RegionOnWord regions pending p = (region_for regions (pending_at pending p)).add
 
 pub record Asked (job : Job) (labels : Table) (entry regions pending : List ℕ) : Type 0 where
   -- "An accepted build is one to which no refusal is due"
-  pub accepted : build_verdict job labels entry regions pending ≡ Pass
+  pub accepted : build_verdict job labels entry regions pending ≡ Ok tt
   pub regions_on_words : (p : ℕ) → In pending p → RegionOnWord regions pending p
   -- "branch and jump destinations multiples of four, branch distances within -32,768 to 32,767 words"
   pub on_target : (p : ℕ) → In pending p → Going (pending_at pending p).kind → OnTarget job labels regions pending p

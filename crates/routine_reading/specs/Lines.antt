@@ -1,12 +1,8 @@
 -- A routine with labels before its lines, and a build of what it leaves. Assumes nothing.
-use Rattle.std.specs.Prelude.{ℕ, ◌+◌, ◌/◌, ◌%◌, ◌^◌, ◌<◌, ◌≤◌, ◌≡◌, List, ◌∷◌}
+use Rattle.std.specs.Prelude.{ℕ, ◌+◌, ◌/◌, ◌%◌, ◌^◌, ◌<◌, ◌≤◌, ◌≡◌, List, ◌∷◌, None, Ok, Some}
 use Rattle.record.specs.Records.{places}
 use Rattle.record.specs.declared.Location.{Location}
-use Rattle.record.specs.declared.Layout.TheVariants.{Good}
-use Rattle.names.specs.declared.Repeat.TheVariants.{None}
-use Rattle.refusal.specs.declared.Verdict.TheVariants.{Pass}
 use Rattle.labels.specs.Labels.{Table}
-use Rattle.labels.specs.declared.Address.TheVariants.{Known}
 use Rattle.regions.specs.declared.Region.{Region}
 use Rattle.regions.specs.Regions.{region_layout, region_count, region_place, region_at}
 use Rattle.address_label.specs.Entries.{entry_layout, entry_of}
@@ -45,27 +41,27 @@ module _ (lines : List RoutineLine) (start : Buffers) (labels : Table) (regions 
     pub region : ℕ
     pub mark : ℕ
     pub marked : LineMark region lines start mark
-    pub address_is : labels.address location.source name ≡ Known ((region_number regions region).address + mark)
+    pub address_is : labels.address location.source name ≡ Some ((region_number regions region).address + mark)
 
   -- What a loft writes: a half's name is known, and a branch or a jump goes to a label of its own region, which is plain for it.
   pub record Settled (y : Patch) : Type 0 where
-    pub half_known : (Going y.kind → ⊥) → (d : ℕ) × (target_address labels y.target ≡ Known d)
+    pub half_known : (Going y.kind → ⊥) → (d : ℕ) × (target_address labels y.target ≡ Some d)
     pub to_line : Going y.kind → ToLine y
     pub in_own : (g : Going y.kind) → (to_line g).region ≡ y.region
     pub plain : Going y.kind → Plain y.kind (region_number regions y.region)
 
 -- the build has the regions that the lines selected, with the data that they left, or more
 pub record Holds (lines : List RoutineLine) (start : Buffers) (regions : List ℕ) : Type 0 where
-  pub regions_good : region_layout regions ≡ Good
+  pub regions_good : region_layout regions ≡ None
   pub selected : Each (λ l. l.place.region < region_count regions) lines
   pub data_kept : (r : ℕ) → r < region_count regions → ((run lines start).region_data r).fill ≤ (region_number regions r).size
 
 -- its other lists: refusals 1, 2 and 13 are not due
 pub record OthersPass (labels : Table) (entry : List ℕ) : Type 0 where
-  pub labels_good : labels.layout ≡ Good
+  pub labels_good : labels.layout ≡ None
   pub names_good : labels.repeat ≡ None
-  pub entry_good : entry_layout entry ≡ Good
-  pub entry_passes : entry_verdict labels entry (entry_of entry (places entry)) ≡ Pass
+  pub entry_good : entry_layout entry ≡ None
+  pub entry_passes : entry_verdict labels entry (entry_of entry (places entry)) ≡ Ok tt
 
 -- every region begins at a multiple of four
 abbrev pub OnWords : List ℕ → Type 0

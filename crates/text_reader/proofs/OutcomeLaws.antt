@@ -1,5 +1,5 @@
 -- Laws of the answer and of the records, from a place of the text on. Assumes nothing.
-use Rattle.std.specs.Prelude.{ℕ, ◌+◌, ◌≤◌, ◌<◌, Bool, true, false, ◌≡◌, refl, leb}
+use Rattle.std.specs.Prelude.{ℕ, ◌+◌, ◌≤◌, ◌<◌, Bool, true, false, ◌≡◌, refl, leb, Err, Ok, Result}
 use Rattle.std.proofs.Common.{arith, sym, subst, ◌∙◌, length-append}
 use mathlib.Core.List.{List, [], ◌++◌}
 use Rattle.std.proofs.lemmas.Bool.{false≢true}
@@ -21,12 +21,11 @@ use Rattle.byte_class.specs.declared.Class.TheVariants.{Blank as BlankClass, New
 use Rattle.text_pieces.specs.Pieces.{piece_of, piece_at}
 use Rattle.text_pieces.specs.declared.Piece.{Piece}
 use Rattle.text_pieces.specs.declared.Piece.TheVariants.{Blank, Token, BadByte, BadToken}
-use Rattle.text_reader.specs.declared.TextRead.{TextRead}
-use Rattle.text_reader.specs.declared.TextRead.TheVariants.{Read, Refused}
 use Rattle.text_reader.specs.Reading.{Reading, End, Next, Fault, location_of, reading, reading_from}
 use Rattle.text_reader.proofs.ReadingLaws.{reading_end, reading_step}
 use Rattle.text_reader.proofs.FitLaws.{Good, Stands, piece_good}
 use Rattle.text_reader.specs.Outcome.{answer_from, bytes_of, answer_of, leaves, outcome_of, read_text, is_read}
+use Rattle.refusal.specs.declared.Refusal.{Refusal}
 
 -- where a blank byte stands there is a blank
 pub blank_stands : (s : List ℕ) (at : ℕ) → blank_byte (byte_at s at) ≡ true → Blank ≡ piece_at s at
@@ -51,43 +50,43 @@ module _ (text : List ℕ) (room fill : ℕ) (t : TokenRead) (r : Reading) where
   unfolding answer_from
   next_fits h = rw (le-leb (fill + length (token_bytes text t)) room h, answer_from)
 
-  next_short : room < fill + length (token_bytes text t) → answer_from text room fill (Next t r) ≡ Refused (NoTokenSpace t.location)
+  next_short : room < fill + length (token_bytes text t) → answer_from text room fill (Next t r) ≡ Err (NoTokenSpace t.location)
   unfolding answer_from
   next_short h = rw (lt-leb (fill + length (token_bytes text t)) room h, answer_from)
 
 -- an accepted reading's records end within the buffer, and there is its fill
 pub read_fits : (text : List ℕ) (room fill : ℕ) (r : Reading) → fill ≤ room → is_read (answer_from text room fill r) ≡ true
-    → (fill + length (bytes_of text r) ≤ room) × (answer_from text room fill r ≡ Read (fill + length (bytes_of text r)))
+    → (fill + length (bytes_of text r) ≤ room) × (answer_from text room fill r ≡ Ok (fill + length (bytes_of text r)))
 unfolding answer_from bytes_of
 read_fits text room fill End h e =
     let z : fill ≡ fill + 0 = omega arith in
-    (omega arith, ap Read z)
+    (omega arith, ap Ok z)
 read_fits text room fill (Next t r) h e = go (leb (fill + length (token_bytes text t)) room) refl (read_fits text room (fill + length (token_bytes text t)) r)
   where
     go : (b : Bool) → leb (fill + length (token_bytes text t)) room ≡ b
         → (fill + length (token_bytes text t) ≤ room → is_read (answer_from text room (fill + length (token_bytes text t)) r) ≡ true
         → (fill + length (token_bytes text t) + length (bytes_of text r) ≤ room)
-        × (answer_from text room (fill + length (token_bytes text t)) r ≡ Read (fill + length (token_bytes text t) + length (bytes_of text r))))
-        → (fill + length (bytes_of text (Next t r)) ≤ room) × (answer_from text room fill (Next t r) ≡ Read (fill + length (bytes_of text (Next t r))))
+        × (answer_from text room (fill + length (token_bytes text t)) r ≡ Ok (fill + length (token_bytes text t) + length (bytes_of text r))))
+        → (fill + length (bytes_of text (Next t r)) ≤ room) × (answer_from text room fill (Next t r) ≡ Ok (fill + length (bytes_of text (Next t r))))
     go true f ih =
         let l = leb-true (fill + length (token_bytes text t)) room f in
         let n = next_fits text room fill t r l in
         let x = ih l (sym (ap is_read n) ∙ e) in
         let m : fill + length (token_bytes text t) + length (bytes_of text r) ≡ fill + length (token_bytes text t ++ bytes_of text r) =
         omega (arith, length-append (token_bytes text t) (bytes_of text r)) in
-        (omega arith, n ∙ x.1 ∙ ap Read m)
+        (omega arith, n ∙ x.1 ∙ ap Ok m)
     go false f ih = absurd (false≢true (sym (ap is_read (next_short text room fill t r (leb-false (fill + length (token_bytes text t)) room f))) ∙ e))
 read_fits text room fill (Fault x) h e = absurd (false≢true e)
 
 -- ---- from a place on, by the piece that stands there
 module _ (source : ℕ) (text : List ℕ) (at : ℕ) where
-  abbrev pub answer_at : (room fill : ℕ) → TextRead
+  abbrev pub answer_at : (room fill : ℕ) → Result ℕ Refusal
   answer_at room fill = answer_from text room fill (reading_from source text at)
 
   abbrev pub bytes_at : List ℕ
   bytes_at = bytes_of text (reading_from source text at)
 
-  pub answer_end : (room fill : ℕ) → length text ≤ at → answer_at room fill ≡ Read fill
+  pub answer_end : (room fill : ℕ) → length text ≤ at → answer_at room fill ≡ Ok fill
   unfolding answer_from
   answer_end room fill h = ap (answer_from text room fill) (reading_end source text at h)
 
@@ -106,11 +105,11 @@ module _ (source : ℕ) (text : List ℕ) (at : ℕ) (p : Piece) (h : at < lengt
     pub bytes_blank : bytes_at source text at ≡ bytes_at source text (at + 1)
     bytes_blank = ap (bytes_of text) blank
 
-  pub answer_byte : p ≡ BadByte → (room fill : ℕ) → answer_at source text at room fill ≡ Refused (Refusal21 (location_of source at))
+  pub answer_byte : p ≡ BadByte → (room fill : ℕ) → answer_at source text at room fill ≡ Err (Refusal21 (location_of source at))
   unfolding answer_from
   answer_byte f room fill = ap (answer_from text room fill) (reading_step source text at BadByte h (sym f ∙ e))
 
-  pub answer_bad : p ≡ BadToken → (room fill : ℕ) → answer_at source text at room fill ≡ Refused (Refusal22 (location_of source at))
+  pub answer_bad : p ≡ BadToken → (room fill : ℕ) → answer_at source text at room fill ≡ Err (Refusal22 (location_of source at))
   unfolding answer_from
   answer_bad f room fill = ap (answer_from text room fill) (reading_step source text at BadToken h (sym f ∙ e))
 
@@ -134,7 +133,7 @@ module _ (source : ℕ) (text : List ℕ) (at : ℕ) (p : Piece) (h : at < lengt
         ∙ next_fits text room fill token rest (omega (arith, record_length))
         ∙ ap (λ (n : ℕ). answer_from text room (fill + n) rest) record_length
 
-    pub answer_short : (room fill : ℕ) → room < fill + record_size kind → answer_at source text at room fill ≡ Refused (NoTokenSpace (location_of source at))
+    pub answer_short : (room fill : ℕ) → room < fill + record_size kind → answer_at source text at room fill ≡ Err (NoTokenSpace (location_of source at))
     answer_short room fill l = ap (answer_from text room fill) met ∙ next_short text room fill token (reading_from source text (at + size)) (omega (arith, record_length))
 
     bytes_token : bytes_at source text at ≡ token_bytes text token ++ bytes_at source text (at + size)
@@ -163,20 +162,20 @@ module _ (source : ℕ) (text : List ℕ) (at : ℕ) (p : Piece) (h : at < lengt
         ∙ ap (λ (x : List ℕ). append x (fill + record_size kind) (bytes_at source text (at + size))) (sym w)
 
 -- ---- the whole call
-kept : (r : TextRead) (records buffer : List ℕ) → is_read r ≡ false → leaves r records buffer ≡ buffer
-kept (Read fill) records buffer e = absurd (false≢true (sym e))
-kept (Refused r) records buffer e = refl
+kept : (r : Result ℕ Refusal) (records buffer : List ℕ) → is_read r ≡ false → leaves r records buffer ≡ buffer
+kept (Ok fill) records buffer e = absurd (false≢true (sym e))
+kept (Err r) records buffer e = refl
 
-written : (r : TextRead) (records buffer : List ℕ) → is_read r ≡ true → leaves r records buffer ≡ append buffer 0 records
-written (Read fill) records buffer e = refl
-written (Refused r) records buffer e = absurd (false≢true e)
+written : (r : Result ℕ Refusal) (records buffer : List ℕ) → is_read r ≡ true → leaves r records buffer ≡ append buffer 0 records
+written (Ok fill) records buffer e = refl
+written (Err r) records buffer e = absurd (false≢true e)
 
 module _ (text : List ℕ) (source : ℕ) (tokens : List ℕ) where
-  pub over_text : limit < length text → answer_of text source (length tokens) ≡ Refused (BadLayout 0 limit)
+  pub over_text : limit < length text → answer_of text source (length tokens) ≡ Err (BadLayout 0 limit)
   unfolding answer_of
   over_text h = rw (lt-leb (length text) limit h, answer_of)
 
-  pub over_tokens : length text ≤ limit → limit < length tokens → answer_of text source (length tokens) ≡ Refused (BadLayout 1 limit)
+  pub over_tokens : length text ≤ limit → limit < length tokens → answer_of text source (length tokens) ≡ Err (BadLayout 1 limit)
   unfolding answer_of
   over_tokens h l = rw (le-leb (length text) limit h, lt-leb (length tokens) limit l, answer_of)
 
@@ -185,14 +184,14 @@ module _ (text : List ℕ) (source : ℕ) (tokens : List ℕ) where
   within_limits h l = rw (le-leb (length text) limit h, le-leb (length tokens) limit l, answer_of)
 
   -- a refusal leaves the buffer; what is read is written from its start on
-  outcome_is : (r : TextRead) (d : List ℕ) → answer_of text source (length tokens) ≡ r → leaves r (bytes_of text (reading source text)) tokens ≡ d
+  outcome_is : (r : Result ℕ Refusal) (d : List ℕ) → answer_of text source (length tokens) ≡ r → leaves r (bytes_of text (reading source text)) tokens ≡ d
       → read_text text source tokens ≡ (record { answer = r; tokens = d })
   unfolding read_text
-  outcome_is r d e f = ap (λ (x : TextRead). outcome_of x (bytes_of text (reading source text)) tokens) e ∙ ap (λ (x : List ℕ). record { answer = r; tokens = x }) f
+  outcome_is r d e f = ap (λ (x : Result ℕ Refusal). outcome_of x (bytes_of text (reading source text)) tokens) e ∙ ap (λ (x : List ℕ). record { answer = r; tokens = x }) f
 
-  pub refused_outcome : (r : TextRead) → answer_of text source (length tokens) ≡ r → is_read r ≡ false → read_text text source tokens ≡ (record { answer = r; tokens = tokens })
+  pub refused_outcome : (r : Result ℕ Refusal) → answer_of text source (length tokens) ≡ r → is_read r ≡ false → read_text text source tokens ≡ (record { answer = r; tokens = tokens })
   refused_outcome r e f = outcome_is r tokens e (kept r (bytes_of text (reading source text)) tokens f)
 
-  pub read_outcome_lem : (r : TextRead) (d : List ℕ) → answer_of text source (length tokens) ≡ r → is_read r ≡ true → d ≡ append tokens 0 (bytes_of text (reading source text))
+  pub read_outcome_lem : (r : Result ℕ Refusal) (d : List ℕ) → answer_of text source (length tokens) ≡ r → is_read r ≡ true → d ≡ append tokens 0 (bytes_of text (reading source text))
       → read_text text source tokens ≡ (record { answer = r; tokens = d })
   read_outcome_lem r d e f g = outcome_is r d e (written r (bytes_of text (reading source text)) tokens f ∙ sym g)

@@ -1,5 +1,5 @@
 -- One pass over a text, which writes or does not. Assumes nothing.
-use Rattle.std.specs.Prelude.{ℕ, ◌+◌, ◌≤◌, ◌<◌, List, Bool, true, false, ◌≡◌, refl, length}
+use Rattle.std.specs.Prelude.{ℕ, ◌+◌, ◌≤◌, ◌<◌, List, Bool, true, false, ◌≡◌, refl, length, Err}
 use Rattle.std.proofs.lemmas.Bool.{false≢true}
 use Rattle.std.proofs.Common.{sym, ap, ◌∙◌}
 use Rattle.record.specs.Stores.{append}
@@ -10,7 +10,6 @@ use Rattle.token_bytes.specs.TokenBytes.{token_bytes}
 use Rattle.text_pieces.specs.Pieces.{piece_at}
 use Rattle.text_pieces.specs.declared.Piece.{Piece}
 use Rattle.text_pieces.specs.declared.Piece.TheVariants.{Blank, Token}
-use Rattle.text_reader.specs.declared.TextRead.TheVariants.{Refused}
 use Rattle.text_reader.specs.Reading.{location_of}
 use Rattle.text_reader.specs.Outcome.{is_read, Accepts, Leaves}
 use Rattle.text_reader.proofs.OutcomeLaws.{record_size, answer_at, bytes_at, bytes_end, answer_blank, bytes_blank, token_read, write_turn}
@@ -33,7 +32,7 @@ module _ (source : ℕ) (text d : List ℕ) where
     )
     going_blank false p h e f g = g
 
-    pub going_fault : (w : Bool) (r : Refusal) → answer_at source text at (length d') fill ≡ Refused r → Going w d' at fill → Leaves w d d' (bytes_at source text 0)
+    pub going_fault : (w : Bool) (r : Refusal) → answer_at source text at (length d') fill ≡ Err r → Going w d' at fill → Leaves w d d' (bytes_at source text 0)
     going_fault true r e g = absurd (false≢true (sym (ap is_read e) ∙ g.0))
     going_fault false r e g = g
 

@@ -1,5 +1,5 @@
 -- What `read_text` leaves is a token list of an emit call, and its tokens are those of the text (document 02, P7). Assumes nothing.
-use Rattle.std.specs.Prelude.{ℕ, ◌+◌, ◌^◌, ◌≤◌, ◌<◌, List, Bool, true, false, ◌≡◌, refl, length, leb}
+use Rattle.std.specs.Prelude.{ℕ, ◌+◌, ◌^◌, ◌≤◌, ◌<◌, List, Bool, true, false, ◌≡◌, refl, length, leb, Err, Ok, Result}
 use Rattle.std.proofs.Common.{zero-add, arith, subst, ◌∙◌, leb-true, leb-false}
 use Rattle.std.proofs.Math.Path.{sym, ap}
 use Rattle.std.proofs.Math.ListN.{take}
@@ -8,8 +8,6 @@ use Rattle.record.specs.Stores.{append}
 use Rattle.record.proofs.StoresLaws.{filled_append}
 use Rattle.refusal.specs.declared.Refusal.{Refusal}
 use Rattle.token_bytes.proofs.Written.{list_bytes, AllFit, Written, written_reads_back}
-use Rattle.text_reader.specs.declared.TextRead.{TextRead}
-use Rattle.text_reader.specs.declared.TextRead.TheVariants.{Read, Refused}
 use Rattle.text_reader.specs.Reading.{reading, tokens_of}
 use Rattle.text_reader.specs.Outcome.{answer_of, bytes_of, leaves, read_text, is_read}
 use Rattle.text_reader.proofs.OutcomeLaws.{read_fits, over_text, over_tokens, within_limits}
@@ -28,7 +26,7 @@ all_fit source text h l =
       f,
     ))
 
-module _ (text : List ℕ) (source : ℕ) (tokens : List ℕ) (fill : ℕ) (read : answer_of text source (length tokens) ≡ Read fill) where
+module _ (text : List ℕ) (source : ℕ) (tokens : List ℕ) (fill : ℕ) (read : answer_of text source (length tokens) ≡ Ok fill) where
   abbrev records : List ℕ
   records = bytes_of text (reading source text)
 
@@ -36,7 +34,7 @@ module _ (text : List ℕ) (source : ℕ) (tokens : List ℕ) (fill : ℕ) (read
   within : (length text ≤ limit) × (length tokens ≤ limit)
   within = go (leb (length text) limit) refl (leb (length tokens) limit) refl
     where
-      refused : {r : Refusal} → answer_of text source (length tokens) ≡ Refused r → ⊥
+      refused : {r : Refusal} → answer_of text source (length tokens) ≡ Err r → ⊥
       refused e = let z : ◌≡◌ {A = ℕ} 0 1 = cc in omega arith
 
       go : (t : Bool) → leb (length text) limit ≡ t → (u : Bool) → leb (length tokens) limit ≡ u → (length text ≤ limit) × (length tokens ≤ limit)
@@ -55,14 +53,14 @@ module _ (text : List ℕ) (source : ℕ) (tokens : List ℕ) (fill : ℕ) (read
   list_is : take fill (read_text text source tokens).tokens ≡ list_bytes text (tokens_of (reading source text))
   unfolding read_text
   list_is =
-      ap (λ (r : TextRead). take fill (leaves r records tokens)) read
+      ap (λ (r : Result ℕ Refusal). take fill (leaves r records tokens)) read
       ∙ ap (λ (n : ℕ). take n (append tokens 0 records)) filled.0
       ∙ sym (ap (λ (n : ℕ). take n (append tokens 0 records)) (zero-add (length records)))
       ∙ filled_append tokens 0 records (omega arith)
       ∙ bytes_are text (reading source text)
 
 -- the fill is within the token buffer
-pub fill_within : (text : List ℕ) (source : ℕ) (tokens : List ℕ) (fill : ℕ) → (read_text text source tokens).answer ≡ Read fill → fill ≤ length tokens
+pub fill_within : (text : List ℕ) (source : ℕ) (tokens : List ℕ) (fill : ℕ) → (read_text text source tokens).answer ≡ Ok fill → fill ≤ length tokens
 unfolding read_text
 fill_within text source tokens fill read =
     let w = within text source tokens fill read in
@@ -71,7 +69,7 @@ fill_within text source tokens fill read =
 
 -- the filled part of the token buffer keeps the layout that an emit call asks of its token list, and read as such it is the tokens of the
 -- text, location, kind and text of each
-pub reads_back : (text : List ℕ) (source : ℕ) (tokens : List ℕ) (fill : ℕ) → source < 2 ^ 32 → (read_text text source tokens).answer ≡ Read fill
+pub reads_back : (text : List ℕ) (source : ℕ) (tokens : List ℕ) (fill : ℕ) → source < 2 ^ 32 → (read_text text source tokens).answer ≡ Ok fill
     → Written text (tokens_of (reading source text)) (take fill (read_text text source tokens).tokens)
 unfolding read_text
 reads_back text source tokens fill h read =

@@ -1,5 +1,5 @@
 -- The definition, computed: texts that are read, among them one that the theorems' premises fit, and each refusal. Assumes nothing.
-use Rattle.std.specs.Prelude.{ℕ, [], ◌∷◌, ◌≡◌, refl, replicate}
+use Rattle.std.specs.Prelude.{ℕ, [], ◌∷◌, ◌≡◌, refl, replicate, Err, Ok, Result}
 use Prim.Native.String.{String}
 use Rattle.refusal.specs.declared.Refusal.TheVariants.{BadByte, BadToken, NoTokenSpace}
 use Rattle.registers.specs.declared.RegisterSlot.TheVariants.{Temporary0}
@@ -8,10 +8,9 @@ use Rattle.lexer.specs.declared.TokenKind.{TokenKind}
 use Rattle.lexer.specs.declared.TokenKind.TheVariants.{Comment, Directive, Register, IntegerLiteral, Symbol, Minus, Comma, NewLine}
 use Rattle.register_names.specs.RegisterNames.{bytes_of}
 use Rattle.text_pieces.specs.Pieces.{piece_at}
-use Rattle.text_reader.specs.declared.TextRead.{TextRead}
-use Rattle.text_reader.specs.declared.TextRead.TheVariants.{Read, Refused}
 use Rattle.text_reader.specs.Reading.{location_of, reading_from, reading, tokens_of}
 use Rattle.text_reader.specs.Outcome.{answer_of, answer_from, read_text}
+use Rattle.refusal.specs.declared.Refusal.{Refusal}
 
 abbrev token : ℕ → TokenKind → Token
 token at kind = record { location = location_of 7 at; kind = kind }
@@ -28,35 +27,35 @@ pub capital : tokens_of (reading 7 (bytes_of "0X1")) ≡ token 0 (IntegerLiteral
 unfolding reading_from piece_at
 capital = refl
 
-abbrev answer : String → (room : ℕ) → TextRead
+abbrev answer : String → (room : ℕ) → Result ℕ Refusal
 answer text room = answer_of (bytes_of text) 7 room
 
 -- a record of 15 bytes and one of 12
-pub room_for_all : (answer "add\n" 27 ≡ Read 27) × (answer "add\n" 26 ≡ Refused (NoTokenSpace (location_of 7 3)))
+pub room_for_all : (answer "add\n" 27 ≡ Ok 27) × (answer "add\n" 26 ≡ Err (NoTokenSpace (location_of 7 3)))
 unfolding answer_of answer_from reading_from piece_at
 room_for_all = (refl, refl)
 
 -- what `reads_back` asks for can be met
-pub premise_met : (read_text (bytes_of "add\n") 7 (replicate 27 0)).answer ≡ Read 27
+pub premise_met : (read_text (bytes_of "add\n") 7 (replicate 27 0)).answer ≡ Ok 27
 unfolding read_text answer_of answer_from reading_from piece_at
 premise_met = refl
 
 -- 21: a byte that starts no token; a tab in a comment; a string not closed on its line
-pub refused_21 : (answer "a;" 99 ≡ Refused (BadByte (location_of 7 1))) × (answer "#\t" 99 ≡ Refused (BadByte (location_of 7 0))) × (answer "\"a\n\"" 99 ≡ Refused (BadByte (location_of 7 0)))
+pub refused_21 : (answer "a;" 99 ≡ Err (BadByte (location_of 7 1))) × (answer "#\t" 99 ≡ Err (BadByte (location_of 7 0))) × (answer "\"a\n\"" 99 ≡ Err (BadByte (location_of 7 0)))
 unfolding answer_of answer_from reading_from piece_at
 refused_21 = (refl, refl, refl)
 
 -- 22: a parameter without a name; an unknown register; `0x` without a digit
-pub refused_22 : (answer " %" 99 ≡ Refused (BadToken (location_of 7 1))) × (answer "$f32" 99 ≡ Refused (BadToken (location_of 7 0))) × (answer "0xg" 99 ≡ Refused (BadToken (location_of 7 0)))
+pub refused_22 : (answer " %" 99 ≡ Err (BadToken (location_of 7 1))) × (answer "$f32" 99 ≡ Err (BadToken (location_of 7 0))) × (answer "0xg" 99 ≡ Err (BadToken (location_of 7 0)))
 unfolding answer_of answer_from reading_from piece_at
 refused_22 = (refl, refl, refl)
 
 -- the greatest number of 64 bits, and one more
-pub the_greatest : (answer "18446744073709551615" 99 ≡ Read 20) × (answer "18446744073709551616" 99 ≡ Refused (BadToken (location_of 7 0)))
+pub the_greatest : (answer "18446744073709551615" 99 ≡ Ok 20) × (answer "18446744073709551616" 99 ≡ Err (BadToken (location_of 7 0)))
 unfolding answer_of answer_from reading_from piece_at
 the_greatest = (refl, refl)
 
 -- without room 21 and 22 go before 23
-pub no_room : (answer "\"" 0 ≡ Refused (BadByte (location_of 7 0))) × (answer "%" 0 ≡ Refused (BadToken (location_of 7 0))) × (answer "+;" 0 ≡ Refused (NoTokenSpace (location_of 7 0)))
+pub no_room : (answer "\"" 0 ≡ Err (BadByte (location_of 7 0))) × (answer "%" 0 ≡ Err (BadToken (location_of 7 0))) × (answer "+;" 0 ≡ Err (NoTokenSpace (location_of 7 0)))
 unfolding answer_of answer_from reading_from piece_at
 no_room = (refl, refl, refl)

@@ -14,13 +14,6 @@ use record::Location;
 use refusal::Refusal;
 use text_pieces::Piece;
 
-#[derive(Clone, Copy)]
-pub enum TextRead {
-    // the fill of the token buffer
-    Read(u32),
-    Refused(Refusal),
-}
-
 // The location of the token that begins at `at`.
 fn location_of(source: u32, at: usize) -> Location
     requires { at < limit }
@@ -33,7 +26,7 @@ fn location_of(source: u32, at: usize) -> Location
 }
 
 // One pass over the text: its answer for the token buffer and, where `writes`, the records of a text that is accepted.
-fn pass(text: &[u8], source: u32, tokens: &mut [u8], writes: bool) -> TextRead
+fn pass(text: &[u8], source: u32, tokens: &mut [u8], writes: bool) -> Result<u32, Refusal>
     requires text_len_bound { (length text.now ≤ limit) × (length tokens.old ≤ limit) }
     requires accepts { Accepts writes (answer_from text.now (length tokens.old) 0 (reading source text.now)) }
     ensures { (result ≡ answer_from text.now (length tokens.old) 0 (reading source text.now))
@@ -55,7 +48,7 @@ fn pass(text: &[u8], source: u32, tokens: &mut [u8], writes: bool) -> TextRead
                 Piece::Token(kind, size) => {
                     let end = fill + token_bytes::record_size(kind);
                     if room < end {
-                        return TextRead::Refused(Refusal::NoTokenSpace(location_of(source, at)));
+                        return Err(Refusal::NoTokenSpace(location_of(source, at)));
                     }
                     if writes {
                         let location = location_of(source, at);
@@ -68,35 +61,35 @@ fn pass(text: &[u8], source: u32, tokens: &mut [u8], writes: bool) -> TextRead
                     }
                 }
                 Piece::BadByte => {
-                    return TextRead::Refused(Refusal::BadByte(location_of(source, at)));
+                    return Err(Refusal::BadByte(location_of(source, at)));
                 }
                 Piece::BadToken => {
-                    return TextRead::Refused(Refusal::BadToken(location_of(source, at)));
+                    return Err(Refusal::BadToken(location_of(source, at)));
                 }
             }
         }
     }
-    TextRead::Read(fill as u32)
+    Ok(fill as u32)
 }
 
-fn is_read(answer: TextRead) -> bool
+fn is_read(answer: Result<u32, Refusal>) -> bool
     ensures { result ≡ is_read answer }
 {
     match answer {
-        TextRead::Read(_) => true,
-        TextRead::Refused(_) => false,
+        Ok(_) => true,
+        Err(_) => false,
     }
 }
 
 // The tokens of the text as records, from the start of the token buffer on, or a refusal, and then no byte changes.
-pub fn read_text(text: &[u8], source: u32, tokens: &mut [u8]) -> TextRead
+pub fn read_text(text: &[u8], source: u32, tokens: &mut [u8]) -> Result<u32, Refusal>
     ensures { read_text text.now source tokens.old ≡ (record { answer = result; tokens = tokens.new }) }
 {
     if text.len() > record::LIMIT {
-        return TextRead::Refused(Refusal::BadLayout(0, 65536));
+        return Err(Refusal::BadLayout(0, 65536));
     }
     if tokens.len() > record::LIMIT {
-        return TextRead::Refused(Refusal::BadLayout(1, 65536));
+        return Err(Refusal::BadLayout(1, 65536));
     }
     let answer = pass(text, source, &mut *tokens, false);
     if is_read(answer) {

@@ -1,5 +1,5 @@
 -- Laws of a list of token records behind other bytes: places, tests and tokens are those of the list alone. Assumes nothing.
-use Rattle.std.specs.Prelude.{ℕ, zero, suc, ◌+◌, ◌-◌, ◌≤◌, ◌<◌, Bool, true, false, ◌&&◌, ◌≡◌, length, get_or, leb, ltb, eqb}
+use Rattle.std.specs.Prelude.{ℕ, zero, suc, ◌+◌, ◌-◌, ◌≤◌, ◌<◌, Bool, true, false, ◌&&◌, ◌≡◌, length, get_or, leb, ltb, eqb, None}
 use Rattle.std.proofs.Common.{arith, ◌∙◌, length-append, le-leb, leb-true, leb-false, ltb-true, ltb-false}
 use mathlib.Core.List.{List, [], ◌∷◌, ◌++◌, map}
 use Rattle.std.proofs.Math.Path.{refl, sym, ap, ap₂}
@@ -11,7 +11,6 @@ use Rattle.record.specs.Bytes.{byte_at, le64, location_at, part, is_text, all}
 use Rattle.record.specs.Records.{body_len, kind_at, next, whole, places_from, first_bad}
 use Rattle.record.proofs.RecordsLaws.{places_step, places_cut, places_end, first_good, first_pass}
 use Rattle.record.proofs.BehindLaws.{byte_behind, le16_behind, le64_behind, location_behind, part_behind}
-use Rattle.record.specs.declared.Layout.TheVariants.{Good}
 use Rattle.record.specs.declared.Location.{Location}
 use Rattle.registers.specs.Slots.{register_of, fp_register_of}
 use Rattle.lexer.specs.Tokens.{payload_len, payload_of, payload_ok, text_of, token_ok, kinds_at, token_at}
@@ -153,7 +152,7 @@ module _ (l r : List ℕ) where
       let z : length l ≡ behind 0 = omega arith in
       ap (places_from (l ++ r)) z ∙ places_from_lem (length r) 0 (omega arith)
 
-  pub good_behind : (ps : List ℕ) → first_bad (token_ok r) ps ≡ Good → first_bad (token_ok (l ++ r)) (map behind ps) ≡ Good
+  pub good_behind : (ps : List ℕ) → first_bad (token_ok r) ps ≡ None → first_bad (token_ok (l ++ r)) (map behind ps) ≡ None
   unfolding first_bad
   good_behind [] g = refl
   good_behind (p ∷ ps) g =

@@ -1,13 +1,12 @@
 -- Token records one behind the other: the list keeps its layout, and its tokens mean what was written (document 01, 'Tokens').
 -- Assumes nothing.
-use Rattle.std.specs.Prelude.{ℕ, ◌≤◌, List, [], ◌∷◌, ◌++◌, map, ◌≡◌, refl, length}
+use Rattle.std.specs.Prelude.{ℕ, ◌≤◌, List, [], ◌∷◌, ◌++◌, map, ◌≡◌, refl, length, None}
 use Rattle.std.proofs.Common.{arith, ap, ap₂, ◌∙◌, length-append}
 use Rattle.std.proofs.lemmas.Simd.{map-map}
 use Rattle.record.specs.Bytes.{all}
 use Rattle.record.specs.Stores.{LocationFits}
 use Rattle.record.specs.Records.{places, places_from, first_bad, limit}
 use Rattle.record.proofs.RecordsLaws.{places_all, places_step, first_pass, limit_kept}
-use Rattle.record.specs.declared.Layout.TheVariants.{Good}
 use Rattle.record.specs.declared.Location.{Location}
 use Rattle.registers.specs.declared.RegisterSlot.TheVariants.{Temporary0}
 use Rattle.lexer.specs.Tokens.{strip, token_ok, token_layout, token_at, tokens}
@@ -28,12 +27,12 @@ AllFit texts [] = Unit {0}
 AllFit texts (t ∷ ts) = TokenFits texts t × AllFit texts ts
 
 pub record Written (texts : List ℕ) (ts : List Token) (list : List ℕ) : Type 0 where
-  pub keeps : token_layout list ≡ Good
+  pub keeps : token_layout list ≡ None
   pub reads : map (meant list) (tokens list) ≡ map (meant texts) ts
 
 -- ---- by the records' places
 record Held (texts : List ℕ) (ts : List Token) (list : List ℕ) : Type 0 where
-  passes : first_bad (token_ok list) (places_from list 0) ≡ Good
+  passes : first_bad (token_ok list) (places_from list 0) ≡ None
   means : map (λ (p : ℕ). meant list (token_at list p)) (places_from list 0) ≡ map (meant texts) ts
 
 one_more : (texts : List ℕ) (t : Token) (ts : List Token) (r : List ℕ) → TokenFits texts t → Held texts ts r → Held texts (t ∷ ts) (token_bytes texts t ++ r)

@@ -1,5 +1,5 @@
 -- A token buffer over its limit is refused, however long it is; the length of the tokens' line. Assumes nothing.
-use Rattle.std.specs.Prelude.{ℕ, zero, suc, ◌+◌, ◌*◌, ◌≤◌, ◌<◌, min, List, ◌∷◌, ◌++◌, Bool, true, false, ◌≡◌, refl, leb, length, take, replicate}
+use Rattle.std.specs.Prelude.{ℕ, zero, suc, ◌+◌, ◌*◌, ◌≤◌, ◌<◌, min, List, ◌∷◌, ◌++◌, Bool, true, false, ◌≡◌, refl, leb, length, take, replicate, Err, Result}
 use Rattle.std.proofs.Common.{arith, sym, ◌∙◌, length-append, length-take, leb-true, leb-false}
 use Rattle.std.proofs.Math.Path.{ap}
 use Rattle.std.proofs.lemmas.List.{length-replicate}
@@ -7,8 +7,6 @@ use Rattle.record.specs.Records.{limit}
 use Rattle.pseudo_names.specs.PseudoNames.{bytes_of}
 use Rattle.refusal.specs.declared.Refusal.{Refusal}
 use Rattle.refusal.specs.Numbers.{numbered}
-use Rattle.text_reader.specs.declared.TextRead.{TextRead}
-use Rattle.text_reader.specs.declared.TextRead.TheVariants.{Refused}
 use Rattle.text_reader.specs.Reading.{reading}
 use Rattle.text_reader.specs.Outcome.{answer_of, bytes_of as records_of, leaves, read_text}
 use Rattle.text_reader.proofs.OutcomeLaws.{over_text, over_tokens}
@@ -35,9 +33,9 @@ pub part_held : (n room : ℕ) → room ≡ min n 65537 → let part = take room
 part_held n room e = part_at (replicate 65537 0) n room (length-replicate {A = ℕ} 65537 0) e
 
 module _ (text : List ℕ) (source : ℕ) where
-  refused_text : (d : List ℕ) (r : Refusal) → answer_of text source (length d) ≡ Refused r → outcome_text (read_text text source d) ≡ refused_line (numbered r)
+  refused_text : (d : List ℕ) (r : Refusal) → answer_of text source (length d) ≡ Err r → outcome_text (read_text text source d) ≡ refused_line (numbered r)
   unfolding read_text
-  refused_text d r e = ap (λ (a : TextRead). answer_text a (leaves a (records_of text (reading source text)) d)) e
+  refused_text d r e = ap (λ (a : Result ℕ Refusal). answer_text a (leaves a (records_of text (reading source text)) d)) e
 
   long_text : (a b : List ℕ) → limit < length a → limit < length b → outcome_text (read_text text source a) ≡ outcome_text (read_text text source b)
   long_text a b h k = go (leb (length text) limit) refl

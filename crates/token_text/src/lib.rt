@@ -6,7 +6,6 @@ ghost use Rattle.text_reader.specs.Outcome.{read_text};
 ghost use Rattle.text.specs.Text.{Put};
 ghost use Rattle.token_text.specs.TokenText.{tokens_line, outcome_text, read_text_text};
 
-use text_reader::TextRead;
 
 // The text, which stands behind the two numbers.
 fn text_of(input: &[u8]) -> &[u8]
@@ -32,8 +31,8 @@ fn put_read(out: &mut [u8], text: &[u8], source: u32, tokens: &mut [u8]) -> usiz
     ensures { Put out.old 0 (outcome_text (read_text text.now source tokens.old)) out.new result }
 {
     match text_reader::read_text(text, source, &mut *tokens) {
-        TextRead::Read(fill) => put_tokens(out, &tokens[..fill as usize]),
-        TextRead::Refused(refusal) => text::put_refusal(out, 0, refusal::numbers(refusal)),
+        Ok(fill) => put_tokens(out, &tokens[..fill as usize]),
+        Err(refusal) => text::put_refusal(out, 0, refusal::numbers(refusal)),
     }
 }
 

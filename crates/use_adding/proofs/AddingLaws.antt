@@ -8,8 +8,6 @@ use Rattle.record.specs.Stores.{le16_bytes, le32_bytes, append}
 use Rattle.record.proofs.StoresLaws.{append_then}
 use Rattle.record.specs.Records.{next, body_len}
 use Rattle.name_order.specs.Order.{then_by, numbers, order}
-use Rattle.name_order.specs.declared.Ordered.{Ordered}
-use Rattle.name_order.specs.declared.Ordered.TheVariants.{Less, Same, More}
 use Rattle.label_uses.specs.Uses.{UseKey, Use, known_order, use_order, one_use, more_use, insert_use}
 use Rattle.label_uses.specs.UseBytes.{flag_of, numbers_bytes, use_body, uses_bytes, use_bytes}
 use Rattle.label_uses.proofs.InsertLaws.{insert_less, insert_same, insert_none}
@@ -20,6 +18,8 @@ use Rattle.label_uses.specs.ReadUse.{count_at, owner_place, key_with, key_read}
 use Rattle.label_uses.specs.declared.Standing.{Standing}
 use Rattle.label_uses.proofs.ReadUseLaws.{UseFits, body_read, next_read, count_read, key_read_lem}
 use Rattle.use_adding.specs.Adding.{IndexIn, Heads, PlaceIs, stands, missing, UseAt, Adds, grown_at}
+use Rattle.std.specs.declared.cmp.Ordering.TheVariants.{Less, Equal, Greater}
+use Rattle.std.specs.declared.cmp.Ordering.{Ordering}
 
 -- ---- a record of the index, as it is read in the buffer
 pub record UseHere (d : List ℕ) (fill at : ℕ) (u : Use) : Type 0 where
@@ -91,13 +91,13 @@ module _ (d : List ℕ) (fill : ℕ) (us : List Use) (key : UseKey) (at : ℕ) (
   pub met_at : Reached us key at → at < fill → UseAt d at
   met_at x h = let m = met x h in here_at d fill at m.use_met i.holds.within m.here
 
-  abbrev by_read : Met d fill us key at → Ordered → Type 0
+  abbrev by_read : Met d fill us key at → Ordering → Type 0
   by_read m o = use_order key m.use_met.key ≡ o
 
-  order_read : (m : Met d fill us key at) (o : Ordered) → use_order key (key_read d at) ≡ o → use_order key m.use_met.key ≡ o
+  order_read : (m : Met d fill us key at) (o : Ordering) → use_order key (key_read d at) ≡ o → use_order key m.use_met.key ≡ o
   order_read m o e = ap (use_order key) (sym m.here.key_is) ∙ e
 
-  pub reached_next : Reached us key at → at < fill → use_order key (key_read d at) ≡ More → Reached us key (next d at)
+  pub reached_next : Reached us key at → at < fill → use_order key (key_read d at) ≡ Greater → Reached us key (next d at)
   reached_next x h e =
       let m = met x h in
       let u = m.use_met in
@@ -106,7 +106,7 @@ module _ (d : List ℕ) (fill : ℕ) (us : List Use) (key : UseKey) (at : ℕ) (
         before = l ++ (u ∷ []);
         rest = m.rest;
         split = m.split ∙ sym (append_assoc l (u ∷ []) m.rest);
-        passed = passed_behind key l u m.passed (order_read m More e);
+        passed = passed_behind key l u m.passed (order_read m Greater e);
         place = omega (
           arith,
           m.place,
@@ -118,8 +118,8 @@ module _ (d : List ℕ) (fill : ℕ) (us : List Use) (key : UseKey) (at : ℕ) (
         );
       }
 
-  pub reached_same : Reached us key at → at < fill → use_order key (key_read d at) ≡ Same → PlaceIs us key at true
-  reached_same x h e = let m = met x h in stands m.before m.rest m.use_met m.split m.passed m.place (order_read m Same e)
+  pub reached_same : Reached us key at → at < fill → use_order key (key_read d at) ≡ Equal → PlaceIs us key at true
+  reached_same x h e = let m = met x h in stands m.before m.rest m.use_met m.split m.passed m.place (order_read m Equal e)
 
   pub reached_less : Reached us key at → at < fill → use_order key (key_read d at) ≡ Less → PlaceIs us key at false
   reached_less x h e = let m = met x h in missing m.before (m.use_met ∷ m.rest) m.split m.passed m.place (order_read m Less e)
@@ -141,37 +141,37 @@ insert_new key n us l r e p h = ap (insert_use key n) e ∙ insert_behind key n 
     at_head [] h = insert_none key n
     at_head (u ∷ r) h = insert_less key n u r h
 
-pub insert_old : (key : UseKey) (n : ℕ) (us l r : List Use) (u : Use) → us ≡ l ++ (u ∷ r) → Passed key l → use_order key u.key ≡ Same → insert_use key n us ≡ l ++ (more_use u n ∷ r)
+pub insert_old : (key : UseKey) (n : ℕ) (us l r : List Use) (u : Use) → us ≡ l ++ (u ∷ r) → Passed key l → use_order key u.key ≡ Equal → insert_use key n us ≡ l ++ (more_use u n ∷ r)
 insert_old key n us l r u e p h = ap (insert_use key n) e ∙ insert_behind key n l (u ∷ r) p ∙ ap (λ (x : List Use). l ++ x) (insert_same key n u r h)
 
 -- ---- the order of a key and of a record's
-pub known_as : (p q a b : Bool) (o : Ordered) → p ≡ a → q ≡ b → then_by (known_order a b) o ≡ then_by (known_order p q) o
+pub known_as : (p q a b : Bool) (o : Ordering) → p ≡ a → q ≡ b → then_by (known_order a b) o ≡ then_by (known_order p q) o
 known_as p q a b o e f = ap₂ (λ (x y : Bool). then_by (known_order x y) o) (sym e) (sym f)
 
 module _ (s : List ℕ) (at : ℕ) (name : List ℕ) (standing : Standing) (half end : ℕ) (h : half ≡ count_at s at) (n : end ≡ next s at) where
   abbrev name_from : ℕ
   name_from = at + 7 + 2 * half + 4
 
-  abbrev by_standing : Ordered
+  abbrev by_standing : Ordering
   by_standing = then_by (known_order standing.known (eqb (byte_at s (at + 4)) 1)) (numbers standing.owner (le32 s (owner_place s at)))
 
   name_as : part s name_from (end - name_from) ≡ (key_read s at).name
   name_as = ap₂ (λ (c e : ℕ). part s (at + 7 + 2 * c + 4) (e - (at + 7 + 2 * c + 4))) h n
 
-  by_name : (o : Ordered) → order name (part s name_from (end - name_from)) ≡ o → use_order (key_with name standing) (key_read s at) ≡ then_by o by_standing
-  by_name o e = ap (λ (p : Ordered). then_by p by_standing) (ap (order name) (sym name_as) ∙ e)
+  by_name : (o : Ordering) → order name (part s name_from (end - name_from)) ≡ o → use_order (key_with name standing) (key_read s at) ≡ then_by o by_standing
+  by_name o e = ap (λ (p : Ordering). then_by p by_standing) (ap (order name) (sym name_as) ∙ e)
 
   pub order_less : order name (part s name_from (end - name_from)) ≡ Less → Less ≡ use_order (key_with name standing) (key_read s at)
   order_less e = sym (by_name Less e)
 
-  pub order_more : order name (part s name_from (end - name_from)) ≡ More → More ≡ use_order (key_with name standing) (key_read s at)
-  order_more e = sym (by_name More e)
+  pub order_more : order name (part s name_from (end - name_from)) ≡ Greater → Greater ≡ use_order (key_with name standing) (key_read s at)
+  order_more e = sym (by_name Greater e)
 
-  pub order_same : (r : Ordered) (word : ℕ) → order name (part s name_from (end - name_from)) ≡ Same → word ≡ le32 s (at + 7 + 2 * half)
+  pub order_same : (r : Ordering) (word : ℕ) → order name (part s name_from (end - name_from)) ≡ Equal → word ≡ le32 s (at + 7 + 2 * half)
       → r ≡ then_by (known_order standing.known (eqb (byte_at s (at + 4)) 1)) (numbers standing.owner word) → r ≡ use_order (key_with name standing) (key_read s at)
   order_same r word e w f =
       f ∙ ap (λ (x : ℕ). then_by (known_order standing.known (eqb (byte_at s (at + 4)) 1)) (numbers standing.owner x)) (w ∙ ap (λ (c : ℕ). le32 s (at + 7 + 2 * c)) h)
-      ∙ sym (by_name Same e)
+      ∙ sym (by_name Equal e)
 
 -- ---- a number put in, store by store
 pub grown_by : (d d₁ d₂ d₃ d₄ : List ℕ) (fill at n len count : ℕ) → len ≡ le16 d at → count ≡ le16 d (at + 5)

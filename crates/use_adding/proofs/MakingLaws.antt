@@ -1,5 +1,5 @@
 -- An index made afresh, pending by pending: what a name stands for, one pending's use, and the fold. Assumes nothing.
-use Rattle.std.specs.Prelude.{ℕ, ◌+◌, ◌*◌, ◌-◌, ◌≤◌, ◌<◌, ◌^◌, Bool, ◌≡◌, refl, take, drop}
+use Rattle.std.specs.Prelude.{ℕ, ◌+◌, ◌*◌, ◌-◌, ◌≤◌, ◌<◌, ◌^◌, Bool, ◌≡◌, refl, take, drop, None}
 use Rattle.std.proofs.Common.{arith, ap₂, ◌∙◌, subst, take-append-drop, length-take-le, drop-drop}
 use mathlib.Core.List.Memᴰ
 use mathlib.Core.List.{List, [], ◌++◌, Memᴰ}
@@ -10,7 +10,6 @@ use Rattle.record.specs.Bytes.{part}
 use Rattle.record.specs.Records.{next, places, places_from, first_bad}
 use Rattle.record.proofs.RecordsLaws.{places_all, places_step, places_end, good_ok, good_next}
 use Rattle.record.specs.Stores.{append}
-use Rattle.record.specs.declared.Layout.TheVariants.{Good}
 use Rattle.names.specs.Owners.{for_all}
 use Rattle.name_index.specs.Index.{IndexOf, lookup}
 use Rattle.address_label.specs.LabelBytes.{name_bytes}
@@ -81,7 +80,7 @@ pub record Making (d₀ labels pending d : List ℕ) (at n fill : ℕ) : Type 0 
   pub fits : fill ≤ at
   pub bytes : d ≡ append d₀ 0 (uses_bytes us)
   pub owners : (u : Use) → Memᴰ u us → u.key.standing.owner < 2 ^ 32
-  pub good : first_bad (pending_ok 16 pending) (places_from pending at) ≡ Good
+  pub good : first_bad (pending_ok 16 pending) (places_from pending at) ≡ None
   pub rest : uses_from labels pending n (places_from pending at) us ≡ uses_of labels pending
 
 pub append_again : (d x y : List ℕ) → length x ≤ length y → append (append d 0 x) 0 y ≡ append d 0 y
@@ -94,7 +93,7 @@ append_again d x y h =
     ∙ ap (λ (m : ℕ). drop m d) k)
 
 module _ (d₀ labels pending : List ℕ) (room : length pending ≤ length d₀) (limited : length d₀ ≤ 65536) where
-  pub making_start : first_bad (pending_ok 16 pending) (places pending) ≡ Good → Making d₀ labels pending d₀ 0 0 0
+  pub making_start : first_bad (pending_ok 16 pending) (places pending) ≡ None → Making d₀ labels pending d₀ 0 0 0
   unfolding uses_of append
   making_start g = record {
     us = [];

@@ -4,11 +4,11 @@ use mathlib.Core.List.{List, [], ◌∷◌, ◌++◌, Memᴰ}
 use Rattle.record.specs.Bytes.{part}
 use Rattle.record.specs.Records.{next, limit}
 use Rattle.record.specs.Stores.{le16_bytes, append}
-use Rattle.name_order.specs.declared.Ordered.TheVariants.{Less, Same}
 use Rattle.label_uses.specs.Uses.{UseKey, Use, use_order, insert_use}
 use Rattle.label_uses.specs.UseBytes.{uses_bytes}
 use Rattle.label_uses.specs.Held.{Holds, Passed}
 use Rattle.label_uses.specs.ReadUse.{owner_place}
+use Rattle.std.specs.declared.cmp.Ordering.TheVariants.{Less, Equal}
 
 -- the filled part of a buffer within the limit is the bytes of the uses
 pub record IndexIn (d : List ℕ) (fill : ℕ) (us : List Use) : Type 0 where
@@ -33,7 +33,7 @@ Heads key (u ∷ us) = use_order key u.key ≡ Less
 
 -- the place of the key's record, or the one where it sorts
 pub data PlaceIs (us : List Use) (key : UseKey) (at : ℕ) : Bool → Type 0 where
-  stands : (l r : List Use) (u : Use) → us ≡ l ++ (u ∷ r) → Passed key l → at ≡ length (uses_bytes l) → use_order key u.key ≡ Same → PlaceIs us key at true
+  stands : (l r : List Use) (u : Use) → us ≡ l ++ (u ∷ r) → Passed key l → at ≡ length (uses_bytes l) → use_order key u.key ≡ Equal → PlaceIs us key at true
   missing : (l r : List Use) → us ≡ l ++ r → Passed key l → at ≡ length (uses_bytes l) → Heads key r → PlaceIs us key at false
 
 abbrev pub Finds : (d : List ℕ) (fill : ℕ) → UseKey → (at : ℕ) → Bool → Type 0

@@ -18,9 +18,7 @@ ghost use Rattle.use_adding.specs.Making.{AddsOneTo, RoomForOne, Made};
 
 use address_label::AddressLabel;
 use label_uses::Standing;
-use name_order::Ordered;
-use names::Named;
-use record::Layout;
+use std::cmp::Ordering;
 
 // The record kind.
 const USE: u16 = 39;
@@ -45,23 +43,23 @@ pub fn move_up(d: &mut [u8], at: usize, fill: usize, n: usize)
 }
 
 // How a standing stands to a record's.
-pub fn order_standing(standing: Standing, known: bool, owner: u32) -> Ordered
+pub fn order_standing(standing: Standing, known: bool, owner: u32) -> Ordering
     ensures { result ≡ then_by (known_order standing.known known) (numbers standing.owner owner) }
 {
     if standing.known {
         if known {
             return name_order::compare_numbers(standing.owner, owner);
         }
-        return Ordered::Less;
+        return Ordering::Less;
     }
     if known {
-        return Ordered::More;
+        return Ordering::Greater;
     }
     name_order::compare_numbers(standing.owner, owner)
 }
 
 // How a key stands to that of the record at `at`.
-pub fn order_at(index: &[u8], at: usize, name: &[u8], standing: Standing) -> Ordered
+pub fn order_at(index: &[u8], at: usize, name: &[u8], standing: Standing) -> Ordering
     requires { UseAt index.now at }
     ensures { result ≡ use_order (key_with name.now standing) (key_read index.now at) }
 {
@@ -69,9 +67,9 @@ pub fn order_at(index: &[u8], at: usize, name: &[u8], standing: Standing) -> Ord
     let from = owner_at + 4;
     let end = record::next(index, at);
     match name_order::compare(name, &index[from..end]) {
-        Ordered::Less => Ordered::Less,
-        Ordered::More => Ordered::More,
-        Ordered::Same => order_standing(
+        Ordering::Less => Ordering::Less,
+        Ordering::Greater => Ordering::Greater,
+        Ordering::Equal => order_standing(
             standing,
             index[at + 4] == 1,
             record::word_at(index, owner_at),
@@ -87,13 +85,13 @@ pub fn find_use(index: &[u8], fill: usize, name: &[u8], standing: Standing) -> U
     let mut at: usize = 0;
     while at < fill {
         match order_at(index, at, name, standing) {
-            Ordered::Less => {
+            Ordering::Less => {
                 return UsePlace { at, found: false };
             }
-            Ordered::Same => {
+            Ordering::Equal => {
                 return UsePlace { at, found: true };
             }
-            Ordered::More => {
+            Ordering::Greater => {
                 at = record::next(index, at);
             }
         }
@@ -158,26 +156,26 @@ pub fn add_use(index: &mut [u8], fill: usize, name: &[u8], standing: Standing, n
 
 // What a name of a source stands for, by an index of the labels, of which some may share owner and name.
 pub fn standing_of(labels: &[u8], index: &[u16], source: u32, name: &[u8]) -> Standing
-    requires labels_value { first_bad (has_owned_name 4 labels.now) (places labels.now) ≡ Layout.Good }
+    requires labels_value { first_bad (has_owned_name 4 labels.now) (places labels.now) ≡ None }
     requires index_of { IndexOf 4 labels.now index.now × (length index.now < 65536) }
     ensures { key_with name.now result ≡ key_for labels.now source name.now }
 {
     let own = name_index::find(labels, 4, index, source, name);
     let named = own.named;
     match named {
-        Named::At(_) => Standing {
+        Some(_) => Standing {
             known: true,
             owner: source,
         },
-        Named::Missing => {
+        None => {
             let shared = name_index::find(labels, 4, index, names::FOR_ALL, name);
             let named = shared.named;
             match named {
-                Named::At(_) => Standing {
+                Some(_) => Standing {
                     known: true,
                     owner: names::FOR_ALL,
                 },
-                Named::Missing => Standing {
+                None => Standing {
                     known: false,
                     owner: source,
                 },
@@ -197,7 +195,7 @@ fn add_pending(
     index: &[u16],
 ) -> usize
     requires pending_is { PendingIs pending.now at }
-    requires labels_value { first_bad (has_owned_name 4 labels.now) (places labels.now) ≡ Layout.Good }
+    requires labels_value { first_bad (has_owned_name 4 labels.now) (places labels.now) ≡ None }
     requires index_of { IndexOf 4 labels.now index.now × (length index.now < 65536) }
     requires room_for_one { RoomForOne d.old labels.now pending.now fill (label_of pending.now at) n }
     ensures { AddsOneTo d.old d.new labels.now pending.now fill (label_of pending.now at) n result }
@@ -217,9 +215,9 @@ fn add_pending(
 
 // An index made afresh into a buffer as long as the pending list, by an index of the labels. Its fill count.
 pub fn fill_index(d: &mut [u8], pending: &[u8], labels: &[u8], index: &[u16]) -> usize
-    requires pending_value { first_bad (pending_ok 16 pending.now) (places pending.now) ≡ Layout.Good }
+    requires pending_value { first_bad (pending_ok 16 pending.now) (places pending.now) ≡ None }
     requires pending_in_bounds { (length pending.now ≤ length d.old) × (length d.old ≤ 65536) }
-    requires labels_value { first_bad (has_owned_name 4 labels.now) (places labels.now) ≡ Layout.Good }
+    requires labels_value { first_bad (has_owned_name 4 labels.now) (places labels.now) ≡ None }
     requires index_of { IndexOf 4 labels.now index.now × (length index.now < 65536) }
     ensures { Made d.old d.new labels.now pending.now result }
 {

@@ -2,7 +2,7 @@
 use Prim.Native.Nat.{ℕ, zero, suc, ◌+◌, ◌-◌, ◌≤◌, ◌<◌}
 use native.Mathlib.Omega.{arith}
 use mathlib.Core.List.{List, [], ◌∷◌, map, reverse}
-use Rattle.std.specs.Prelude.{Bool, ◌&&◌, ◌≡◌, length, take}
+use Rattle.std.specs.Prelude.{Bool, ◌&&◌, ◌≡◌, length, take, Err, None, Ok}
 use Rattle.std.proofs.Math.Bool.{true, false, and-eq-true_iff}
 use Rattle.std.proofs.Math.Path.{refl, sym, ap, ap₂, subst}
 use Rattle.std.proofs.Common.{◌∙◌, eqb-true}
@@ -11,12 +11,9 @@ use Rattle.std.proofs.lemmas.Bool.{eqb-false}
 use Rattle.record.specs.Bytes.{all}
 use Rattle.record.specs.Records.{body_len, kind_at, next, whole, places, first_bad, limit}
 use Rattle.record.proofs.RecordsLaws.{places_all, whole_is, limit_good}
-use Rattle.record.specs.declared.Layout.TheVariants.{Good}
 use Rattle.record.specs.declared.Location.{Location}
 use Rattle.refusal.specs.declared.Refusal.{Refusal}
 use Rattle.refusal.specs.declared.Refusal.TheVariants.{WrongArguments, NinthLevel}
-use Rattle.refusal.specs.declared.Verdict.{Verdict}
-use Rattle.refusal.specs.declared.Verdict.TheVariants.{Pass, Stop}
 use Rattle.lexer.specs.Tokens.{TokenIs, token_layout}
 use Rattle.lexer.proofs.TokensLaws.{token_good}
 use Rattle.line_heads.specs.Lines.{record_at, records_of, is_parameter}
@@ -39,6 +36,7 @@ use Rattle.macro_tokens.proofs.PartLaws.{length_part, token_part, record_part, r
 use Rattle.macro_tokens.specs.Arguments.{Takes}
 use Rattle.write_out.specs.Body.{steps_from, Ready}
 use Rattle.write_out.specs.Calls.{call_verdict, CallIs}
+use Rattle.refusal.specs.Verdicts.{Verdict}
 
 -- ---- a call by its levels
 module _ (l : Location) (m : Macro) (ms : List Macro) (given : List (List ℕ)) where
@@ -64,7 +62,7 @@ module _ (l : Location) (m : Macro) (ms : List Macro) (given : List (List ℕ)) 
       ∙ ap (λ (k : ℕ). walk (replaced k) ms Leading (map (put_in m.parameters given) m.body)) z
 
 -- ---- the body of a macro
-module _ (text macros : List ℕ) (k : ℕ) (small : length text ≤ limit) (good : macro_layout macros ≡ Good) (ok : macro_at_ok macros k ≡ true) where
+module _ (text macros : List ℕ) (k : ℕ) (small : length text ≤ limit) (good : macro_layout macros ≡ None) (ok : macro_at_ok macros k ≡ true) where
   abbrev b : List ℕ
   b = body_at macros k
 
@@ -131,7 +129,7 @@ module _ (text macros : List ℕ) (k : ℕ) (small : length text ≤ limit) (goo
     parameters_count = names_length b (count_of b) (behind_name b 0 + 1)
 
 -- a call of the macro at k: its verdict, and its body
-module _ (text macros : List ℕ) (levels k : ℕ) (l : Location) (small : length text ≤ limit) (good : macro_layout macros ≡ Good) (ok : macro_at_ok macros k ≡ true)
+module _ (text macros : List ℕ) (levels k : ℕ) (l : Location) (small : length text ≤ limit) (good : macro_layout macros ≡ None) (ok : macro_at_ok macros k ≡ true)
     (t : Taken) (given : List (List ℕ)) (takes : Takes text macros t given) (start_in : (head_of (body_at macros k)).body ≤ length (body_at macros k)) where
   abbrev v : Verdict
   v = call_verdict l t.count (count_of (body_at macros k)) levels
@@ -157,15 +155,15 @@ module _ (text macros : List ℕ) (levels k : ℕ) (l : Location) (small : lengt
     where
       go : (x : Bool) → eqb t.count (count_of (body_at macros k)) ≡ x → (y : Bool) → eqb levels 0 ≡ y → CallIs text macros levels k steps (record { verdict = v; body = body_of })
       go false ex y ey =
-          let e : v ≡ Stop (WrongArguments l) = rw (ex, call_verdict) in
+          let e : v ≡ Err (WrongArguments l) = rw (ex, call_verdict) in
           let s = replaced_wrong l (macro_at macros k) (above macros k) given levels (same_is ∙ ex) in
           record { stopped = λ r f. let q : r ≡ WrongArguments l = cc in s ∙ ap (λ (x : Refusal). stop x ∷ []) (sym q); opened = λ f. let z : ◌≡◌ {A = ℕ} 0 1 = cc in absurd (omega arith) }
       go true ex true ey =
-          let e : v ≡ Stop (NinthLevel l) = rw (ex, call_verdict) (rw (ey, call_verdict)) in
+          let e : v ≡ Err (NinthLevel l) = rw (ex, call_verdict) (rw (ey, call_verdict)) in
           let s = replaced_ninth l (macro_at macros k) (above macros k) given levels (same_is ∙ ex) (eqb-true levels 0 ey) in
           record { stopped = λ r f. let q : r ≡ NinthLevel l = cc in s ∙ ap (λ (x : Refusal). stop x ∷ []) (sym q); opened = λ f. let z : ◌≡◌ {A = ℕ} 0 1 = cc in absurd (omega arith) }
       go true ex false ey =
-          let e : v ≡ Pass = rw (ex, call_verdict) (rw (ey, call_verdict)) in
+          let e : v ≡ (Ok tt) = rw (ex, call_verdict) (rw (ey, call_verdict)) in
           let n = eqb-true t.count (count_of (body_at macros k)) ex in
           let p : 0 < levels = positive (eqb-false levels 0 ey) in
           record {
@@ -182,7 +180,7 @@ module _ (text macros : List ℕ) (levels k : ℕ) (l : Location) (small : lengt
           positive h = omega arith
 
 -- ---- the token list itself: a body without parameters, which may call all macros
-module _ (text macros : List ℕ) (args : List ℕ) (eight : length args ≡ 8) (text_good : token_layout text ≡ Good) (good : macro_layout macros ≡ Good) where
+module _ (text macros : List ℕ) (args : List ℕ) (eight : length args ≡ 8) (text_good : token_layout text ≡ None) (good : macro_layout macros ≡ None) where
   abbrev pub outer : Body
   outer = record { base = 0; start = 0; names = 0; count = 0; args = args }
 

@@ -1,5 +1,5 @@
 -- Laws of the call's checks, and its outcome by what its two passes answer and leave. Assumes nothing.
-use Rattle.std.specs.Prelude.{ℕ, ◌≤◌, ◌<◌, List, true, false, ◌≡◌, length}
+use Rattle.std.specs.Prelude.{ℕ, ◌≤◌, ◌<◌, List, true, false, ◌≡◌, length, Err, None, Ok, Option, Result, Some}
 use Rattle.std.proofs.Common.{arith, sym, ◌∙◌, le-leb}
 use Rattle.std.proofs.lemmas.Bool.{false≢true, lt-leb}
 use Rattle.std.proofs.Math.Path.{refl, ap}
@@ -7,21 +7,13 @@ use Rattle.record.specs.Records.{places, first_bad, limit, within_limit}
 use Rattle.record.proofs.RecordsLaws.{limit_good, first_limit}
 use Rattle.record.specs.Stores.{append}
 use Rattle.record.proofs.StoresLaws.{append_none}
-use Rattle.record.specs.declared.Layout.{Layout}
-use Rattle.record.specs.declared.Layout.TheVariants.{Good, Bad}
 use Rattle.names.proofs.NamesLaws.{later_place}
-use Rattle.names.specs.declared.Repeat.{Repeat}
-use Rattle.names.specs.declared.Repeat.TheVariants.{Later}
 use Rattle.refusal.specs.declared.Refusal.{Refusal}
 use Rattle.refusal.specs.declared.Refusal.TheVariants.{BadLayout}
-use Rattle.refusal.specs.declared.Verdict.{Verdict}
-use Rattle.refusal.specs.declared.Verdict.TheVariants.{Pass, Stop}
-use Rattle.refusal.specs.Verdicts.{and_then, layout_verdict, name_verdict}
+use Rattle.refusal.specs.Verdicts.{and_then, layout_verdict, name_verdict, Verdict}
 use Rattle.refusal.proofs.VerdictsLaws.{both_pass, layout_pass}
 use Rattle.lexer.specs.Tokens.{token_ok, token_layout}
 use Rattle.macros.specs.Macros.{macro_at_ok, macro_layout, same_macro, macro_repeat}
-use Rattle.written_out.specs.declared.WriteOutAnswer.{WriteOutAnswer}
-use Rattle.written_out.specs.declared.WriteOutAnswer.TheVariants.{Written, Refused}
 use Rattle.written_out.specs.Written.{Step, written_out}
 use Rattle.written_out.specs.Outcome.{answer_from, bytes_of, write_out_stop, answer_after, outcome_of, write_out_outcome}
 use Rattle.macro_tokens.specs.Places.{only}
@@ -30,15 +22,15 @@ use Rattle.write_out.proofs.FillLaws.{written_all}
 use Rattle.write_out.specs.Entry.{room_layout, stop_by, is_written}
 
 -- ---- places that a refusal names
-pub token_place : (s : List ℕ) (p : ℕ) → token_layout s ≡ Bad p → p ≤ limit
+pub token_place : (s : List ℕ) (p : ℕ) → token_layout s ≡ Some p → p ≤ limit
 unfolding token_layout
 token_place s p e = first_limit (token_ok s) s p e
 
-pub macro_place : (s : List ℕ) (p : ℕ) → macro_layout s ≡ Bad p → p ≤ limit
+pub macro_place : (s : List ℕ) (p : ℕ) → macro_layout s ≡ Some p → p ≤ limit
 unfolding macro_layout
 macro_place s p e = first_limit (macro_at_ok s) s p e
 
-pub repeat_place : (s : List ℕ) (p : ℕ) → macro_layout s ≡ Good → macro_repeat s ≡ Later p → p ≤ limit
+pub repeat_place : (s : List ℕ) (p : ℕ) → macro_layout s ≡ None → macro_repeat s ≡ Some p → p ≤ limit
 unfolding macro_layout macro_repeat
 repeat_place s p g e = omega (arith, (limit_good s (first_bad (macro_at_ok s) (places s)) g).0, later_place (same_macro s) s p e)
 
@@ -53,36 +45,36 @@ module _ (tokens macros : List ℕ) (room : ℕ) where
   abbrev then_macros : Verdict
   then_macros = and_then (layout_verdict 1 (macro_layout macros)) then_room
 
-  by_tokens : (l : Layout) → token_layout tokens ≡ l → stop_by tokens macros room ≡ and_then (layout_verdict 0 l) then_macros
+  by_tokens : (l : Option ℕ) → token_layout tokens ≡ l → stop_by tokens macros room ≡ and_then (layout_verdict 0 l) then_macros
   unfolding stop_by
-  by_tokens l e = ap (λ (x : Layout). and_then (layout_verdict 0 x) then_macros) e
+  by_tokens l e = ap (λ (x : Option ℕ). and_then (layout_verdict 0 x) then_macros) e
 
-  pub stop_tokens : (p : ℕ) → token_layout tokens ≡ Bad p → stop_by tokens macros room ≡ Stop (BadLayout 0 p)
-  stop_tokens p e = by_tokens (Bad p) e
+  pub stop_tokens : (p : ℕ) → token_layout tokens ≡ Some p → stop_by tokens macros room ≡ Err (BadLayout 0 p)
+  stop_tokens p e = by_tokens (Some p) e
 
-  module _ (good : token_layout tokens ≡ Good) where
-    by_macros : (l : Layout) → macro_layout macros ≡ l → stop_by tokens macros room ≡ and_then (layout_verdict 1 l) then_room
-    by_macros l e = by_tokens Good good ∙ ap (λ (x : Layout). and_then (layout_verdict 1 x) then_room) e
+  module _ (good : token_layout tokens ≡ None) where
+    by_macros : (l : Option ℕ) → macro_layout macros ≡ l → stop_by tokens macros room ≡ and_then (layout_verdict 1 l) then_room
+    by_macros l e = by_tokens None good ∙ ap (λ (x : Option ℕ). and_then (layout_verdict 1 x) then_room) e
 
-    pub stop_macros : (p : ℕ) → macro_layout macros ≡ Bad p → stop_by tokens macros room ≡ Stop (BadLayout 1 p)
-    stop_macros p e = by_macros (Bad p) e
+    pub stop_macros : (p : ℕ) → macro_layout macros ≡ Some p → stop_by tokens macros room ≡ Err (BadLayout 1 p)
+    stop_macros p e = by_macros (Some p) e
 
-    module _ (good' : macro_layout macros ≡ Good) where
-      by_room : (l : Layout) → room_layout room ≡ l → stop_by tokens macros room ≡ and_then (layout_verdict 2 l) names
-      by_room l e = by_macros Good good' ∙ ap (λ (x : Layout). and_then (layout_verdict 2 x) names) e
+    module _ (good' : macro_layout macros ≡ None) where
+      by_room : (l : Option ℕ) → room_layout room ≡ l → stop_by tokens macros room ≡ and_then (layout_verdict 2 l) names
+      by_room l e = by_macros None good' ∙ ap (λ (x : Option ℕ). and_then (layout_verdict 2 x) names) e
 
-      pub stop_room : limit < room → stop_by tokens macros room ≡ Stop (BadLayout 2 limit)
-      stop_room h = by_room (Bad limit) (rw (lt-leb room limit h, room_layout))
+      pub stop_room : limit < room → stop_by tokens macros room ≡ Err (BadLayout 2 limit)
+      stop_room h = by_room (Some limit) (rw (lt-leb room limit h, room_layout))
 
-      pub stop_name : room ≤ limit → (r : Repeat) → macro_repeat macros ≡ r → stop_by tokens macros room ≡ name_verdict 1 r
-      stop_name h r e = by_room Good (rw (le-leb room limit h, room_layout)) ∙ ap (name_verdict 1) e
+      pub stop_name : room ≤ limit → (r : Option ℕ) → macro_repeat macros ≡ r → stop_by tokens macros room ≡ name_verdict 1 r
+      stop_name h r e = by_room None (rw (le-leb room limit h, room_layout)) ∙ ap (name_verdict 1) e
 
 -- two buffers that are both over the limit are stopped alike
 pub long_same : (tokens macros : List ℕ) (a b : ℕ) → limit < a → limit < b → stop_by tokens macros a ≡ stop_by tokens macros b
 unfolding stop_by
 long_same tokens macros a b h k =
     let e : room_layout a ≡ room_layout b = rw (lt-leb a limit h, room_layout) (sym (rw (lt-leb b limit k, room_layout))) in
-    ap (λ (x : Layout). and_then (layout_verdict 0 (token_layout tokens)) (and_then (layout_verdict 1 (macro_layout macros)) (and_then (layout_verdict 2 x) (name_verdict 1 (macro_repeat macros))))) e
+    ap (λ (x : Option ℕ). and_then (layout_verdict 0 (token_layout tokens)) (and_then (layout_verdict 1 (macro_layout macros)) (and_then (layout_verdict 2 x) (name_verdict 1 (macro_repeat macros))))) e
 
 -- ---- the outcome
 module _ (tokens macros out : List ℕ) where
@@ -98,15 +90,15 @@ module _ (tokens macros out : List ℕ) where
   unfolding write_out_outcome
   outcome_is v e = ap (λ (x : Verdict). outcome_of (answer_after x (answer_from (length out) 0 steps)) (bytes_of steps) out) (stop_is ∙ e)
 
-  pub stopped_outcome : (r : Refusal) → stop_by tokens macros (length out) ≡ Stop r → write_out_outcome tokens macros out ≡ (record { answer = Refused r; out = out })
-  stopped_outcome r e = outcome_is (Stop r) e
+  pub stopped_outcome : (r : Refusal) → stop_by tokens macros (length out) ≡ Err r → write_out_outcome tokens macros out ≡ (record { answer = Err r; out = out })
+  stopped_outcome r e = outcome_is (Err r) e
 
   pub record Passed : Type 0 where
-    pub tokens_good : token_layout tokens ≡ Good
-    pub macros_good : macro_layout macros ≡ Good
+    pub tokens_good : token_layout tokens ≡ None
+    pub macros_good : macro_layout macros ≡ None
     pub room : length out ≤ limit
 
-  pub passed : stop_by tokens macros (length out) ≡ Pass → Passed
+  pub passed : stop_by tokens macros (length out) ≡ Ok tt → Passed
   unfolding stop_by within_limit
   passed e =
       let a = both_pass (layout_verdict 0 (token_layout tokens)) _ e in
@@ -115,24 +107,24 @@ module _ (tokens macros out : List ℕ) where
       record {
         tokens_good = layout_pass 0 (token_layout tokens) a.0;
         macros_good = layout_pass 1 (macro_layout macros) b.0;
-        room = (limit_good out Good (layout_pass 2 (room_layout (length out)) c.0)).0;
+        room = (limit_good out None (layout_pass 2 (room_layout (length out)) c.0)).0;
       }
 
   -- what the first pass answers and leaves
-  module _ (e : stop_by tokens macros (length out) ≡ Pass) (r : WriteOutAnswer) (a : r ≡ answer_from (length out) 0 steps) (kept : List ℕ)
+  module _ (e : stop_by tokens macros (length out) ≡ Ok tt) (r : Result ℕ Refusal) (a : r ≡ answer_from (length out) 0 steps) (kept : List ℕ)
       (k : kept ≡ append out 0 (only false (written_from (length out) 0 steps))) where
     pub first_keeps : kept ≡ out
     first_keeps = k ∙ sym (append_none out 0)
 
     first_is : write_out_outcome tokens macros out ≡ outcome_of r (bytes_of steps) out
-    first_is = outcome_is Pass e ∙ ap (λ (x : WriteOutAnswer). outcome_of x (bytes_of steps) out) (sym a)
+    first_is = outcome_is (Ok tt) e ∙ ap (λ (x : Result ℕ Refusal). outcome_of x (bytes_of steps) out) (sym a)
 
     pub refused_outcome : is_written r ≡ false → write_out_outcome tokens macros out ≡ (record { answer = r; out = kept })
     refused_outcome w = first_is ∙ go r w ∙ ap (λ (x : List ℕ). record { answer = r; out = x }) (sym first_keeps)
       where
-        go : (x : WriteOutAnswer) → is_written x ≡ false → outcome_of x (bytes_of steps) out ≡ (record { answer = x; out = out })
-        go (Written f) h = absurd (false≢true (sym h))
-        go (Refused q) h = refl
+        go : (x : Result ℕ Refusal) → is_written x ≡ false → outcome_of x (bytes_of steps) out ≡ (record { answer = x; out = out })
+        go (Ok f) h = absurd (false≢true (sym h))
+        go (Err q) h = refl
 
     -- and what the second leaves
     pub written_outcome : is_written r ≡ true → (left : List ℕ) → left ≡ append kept 0 (only true (written_from (length kept) 0 steps))
@@ -142,7 +134,7 @@ module _ (tokens macros out : List ℕ) where
         same : left ≡ append out 0 (written_from (length out) 0 steps)
         same = l ∙ ap (λ (x : List ℕ). append x 0 (written_from (length x) 0 steps)) first_keeps
 
-        go : (x : WriteOutAnswer) → is_written x ≡ true → answer_from (length out) 0 steps ≡ x → outcome_of x (bytes_of steps) out ≡ (record { answer = x; out = left })
-        go (Written f) h q =
-            ap (λ (y : List ℕ). record { answer = Written f; out = y }) (ap (append out 0) (sym (written_all (length out) 0 f steps q)) ∙ sym same)
-        go (Refused q) h p = absurd (false≢true h)
+        go : (x : Result ℕ Refusal) → is_written x ≡ true → answer_from (length out) 0 steps ≡ x → outcome_of x (bytes_of steps) out ≡ (record { answer = x; out = left })
+        go (Ok f) h q =
+            ap (λ (y : List ℕ). record { answer = Ok f; out = y }) (ap (append out 0) (sym (written_all (length out) 0 f steps q)) ∙ sym same)
+        go (Err q) h p = absurd (false≢true h)

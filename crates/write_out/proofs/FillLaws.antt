@@ -1,5 +1,5 @@
 -- Laws of the fill: steps one after the other, with their answer and the records that they write. Assumes nothing.
-use Rattle.std.specs.Prelude.{ℕ, ◌+◌, ◌≤◌, ◌<◌, List, [], ◌∷◌, ◌++◌, Bool, true, false, ◌≡◌, refl, take, drop, leb}
+use Rattle.std.specs.Prelude.{ℕ, ◌+◌, ◌≤◌, ◌<◌, List, [], ◌∷◌, ◌++◌, Bool, true, false, ◌≡◌, refl, take, drop, leb, Err, Ok, Result}
 use Rattle.std.proofs.Common.{arith, append_assoc, append-nil, sym, ap, ap₂, ◌∙◌, length-append, length-take, drop-drop, take_at, le-leb}
 use Rattle.std.proofs.Math.ListN.{length}
 use Rattle.std.proofs.Math.Seq.{drop-append-add}
@@ -9,8 +9,6 @@ use Rattle.record.specs.Stores.{append}
 use Rattle.record.proofs.StoresLaws.{append_none}
 use Rattle.refusal.specs.declared.Refusal.{Refusal}
 use Rattle.refusal.specs.declared.Refusal.TheVariants.{NoWrittenSpace}
-use Rattle.written_out.specs.declared.WriteOutAnswer.{WriteOutAnswer}
-use Rattle.written_out.specs.declared.WriteOutAnswer.TheVariants.{Written, Refused}
 use Rattle.written_out.specs.Written.{Step, write, stop}
 use Rattle.written_out.specs.Outcome.{answer_from, bytes_of}
 use Rattle.written_out.proofs.KeepsLayout.{fill_is}
@@ -23,7 +21,7 @@ module _ (room fill : ℕ) (t : List ℕ) (steps : List Step) where
   unfolding answer_from
   answer_write h = rw (le-leb (fill + length t) room h, answer_from)
 
-  pub answer_short : room < fill + length t → answer_from room fill (write t ∷ steps) ≡ Refused (NoWrittenSpace (location_at t 4))
+  pub answer_short : room < fill + length t → answer_from room fill (write t ∷ steps) ≡ Err (NoWrittenSpace (location_at t 4))
   unfolding answer_from
   answer_short h = rw (lt-leb (fill + length t) room h, answer_from)
 
@@ -35,7 +33,7 @@ module _ (room fill : ℕ) (t : List ℕ) (steps : List Step) where
   unfolding written_from
   written_short h = rw (lt-leb (fill + length t) room h, written_from)
 
-pub answer_stop_lem : (room fill : ℕ) (r : Refusal) (steps : List Step) → answer_from room fill (stop r ∷ steps) ≡ Refused r
+pub answer_stop_lem : (room fill : ℕ) (r : Refusal) (steps : List Step) → answer_from room fill (stop r ∷ steps) ≡ Err r
 unfolding answer_from
 answer_stop_lem room fill r steps = refl
 
@@ -43,7 +41,7 @@ pub written_stop : (room fill : ℕ) (r : Refusal) (steps : List Step) → writt
 unfolding written_from
 written_stop room fill r steps = refl
 
-pub answer_none : (room fill : ℕ) → answer_from room fill [] ≡ Written fill
+pub answer_none : (room fill : ℕ) → answer_from room fill [] ≡ Ok fill
 unfolding answer_from
 answer_none room fill = refl
 
@@ -52,13 +50,13 @@ unfolding written_from
 written_none room fill = refl
 
 -- ---- steps and then others
-abbrev pub then_answer : WriteOutAnswer → (ℕ → WriteOutAnswer) → WriteOutAnswer
-then_answer (Written f) k = k f
-then_answer (Refused r) k = Refused r
+abbrev pub then_answer : Result ℕ Refusal → (ℕ → Result ℕ Refusal) → Result ℕ Refusal
+then_answer (Ok f) k = k f
+then_answer (Err r) k = Err r
 
-abbrev pub then_bytes : WriteOutAnswer → (ℕ → List ℕ) → List ℕ
-then_bytes (Written f) k = k f
-then_bytes (Refused r) k = []
+abbrev pub then_bytes : Result ℕ Refusal → (ℕ → List ℕ) → List ℕ
+then_bytes (Ok f) k = k f
+then_bytes (Err r) k = []
 
 pub record Both (room fill : ℕ) (xs ys : List Step) : Type 0 where
   pub answers : answer_from room fill (xs ++ ys) ≡ then_answer (answer_from room fill xs) (λ f. answer_from room f ys)
@@ -78,21 +76,21 @@ both room fill (write t ∷ xs) ys = go (leb (fill + length t) room) refl (both 
     go false e ih = record { answers = rw (e, answer_from); writes = rw (e, answer_from, written_from) }
 
 -- where all is written, all records are
-pub written_all : (room fill f : ℕ) (steps : List Step) → answer_from room fill steps ≡ Written f → written_from room fill steps ≡ bytes_of steps
+pub written_all : (room fill f : ℕ) (steps : List Step) → answer_from room fill steps ≡ Ok f → written_from room fill steps ≡ bytes_of steps
 unfolding answer_from written_from bytes_of
 written_all room fill f [] e = refl
 written_all room fill f (stop r ∷ steps) e = refl
 written_all room fill f (write t ∷ steps) e = go (leb (fill + length t) room) refl (written_all room (fill + length t) f steps)
   where
-    go : (b : Bool) → leb (fill + length t) room ≡ b → (answer_from room (fill + length t) steps ≡ Written f → written_from room (fill + length t) steps ≡ bytes_of steps)
+    go : (b : Bool) → leb (fill + length t) room ≡ b → (answer_from room (fill + length t) steps ≡ Ok f → written_from room (fill + length t) steps ≡ bytes_of steps)
         → written_from room fill (write t ∷ steps) ≡ t ++ bytes_of steps
     go true b ih = rw (b, written_from) (ap (λ (x : List ℕ). t ++ x) (ih (sym (rw (b, answer_from)) ∙ e)))
     go false b ih =
-        let n : answer_from room fill (write t ∷ steps) ≡ Refused (NoWrittenSpace (location_at t 4)) = rw (b, answer_from) in
+        let n : answer_from room fill (write t ∷ steps) ≡ Err (NoWrittenSpace (location_at t 4)) = rw (b, answer_from) in
         let z : ◌≡◌ {A = ℕ} 0 1 = cc in
         absurd (omega arith)
 
-pub fill_written : (room fill f : ℕ) (steps : List Step) → fill ≤ room → answer_from room fill steps ≡ Written f
+pub fill_written : (room fill f : ℕ) (steps : List Step) → fill ≤ room → answer_from room fill steps ≡ Ok f
     → (fill + length (written_from room fill steps) ≡ f) × (f ≤ room)
 fill_written room fill f steps h e =
     let r = fill_is room fill f steps h e in
@@ -126,7 +124,7 @@ module _ (really : Bool) (d : List ℕ) (fill : ℕ) (t : List ℕ) where
   abbrev one : List Step
   one = write t ∷ []
 
-  pub one_answered : fill + length t ≤ length d → answer_from (length d) fill one ≡ Written (fill + length t)
+  pub one_answered : fill + length t ≤ length d → answer_from (length d) fill one ≡ Ok (fill + length t)
   one_answered h = answer_write (length d) fill t [] h ∙ answer_none (length d) (fill + length t)
 
   pub one_left : fill + length t ≤ length d → append d fill (only really t) ≡ append d fill (only really (written_from (length d) fill one))
@@ -141,7 +139,7 @@ pub none_left : (really : Bool) (d : List ℕ) (fill : ℕ) → d ≡ append d f
 none_left really d fill = none_only really d fill ∙ ap (λ (x : List ℕ). append d fill (only really x)) (sym (written_none (length d) fill))
 
 pub stop_left : (really : Bool) (d : List ℕ) (fill : ℕ) (r : Refusal) (steps : List Step) → steps ≡ stop r ∷ []
-    → (Refused r ≡ answer_from (length d) fill steps) × (d ≡ append d fill (only really (written_from (length d) fill steps)))
+    → (Err r ≡ answer_from (length d) fill steps) × (d ≡ append d fill (only really (written_from (length d) fill steps)))
 stop_left really d fill r steps e = (
   sym (ap (answer_from (length d) fill) e ∙ answer_stop_lem (length d) fill r []),
   none_only really d fill ∙ ap (λ (x : List ℕ). append d fill (only really x)) (sym (ap (written_from (length d) fill) e ∙ written_stop (length d) fill r [])),

@@ -1,10 +1,8 @@
 -- Writing steps from a fill on is writing the whole: what a loop keeps. Assumes nothing.
-use Rattle.std.specs.Prelude.{ℕ, ◌≤◌, List, [], ◌++◌, Bool, ◌≡◌, refl, length}
+use Rattle.std.specs.Prelude.{ℕ, ◌≤◌, List, [], ◌++◌, Bool, ◌≡◌, refl, length, Err, Ok, Result}
 use Rattle.std.proofs.Common.{arith, append-nil, sym, ap, ◌∙◌}
 use Rattle.record.specs.Stores.{append}
 use Rattle.refusal.specs.declared.Refusal.{Refusal}
-use Rattle.written_out.specs.declared.WriteOutAnswer.{WriteOutAnswer}
-use Rattle.written_out.specs.declared.WriteOutAnswer.TheVariants.{Written, Refused}
 use Rattle.written_out.specs.Written.{Step}
 use Rattle.written_out.specs.Outcome.{answer_from}
 use Rattle.macro_tokens.specs.Places.{only}
@@ -23,7 +21,7 @@ module _ (really : Bool) (out₀ : List ℕ) (from : ℕ) (all : List Step) wher
     pub bytes : append out₀ from (only really (written_from room from all)) ≡ append out fill (only really (written_from room fill steps))
 
   -- how it ends
-  pub record Ends (r : WriteOutAnswer) (out : List ℕ) : Type 0 where
+  pub record Ends (r : Result ℕ Refusal) (out : List ℕ) : Type 0 where
     pub answered : r ≡ answer_from room from all
     pub left : out ≡ append out₀ from (only really (written_from room from all))
 
@@ -35,7 +33,7 @@ module _ (really : Bool) (out₀ : List ℕ) (from : ℕ) (all : List Step) wher
     shown x = append out fill (only really (written_from room fill x))
 
     -- a part of the steps, with its own answer
-    module _ (part on : List Step) (e : steps ≡ part ++ on) (r : WriteOutAnswer) (out' : List ℕ) (a : r ≡ answer_from (length out) fill part)
+    module _ (part on : List Step) (e : steps ≡ part ++ on) (r : Result ℕ Refusal) (out' : List ℕ) (a : r ≡ answer_from (length out) fill part)
         (w : out' ≡ append out fill (only really (written_from (length out) fill part))) where
       a' : answer_from room fill part ≡ r
       a' = sym (a ∙ ap (λ (n : ℕ). answer_from n fill part) s.kept)
@@ -44,35 +42,35 @@ module _ (really : Bool) (out₀ : List ℕ) (from : ℕ) (all : List Step) wher
       w' = w ∙ ap (λ (n : ℕ). append out fill (only really (written_from n fill part))) s.kept
 
       answer_on : answer_from room from all ≡ then_answer r (λ f. answer_from room f on)
-      answer_on = s.answer ∙ ap (answer_from room fill) e ∙ (both room fill part on).answers ∙ ap (λ (x : WriteOutAnswer). then_answer x (λ f. answer_from room f on)) a'
+      answer_on = s.answer ∙ ap (answer_from room fill) e ∙ (both room fill part on).answers ∙ ap (λ (x : Result ℕ Refusal). then_answer x (λ f. answer_from room f on)) a'
 
       bytes_on : append out₀ from (only really (written_from room from all)) ≡ append out fill (only really (written_from room fill part ++ then_bytes r (λ f. written_from room f on)))
       bytes_on =
           s.bytes ∙ ap shown e
           ∙ ap (λ (x : List ℕ). append out fill (only really x))
-          ((both room fill part on).writes ∙ ap (λ (x : WriteOutAnswer). written_from room fill part ++ then_bytes x (λ f. written_from room f on)) a')
+          ((both room fill part on).writes ∙ ap (λ (x : Result ℕ Refusal). written_from room fill part ++ then_bytes x (λ f. written_from room f on)) a')
 
-      pub same_call : (f : ℕ) → r ≡ Written f → length out' ≡ length out → Same out' f on
+      pub same_call : (f : ℕ) → r ≡ Ok f → length out' ≡ length out → Same out' f on
       same_call f g l =
           let q = fill_written room fill f part s.within (a' ∙ g) in
           record {
             within = q.1;
             kept = l ∙ s.kept;
-            answer = answer_on ∙ ap (λ (x : WriteOutAnswer). then_answer x (λ f. answer_from room f on)) g;
-            bytes = bytes_on ∙ ap (λ (x : WriteOutAnswer). append out fill (only really (written_from room fill part ++ then_bytes x (λ f. written_from room f on)))) g
+            answer = answer_on ∙ ap (λ (x : Result ℕ Refusal). then_answer x (λ f. answer_from room f on)) g;
+            bytes = bytes_on ∙ ap (λ (x : Result ℕ Refusal). append out fill (only really (written_from room fill part ++ then_bytes x (λ f. written_from room f on)))) g
                 ∙ split_only really out fill (written_from room fill part) (written_from room f on) f q.0 (omega (arith, s.within, s.kept))
                 ∙ ap (λ (x : List ℕ). append x f (only really (written_from room f on))) (sym w');
           }
 
-      pub ends_call : (x : Refusal) → r ≡ Refused x → Ends (Refused x) out'
+      pub ends_call : (x : Refusal) → r ≡ Err x → Ends (Err x) out'
       ends_call x g = record {
-        answered = sym (answer_on ∙ ap (λ (y : WriteOutAnswer). then_answer y (λ f. answer_from room f on)) g);
+        answered = sym (answer_on ∙ ap (λ (y : Result ℕ Refusal). then_answer y (λ f. answer_from room f on)) g);
         left = w' ∙ ap (λ (y : List ℕ). append out fill (only really y)) (sym (append-nil (written_from room fill part)))
-            ∙ sym (bytes_on ∙ ap (λ (y : WriteOutAnswer). append out fill (only really (written_from room fill part ++ then_bytes y (λ f. written_from room f on)))) g);
+            ∙ sym (bytes_on ∙ ap (λ (y : Result ℕ Refusal). append out fill (only really (written_from room fill part ++ then_bytes y (λ f. written_from room f on)))) g);
       }
 
     -- nothing is left
-    pub ends_all : steps ≡ [] → Ends (Written fill) out
+    pub ends_all : steps ≡ [] → Ends (Ok fill) out
     ends_all e = record {
       answered = sym (s.answer ∙ ap (answer_from room fill) e ∙ answer_none room fill);
       left = none_only really out fill ∙ sym (s.bytes ∙ ap (λ (x : List ℕ). append out fill (only really x)) (ap (written_from room fill) e ∙ written_none room fill));

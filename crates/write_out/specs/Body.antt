@@ -1,7 +1,6 @@
 -- What a body that is read is written out as. Assumes nothing.
-use Rattle.std.specs.Prelude.{ℕ, ◌+◌, ◌≤◌, List, [], ◌∷◌, ◌++◌, true, false, ◌≡◌, length, leb}
+use Rattle.std.specs.Prelude.{ℕ, ◌+◌, ◌≤◌, List, [], ◌∷◌, ◌++◌, true, false, ◌≡◌, length, leb, None}
 use Rattle.record.specs.Records.{limit}
-use Rattle.record.specs.declared.Layout.TheVariants.{Good}
 use Rattle.macros.specs.Macros.{macro_layout}
 use Rattle.written_out.specs.declared.Mode.{Mode}
 use Rattle.written_out.specs.Written.{Step, write, stop, replaced}
@@ -17,7 +16,7 @@ steps_from text macros most levels list b mode at = walk (replaced levels) (abov
 -- what a body that is read holds
 pub record Ready (text macros : List ℕ) (most : ℕ) (list : List ℕ) (b : Body) : Type 0 where
   pub readable : ReadableFrom text macros list b b.start
-  pub macros_good : macro_layout macros ≡ Good
+  pub macros_good : macro_layout macros ≡ None
   pub most_in : most ≤ length macros
   pub text_small : length text ≤ limit
 

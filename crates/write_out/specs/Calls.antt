@@ -1,13 +1,10 @@
 -- What a call is replaced by, as the code finds it. Assumes nothing.
-use Rattle.std.specs.Prelude.{ℕ, ◌-◌, ◌≤◌, ◌<◌, List, [], ◌∷◌, true, false, ◌≡◌, length, eqb}
+use Rattle.std.specs.Prelude.{ℕ, ◌-◌, ◌≤◌, ◌<◌, List, [], ◌∷◌, true, false, ◌≡◌, length, eqb, Err, None, Ok}
 use Rattle.record.specs.Bytes.{location_at}
 use Rattle.record.specs.Records.{limit}
-use Rattle.record.specs.declared.Layout.TheVariants.{Good}
 use Rattle.record.specs.declared.Location.{Location}
 use Rattle.refusal.specs.declared.Refusal.{Refusal}
 use Rattle.refusal.specs.declared.Refusal.TheVariants.{WrongArguments, NinthLevel}
-use Rattle.refusal.specs.declared.Verdict.{Verdict}
-use Rattle.refusal.specs.declared.Verdict.TheVariants.{Pass, Stop}
 use Rattle.macros.specs.Macros.{body_at, macro_layout}
 use Rattle.written_out.specs.declared.Mode.{Mode}
 use Rattle.written_out.specs.declared.Mode.TheVariants.{Leading, LeftOut}
@@ -21,10 +18,11 @@ use Rattle.macro_tokens.specs.Meant.{Inside}
 use Rattle.macro_tokens.specs.declared.Body.{Body}
 use Rattle.write_out.specs.declared.Called.{Called}
 use Rattle.write_out.specs.Body.{steps_from, Ready}
+use Rattle.refusal.specs.Verdicts.{Verdict}
 
 -- "24, a wrong count of arguments; 25, a ninth level", in that order
 abbrev pub call_verdict : Location → (given count levels : ℕ) → Verdict
-call_verdict l given count levels = elim (eqb given count) [ true ↦ elim (eqb levels 0) [ true ↦ Stop (NinthLevel l) | false ↦ Pass ] | false ↦ Stop (WrongArguments l) ]
+call_verdict l given count levels = elim (eqb given count) [ true ↦ elim (eqb levels 0) [ true ↦ Err (NinthLevel l) | false ↦ Ok tt ] | false ↦ Err (WrongArguments l) ]
 
 -- the macro at k is written out as those steps
 pub record Opened (text macros : List ℕ) (levels k : ℕ) (steps : List Step) (b : Body) : Type 0 where
@@ -33,8 +31,8 @@ pub record Opened (text macros : List ℕ) (levels k : ℕ) (steps : List Step) 
   pub is : steps ≡ steps_from text macros k (levels - 1) (body_at macros k) b Leading b.start
 
 pub record CallIs (text macros : List ℕ) (levels k : ℕ) (steps : List Step) (c : Called) : Type 0 where
-  pub stopped : (r : Refusal) → c.verdict ≡ Stop r → steps ≡ stop r ∷ []
-  pub opened : c.verdict ≡ Pass → Opened text macros levels k steps c.body
+  pub stopped : (r : Refusal) → c.verdict ≡ Err r → steps ≡ stop r ∷ []
+  pub opened : c.verdict ≡ Ok tt → Opened text macros levels k steps c.body
 
 -- ---- what is done with a token
 
@@ -55,6 +53,6 @@ mode_after (Call k) = LeftOut
 pub record Acting (text macros : List ℕ) (most : ℕ) (list : List ℕ) (b : Body) (place next : ℕ) (act : Act) : Type 0 where
   pub token : TokenIn text macros place
   pub rest : ReadableFrom text macros list b next
-  pub macros_good : macro_layout macros ≡ Good
+  pub macros_good : macro_layout macros ≡ None
   pub text_small : length text ≤ limit
   pub inside : Inside macros most act

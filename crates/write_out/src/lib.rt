@@ -5,7 +5,6 @@ ghost use Rattle.std.specs.Prelude.{◌≡◌, true, [], ◌∷◌, ◌≤◌, l
 ghost use Rattle.record.specs.Bytes.{location_at};
 ghost use Rattle.record.specs.Records.{limit};
 ghost use Rattle.record.specs.Stores.{append};
-ghost use Rattle.record.specs.declared.Layout.TheVariants.{Good};
 ghost use Rattle.lexer.specs.Tokens.{token_layout};
 ghost use Rattle.macros.specs.Macros.{macro_at_ok, macro_layout};
 ghost use Rattle.written_out.specs.declared.Mode.TheVariants.{Leading};
@@ -19,29 +18,28 @@ ghost use Rattle.write_out.specs.Calls.{call_verdict, CallIs, act_steps, mode_af
 ghost use Rattle.write_out.specs.Entry.{stop_by, is_written};
 
 use macro_tokens::{Act, Body};
-use names::Repeat;
-use record::{Layout, Location};
-use refusal::{Refusal, Verdict};
-use written_out::{Mode, WriteOutAnswer};
+use record::Location;
+use refusal::Refusal;
+use written_out::Mode;
 
 // A call of a macro: whether it is refused, and the body that it is replaced by if not.
 #[derive(Clone, Copy)]
 struct Called {
-    verdict: Verdict,
+    verdict: Result<(), Refusal>,
     body: Body,
 }
 
 // At one call a wrong count of arguments goes before a ninth level.
-fn call_verdict(location: Location, given: usize, count: usize, levels: usize) -> Verdict
+fn call_verdict(location: Location, given: usize, count: usize, levels: usize) -> Result<(), Refusal>
     ensures { result ≡ call_verdict location given count levels }
 {
     if given != count {
-        return Verdict::Stop(Refusal::WrongArguments(location));
+        return Err(Refusal::WrongArguments(location));
     }
     if levels == 0 {
-        return Verdict::Stop(Refusal::NinthLevel(location));
+        return Err(Refusal::NinthLevel(location));
     }
-    Verdict::Pass
+    Ok(())
 }
 
 // The call of the macro at k by the token at `place`, behind which its line goes on from `next` on.
@@ -56,7 +54,7 @@ fn call_at(
     k: usize,
 ) -> Called
     requires token_in { TokenIn text.now macros.now place × ReadableFrom text.now macros.now list.now body next }
-    requires text_len_bound { (length text.now ≤ limit) × (macro_layout macros.now ≡ Good) × (macro_at_ok macros.now k ≡ true) }
+    requires text_len_bound { (length text.now ≤ limit) × (macro_layout macros.now ≡ None) × (macro_at_ok macros.now k ≡ true) }
     ensures { CallIs text.now macros.now levels k (replaced levels (location_at (token_record text.now macros.now place) 4) (macro_at macros.now k) (above macros.now k) (arguments_from text.now macros.now list.now body next)) result }
 {
     let end = record::next(macros, k);
@@ -86,7 +84,7 @@ fn write_token(
     really: bool,
     out: &mut [u8],
     fill: usize,
-) -> WriteOutAnswer
+) -> Result<u32, Refusal>
     requires { TokenIn text.now macros.now place × (fill ≤ length out.old) × (length out.old ≤ limit) }
     ensures value { result ≡ answer_from (length out.old) fill (write (token_record text.now macros.now place) ∷ []) }
     ensures out_after { out.new ≡ append out.old fill (only really (written_from (length out.old) fill (write (token_record text.now macros.now place) ∷ []))) }
@@ -94,10 +92,10 @@ fn write_token(
     let size = macro_tokens::size_of(text, macros, place);
     if out.len() - fill < size {
         let location = macro_tokens::location_of(text, macros, place);
-        return WriteOutAnswer::Refused(Refusal::NoWrittenSpace(location));
+        return Err(Refusal::NoWrittenSpace(location));
     }
     macro_tokens::put_token(text, macros, place, really, out, fill);
-    WriteOutAnswer::Written((fill + size) as u32)
+    Ok((fill + size) as u32)
 }
 
 // What is done with the token at `place`, behind which its body goes on from `next` on: the new fill, or the first refusal.
@@ -115,21 +113,21 @@ fn write_act(
     really: bool,
     out: &mut [u8],
     fill: usize,
-) -> WriteOutAnswer
+) -> Result<u32, Refusal>
     requires { Acting text.now macros.now most list.now body place next act × (fill ≤ length out.old) × (length out.old ≤ limit) }
     ensures value { result ≡ answer_from (length out.old) fill (act_steps text.now macros.now levels list.now body place next act) }
     ensures out_after { out.new ≡ append out.old fill (only really (written_from (length out.old) fill (act_steps text.now macros.now levels list.now body place next act))) }
 {
     match act {
         Act::Write(_) => write_token(text, macros, place, really, out, fill),
-        Act::Pass => WriteOutAnswer::Written(fill as u32),
+        Act::Pass => Ok(fill as u32),
         Act::Call(k) => {
             let called = call_at(text, macros, levels, list, body, place, next, k);
             let verdict = called.verdict;
             let inner = called.body;
             match verdict {
-                Verdict::Stop(r) => WriteOutAnswer::Refused(r),
-                Verdict::Pass => {
+                Err(r) => Err(r),
+                Ok(()) => {
                     let end = record::next(macros, k);
                     let bytes = &macros[k + 4..end];
                     write_body(text, macros, k, levels - 1, bytes, inner, really, out, fill)
@@ -162,7 +160,7 @@ fn write_body(
     really: bool,
     out: &mut [u8],
     from: usize,
-) -> WriteOutAnswer
+) -> Result<u32, Refusal>
     requires { Ready text.now macros.now most list.now body × (from ≤ length out.old) × (length out.old ≤ limit) }
     ensures value { result ≡ answer_from (length out.old) from (steps_from text.now macros.now most levels list.now body Leading body.start) }
     ensures out_after { out.new ≡ append out.old from (only really (written_from (length out.old) from (steps_from text.now macros.now most levels list.now body Leading body.start))) }
@@ -177,22 +175,22 @@ fn write_body(
         match write_act(
             text, macros, most, levels, list, body, place, next, act, really, &mut *out, fill,
         ) {
-            WriteOutAnswer::Written(f) => {
+            Ok(f) => {
                 fill = f as usize;
                 mode = mode_after(act);
                 at = next;
             }
-            WriteOutAnswer::Refused(r) => {
-                return WriteOutAnswer::Refused(r);
+            Err(r) => {
+                return Err(r);
             }
         }
     }
-    WriteOutAnswer::Written(fill as u32)
+    Ok(fill as u32)
 }
 
 // A pass over the token list: a body without parameters, which may call all macros.
-fn write_all(text: &[u8], macros: &[u8], really: bool, out: &mut [u8]) -> WriteOutAnswer
-    requires { (token_layout text.now ≡ Good) × (macro_layout macros.now ≡ Good) × (length out.old ≤ limit) }
+fn write_all(text: &[u8], macros: &[u8], really: bool, out: &mut [u8]) -> Result<u32, Refusal>
+    requires { (token_layout text.now ≡ None) × (macro_layout macros.now ≡ None) × (length out.old ≤ limit) }
     ensures value { result ≡ answer_from (length out.old) 0 (written_out text.now macros.now) }
     ensures out_after { out.new ≡ append out.old 0 (only really (written_from (length out.old) 0 (written_out text.now macros.now))) }
 {
@@ -208,39 +206,39 @@ fn write_all(text: &[u8], macros: &[u8], really: bool, out: &mut [u8]) -> WriteO
 }
 
 // Refusals 1 and 2, for a buffer of `room` bytes.
-fn check(tokens: &[u8], macros: &[u8], room: usize) -> Verdict
+fn check(tokens: &[u8], macros: &[u8], room: usize) -> Result<(), Refusal>
     ensures { result ≡ stop_by tokens.now macros.now room }
 {
-    if let Layout::Bad(place) = lexer::first_bad_token(tokens) {
-        return Verdict::Stop(Refusal::BadLayout(0, place as u32));
+    if let Some(place) = lexer::first_bad_token(tokens) {
+        return Err(Refusal::BadLayout(0, place as u32));
     }
-    if let Layout::Bad(place) = macros::first_bad_macro(macros) {
-        return Verdict::Stop(Refusal::BadLayout(1, place as u32));
+    if let Some(place) = macros::first_bad_macro(macros) {
+        return Err(Refusal::BadLayout(1, place as u32));
     }
     if room > record::LIMIT {
-        return Verdict::Stop(Refusal::BadLayout(2, 65536));
+        return Err(Refusal::BadLayout(2, 65536));
     }
-    if let Repeat::Later(place) = macro_lookup::first_repeat(macros) {
-        return Verdict::Stop(Refusal::DuplicateName(1, place as u32));
+    if let Some(place) = macro_lookup::first_repeat(macros) {
+        return Err(Refusal::DuplicateName(1, place as u32));
     }
-    Verdict::Pass
+    Ok(())
 }
 
-fn is_written(answer: WriteOutAnswer) -> bool
+fn is_written(answer: Result<u32, Refusal>) -> bool
     ensures { result ≡ is_written answer }
 {
     match answer {
-        WriteOutAnswer::Written(_) => true,
-        WriteOutAnswer::Refused(_) => false,
+        Ok(_) => true,
+        Err(_) => false,
     }
 }
 
 // The token list with its macros' calls written out, from the start of `out` on, or a refusal, and then no byte changes.
-pub fn write_out(tokens: &[u8], macros: &[u8], out: &mut [u8]) -> WriteOutAnswer
+pub fn write_out(tokens: &[u8], macros: &[u8], out: &mut [u8]) -> Result<u32, Refusal>
     ensures { write_out_outcome tokens.now macros.now out.old ≡ (record { answer = result; out = out.new }) }
 {
-    if let Verdict::Stop(refusal) = check(tokens, macros, out.len()) {
-        return WriteOutAnswer::Refused(refusal);
+    if let Err(refusal) = check(tokens, macros, out.len()) {
+        return Err(refusal);
     }
     let answer = write_all(tokens, macros, false, &mut *out);
     if is_written(answer) {

@@ -1,5 +1,5 @@
 -- Laws of a token's record by itself: it passes the test alone as it does in its list, and records that pass make a list that does. Assumes nothing.
-use Rattle.std.specs.Prelude.{ℕ, ◌+◌, ◌-◌, ◌≤◌, ◌<◌, List, ◌∷◌, ◌++◌, map, Bool, false, ◌&&◌, ◌≡◌, refl, length, take, drop, leb}
+use Rattle.std.specs.Prelude.{ℕ, ◌+◌, ◌-◌, ◌≤◌, ◌<◌, List, ◌∷◌, ◌++◌, map, Bool, false, ◌&&◌, ◌≡◌, refl, length, take, drop, leb, None}
 use Rattle.std.proofs.Common.{arith, ◌∙◌, length-append, length-drop, take-append-drop, length-take-le, leb-true, leb-false}
 use Rattle.std.proofs.Math.Bool.{true}
 use Rattle.std.proofs.Math.Path.{sym, ap, ap₂}
@@ -8,7 +8,6 @@ use Rattle.record.specs.Records.{body_len, kind_at, next, whole, places_from, pl
 use Rattle.record.proofs.RecordsLaws.{places_all, places_step, first_pass}
 use Rattle.record.proofs.BehindLaws.{byte_before, le16_before, part_before, le16_behind}
 use Rattle.record.proofs.OneMoreLaws.{is_whole}
-use Rattle.record.specs.declared.Layout.TheVariants.{Good}
 use Rattle.lexer.specs.Tokens.{payload_len, payload_of, payload_ok, text_of, token_ok, TokenIs}
 use Rattle.lexer.proofs.TokensLaws.{token_is}
 use Rattle.lexer.specs.declared.Payload.{Payload}
@@ -75,7 +74,7 @@ least_of : (t : List ℕ) → Alone t → 8 ≤ body_len t 0
 least_of t a = (token_is t 0 a.passes).least
 
 -- one more token before a list that keeps its layout
-pub alone_then : (t r : List ℕ) → Alone t → first_bad (token_ok r) (places r) ≡ Good → first_bad (token_ok (t ++ r)) (places (t ++ r)) ≡ Good
+pub alone_then : (t r : List ℕ) → Alone t → first_bad (token_ok r) (places r) ≡ None → first_bad (token_ok (t ++ r)) (places (t ++ r)) ≡ None
 alone_then t r a g =
     let l = least_of t a in
     let s = t ++ r in

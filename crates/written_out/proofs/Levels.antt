@@ -1,5 +1,5 @@
 -- "to 8 levels": where a list is written out, its calls are nested at most eight deep. Assumes nothing.
-use Rattle.std.specs.Prelude.{ℕ, zero, suc, ◌+◌, ◌≤◌, Bool, true, false, ◌≡◌, refl, length, take, drop, leb, eqb}
+use Rattle.std.specs.Prelude.{ℕ, zero, suc, ◌+◌, ◌≤◌, Bool, true, false, ◌≡◌, refl, length, take, drop, leb, eqb, Err, Ok}
 use Rattle.std.proofs.Common.{arith, sym, ap, ◌∙◌}
 use mathlib.Core.List.Memᴰ
 use mathlib.Core.List.{List, [], ◌∷◌, ◌++◌, map, reverse, Memᴰ}
@@ -11,7 +11,6 @@ use Rattle.refusal.specs.declared.Refusal.TheVariants.{WrongArguments, NoWritten
 use Rattle.lexer.specs.Tokens.{text_of}
 use Rattle.line_heads.specs.Lines.{Line, is_symbol, lines, leads, records_of}
 use Rattle.macros.specs.Macros.{Macro, macros_of}
-use Rattle.written_out.specs.declared.WriteOutAnswer.TheVariants.{Written, Refused}
 use Rattle.written_out.specs.Written.{Step, write, stop, macro, Replacing, arguments, put_in, called, replaced_by_name, from_head, counted, line_steps, lines_steps, replaced, written_out}
 use Rattle.written_out.specs.Outcome.{answer_from, write_out_outcome}
 use Rattle.written_out.proofs.KeepsLayout.{accepted}
@@ -44,16 +43,16 @@ no_stop_both [] y h = (tt, h)
 no_stop_both (write t ∷ x) y h = no_stop_both x y h
 no_stop_both (stop r ∷ x) y h = (h, absurd h)
 
-no_stop_answer : (room fill f : ℕ) (steps : List Step) → answer_from room fill steps ≡ Written f → NoStop steps
+no_stop_answer : (room fill f : ℕ) (steps : List Step) → answer_from room fill steps ≡ Ok f → NoStop steps
 unfolding answer_from
 no_stop_answer room fill f [] e = tt
 no_stop_answer room fill f (stop r ∷ steps) e = let z : ◌≡◌ {A = ℕ} 0 1 = cc in absurd (omega arith)
 no_stop_answer room fill f (write t ∷ steps) e = go (leb (fill + length t) room) refl (no_stop_answer room (fill + length t) f steps)
   where
-    go : (b : Bool) → leb (fill + length t) room ≡ b → (answer_from room (fill + length t) steps ≡ Written f → NoStop steps) → NoStop steps
+    go : (b : Bool) → leb (fill + length t) room ≡ b → (answer_from room (fill + length t) steps ≡ Ok f → NoStop steps) → NoStop steps
     go true b ih = ih (sym (rw (b, answer_from)) ∙ e)
     go false b ih =
-        let n : answer_from room fill (write t ∷ steps) ≡ Refused (NoWrittenSpace (location_at t 4)) = rw (b, answer_from) in
+        let n : answer_from room fill (write t ∷ steps) ≡ Err (NoWrittenSpace (location_at t 4)) = rw (b, answer_from) in
         let z : ◌≡◌ {A = ℕ} 0 1 = cc in
         absurd (omega arith)
 
@@ -108,7 +107,7 @@ levels_left (suc n) (suc d) ts macros h (deeper {m = m} {above = above} {given =
     omega (arith, levels_left n d (map (put_in m.parameters given) m.body) above k p)
 
 -- a list that is written out has no ninth level
-pub eight_levels : (tokens macros out : List ℕ) (f d : ℕ) → (write_out_outcome tokens macros out).answer ≡ Written f → Deep (records_of tokens) (reverse (macros_of macros)) d → d ≤ 8
+pub eight_levels : (tokens macros out : List ℕ) (f d : ℕ) → (write_out_outcome tokens macros out).answer ≡ Ok f → Deep (records_of tokens) (reverse (macros_of macros)) d → d ≤ 8
 unfolding written_out
 eight_levels tokens macros out f d e p =
     levels_left 8 d (records_of tokens) (reverse (macros_of macros)) (no_stop_answer (length out) 0 f (written_out tokens macros) (accepted tokens macros out f e).answered) p

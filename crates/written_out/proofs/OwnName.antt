@@ -1,5 +1,5 @@
 -- "A name not above is treated as an ordinary mnemonic": in a macro's body its own name, and those of the macros below, call nothing. Assumes nothing.
-use Rattle.std.specs.Prelude.{ℕ, ◌≤◌, Bool, ◌≡◌}
+use Rattle.std.specs.Prelude.{ℕ, ◌≤◌, Bool, ◌≡◌, None, Option, Some}
 use Rattle.std.proofs.Common.{arith, ⊎_elim, sym, ap, ◌∙◌}
 use mathlib.Core.List.Memᴰ
 use mathlib.Core.List.{List, [], ◌∷◌, Memᴰ}
@@ -10,25 +10,22 @@ use borrow.Author.Tests.{ltb-true, eqb-true}
 use Rattle.record.specs.Records.{places}
 use Rattle.names.specs.Names.{first_where, is_at, first_later}
 use Rattle.names.proofs.NamesLaws.{later_hit, later_pass}
-use Rattle.names.specs.declared.Named.{Named}
-use Rattle.names.specs.declared.Named.TheVariants.{At, Missing}
-use Rattle.names.specs.declared.Repeat.TheVariants.{None}
 use Rattle.macros.specs.Macros.{Macro, macro_of, same_macro, macro_repeat}
 use Rattle.written_out.specs.Written.{no_macro, called}
 use Rattle.written_out.specs.Above.{macro_at, above_from, above}
 
-at_is : (n : Named) (p : ℕ) → is_at n p ≡ true → n ≡ At p
-at_is (At q) p e = ap At (eqb-true q p e)
-at_is Missing p e = let z : ◌≡◌ {A = ℕ} 0 1 = cc in absurd (omega arith)
+at_is : (n : Option ℕ) (p : ℕ) → is_at n p ≡ true → n ≡ Some p
+at_is (Some q) p e = ap Some (eqb-true q p e)
+at_is None p e = let z : ◌≡◌ {A = ℕ} 0 1 = cc in absurd (omega arith)
 
 -- where no name repeats, the first macro of a macro's name is that macro
-first_of : (s list ps : List ℕ) → first_later (same_macro s) list ps ≡ None → (q : ℕ) → Memᴰ q ps → first_where (same_macro s q) list ≡ At q
+first_of : (s list ps : List ℕ) → first_later (same_macro s) list ps ≡ None → (q : ℕ) → Memᴰ q ps → first_where (same_macro s q) list ≡ Some q
 first_of s list [] e q m = elim m [ ]
 first_of s list (p ∷ ps) e q m = go (is_at (first_where (same_macro s p) list) p) refl (first_of s list ps)
   where
     go : (b : Bool) → is_at (first_where (same_macro s p) list) p ≡ b
-        → (first_later (same_macro s) list ps ≡ None → (r : ℕ) → Memᴰ r ps → first_where (same_macro s r) list ≡ At r) → first_where (same_macro s q) list ≡ At q
-    go true b ih = ⊎_elim (λ (h : q ≡ p). ap (λ (r : ℕ). first_where (same_macro s r) list) h ∙ at_is _ p b ∙ ap At (sym h)) (λ t. ih (sym (later_pass (same_macro s) list p ps b) ∙ e) q t) (Memᴰ.cases_cons m)
+        → (first_later (same_macro s) list ps ≡ None → (r : ℕ) → Memᴰ r ps → first_where (same_macro s r) list ≡ Some r) → first_where (same_macro s q) list ≡ Some q
+    go true b ih = ⊎_elim (λ (h : q ≡ p). ap (λ (r : ℕ). first_where (same_macro s r) list) h ∙ at_is _ p b ∙ ap Some (sym h)) (λ t. ih (sym (later_pass (same_macro s) list p ps b) ∙ e) q t) (Memᴰ.cases_cons m)
     go false b ih =
         let l = later_hit (same_macro s) list p ps b in
         let z : ◌≡◌ {A = ℕ} 0 1 = cc in
@@ -38,17 +35,17 @@ module _ (s : List ℕ) (limit q : ℕ) (h : limit ≤ q) where
   abbrev name : List ℕ
   name = (macro_at s q).name
 
-  none_above : (ps : List ℕ) (ms : List Macro) → first_where (same_macro s q) ps ≡ At q → called name (above_from s limit ps ms) ≡ called name ms
+  none_above : (ps : List ℕ) (ms : List Macro) → first_where (same_macro s q) ps ≡ Some q → called name (above_from s limit ps ms) ≡ called name ms
   unfolding above_from first_where called macro_of
   none_above [] ms e = refl
   none_above (p ∷ ps) ms e = go (same_macro s q p) refl (ltb p limit) refl (none_above ps (macro_at s p ∷ ms))
     where
       go : (b : Bool) → same_macro s q p ≡ b → (t : Bool) → ltb p limit ≡ t
-          → (first_where (same_macro s q) ps ≡ At q → called name (above_from s limit ps (macro_at s p ∷ ms)) ≡ called name (macro_at s p ∷ ms))
+          → (first_where (same_macro s q) ps ≡ Some q → called name (above_from s limit ps (macro_at s p ∷ ms)) ≡ called name (macro_at s p ∷ ms))
           → called name (above_from s limit (p ∷ ps) ms) ≡ called name ms
       go b eb false et ih = rw (et, above_from)
       go true eb true et ih =
-          let f : first_where (same_macro s q) (p ∷ ps) ≡ At p = rw (eb, first_where) in
+          let f : first_where (same_macro s q) (p ∷ ps) ≡ Some p = rw (eb, first_where) in
           let g : p ≡ q = cc in
           absurd (omega (arith, ltb-true p limit et))
       go false eb true et ih = rw (et, above_from) (ih (sym (rw (eb, first_where)) ∙ e) ∙ rw (eb, called))

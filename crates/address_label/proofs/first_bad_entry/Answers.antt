@@ -1,7 +1,7 @@
+use Rattle.std.specs.Prelude.{Some}
 use Rattle.std.proofs.Common.{◌≡◌, true, sym, ap, ◌∙◌, arith}
 use Rattle.record.specs.Records.{next, places_from, first_bad_of}
 use Rattle.record.proofs.RecordsLaws.{of_end, of_past, of_bad, of_next}
-use Rattle.record.specs.declared.Layout.TheVariants.{Bad}
 use Rattle.address_label.specs.Entries.{entry_ok, entry_layout}
 use Rattle.address_label.proofs.EntriesLaws.{entry_is, entry_kept, entry_passed}
 use Rattle.address_label.proofs.first_bad_entry.Goals as goal
@@ -35,7 +35,7 @@ pub returns-then-end-entry : goal.returns-then-end-entry
 returns-then-end-entry c =
     let s = c.args.entry.now in
     let e = c.next-end.ensures.0 in
-    sym (rest (goal.at.returns-then-end-entry c).After-next-end ∙ of_past (entry_ok s) s (next s 0) (omega (arith, e)) ∙ ap Bad (sym e))
+    sym (rest (goal.at.returns-then-end-entry c).After-next-end ∙ of_past (entry_ok s) s (next s 0) (omega (arith, e)) ∙ ap Some (sym e))
 
 pub returns : goal.returns
 returns c =

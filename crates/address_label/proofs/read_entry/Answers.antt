@@ -1,12 +1,12 @@
+use Rattle.std.specs.Prelude.{None}
 use Rattle.std.proofs.Common.{◌<◌, ◌≡◌, List, ℕ, length, sym, arith}
 use Rattle.record.proofs.RecordsLaws.{good_ok, places_all}
-use Rattle.record.specs.declared.Layout.TheVariants.{Good}
 use Rattle.address_label.specs.Entries.{entry_ok, entry_layout}
 use Rattle.address_label.proofs.EntriesLaws.{EntryIs, entry_is, entry_good, entry_none, entry_stated}
 use Rattle.address_label.proofs.read_entry.Goals as goal
 
 -- where a record stands it is an entry
-first : (s : List ℕ) → entry_layout s ≡ Good → 0 < length s → EntryIs s 0
+first : (s : List ℕ) → entry_layout s ≡ None → 0 < length s → EntryIs s 0
 first s g h = entry_is s 0 (good_ok (entry_ok s) s 0 h (rw (places_all s) at (entry_good s g).1))
 
 pub returns-then-entry-eq0 : goal.returns-then-entry-eq0

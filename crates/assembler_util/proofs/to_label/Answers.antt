@@ -16,12 +16,12 @@ returns-in-Some c =
 pub returns-in-Some-as_symbol : goal.returns-in-Some-as_symbol
 returns-in-Some-as_symbol c =
     let i = c.get_integer-read.result.cursor.index in
-    let e = first_is _ c.args.from.index c.args.first (read_is c.get_integer-read.ensures _ c.in-Nothing.is) in
+    let e = first_is _ c.args.from.index c.args.first (read_is c.get_integer-read.ensures _ c.in-None.is) in
     rw (e ∙ ap (symbol_met c.args.first (tokens c.args.list.now) i) (sym c.as_symbol.ensures ∙ c.in-Some-as_symbol.is)) c.symbol_label.ensures
 
-pub returns-in-Nothing-as_symbol : goal.returns-in-Nothing-as_symbol
-returns-in-Nothing-as_symbol c =
+pub returns-in-None-as_symbol : goal.returns-in-None-as_symbol
+returns-in-None-as_symbol c =
     let r = c.get_integer-read in
-    let e = first_is _ c.args.from.index c.args.first (read_is r.ensures _ c.in-Nothing.is) in
-    let m = ap (symbol_met c.args.first (tokens c.args.list.now) r.result.cursor.index) (sym c.as_symbol.ensures ∙ c.in-Nothing-as_symbol.is) in
+    let e = first_is _ c.args.from.index c.args.first (read_is r.ensures _ c.in-None.is) in
+    let m = ap (symbol_met c.args.first (tokens c.args.list.now) r.result.cursor.index) (sym c.as_symbol.ensures ∙ c.in-None-as_symbol.is) in
     read_at _ _ _ _ r.ensures.placed (rw c.strip.ensures (ap (given Label) (e ∙ m)))

@@ -1,7 +1,7 @@
+use Rattle.std.specs.Prelude.{Some}
 use Rattle.std.proofs.Common.{List, ℕ, true, ◌≡◌, ◌<◌, ◌≤◌, length, sym, ap, ◌∙◌, arith}
 use Rattle.record.specs.Records.{next, places_from, first_bad_of, limit}
 use Rattle.record.proofs.RecordsLaws.{of_end, of_past, of_bad, of_next}
-use Rattle.record.specs.declared.Layout.TheVariants.{Bad}
 use Rattle.descriptors.specs.Mnemonics.{mnemonic_ok, mnemonic_layout}
 use Rattle.descriptors.proofs.MnemonicsLaws.{mnemonic_is, mnemonic_none, mnemonic_some, mnemonic_passed}
 use Rattle.descriptors.proofs.first_bad_mnemonic.Goals as goal
@@ -28,7 +28,7 @@ pub returns-then-end-list : goal.returns-then-end-list
 returns-then-end-list c =
     let s = c.args.list.now in
     let e = c.next-end.ensures.0 in
-    sym (rest s (omega arith) c.if-list-gt-LIMIT.false (sym c.if-not-mnemonic_ok.ensures) ∙ of_past (mnemonic_ok s) s (next s 0) (omega arith) ∙ ap Bad (sym e))
+    sym (rest s (omega arith) c.if-list-gt-LIMIT.false (sym c.if-not-mnemonic_ok.ensures) ∙ of_past (mnemonic_ok s) s (next s 0) (omega arith) ∙ ap Some (sym e))
 
 pub returns : goal.returns
 returns c =

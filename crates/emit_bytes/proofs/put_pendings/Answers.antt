@@ -1,3 +1,4 @@
+use Rattle.std.specs.Prelude.{None, Option, Some}
 use Rattle.std.proofs.Common.{◌≡◌, ℕ, ◌+◌, ◌*◌, length, get_or, take, refl, sym, ap, ◌∙◌, append-nil, arith, rules}
 use Rattle.record.specs.Stores.{append}
 use Rattle.record.proofs.StoresLaws.{append_none, append_then}
@@ -5,11 +6,10 @@ use Rattle.pending.specs.PendingBytes.{pending_bytes}
 use Rattle.pending.proofs.PendingBytesLaws.{pending_length}
 use Rattle.pending.specs.declared.Origin.{Origin}
 use Rattle.emit_pairs.specs.Pairs.{plain}
-use Rattle.emit_pairs.specs.declared.PairLabel.{PairLabel}
-use Rattle.emit_pairs.specs.declared.PairLabel.TheVariants.{Nothing, Some}
 use Rattle.emit_bytes.specs.Appended.{onward, pair_len, pendings_len, pendings_bytes}
 use Rattle.emit_bytes.proofs.AppendedLaws.{word_at, word_first, word_next, word_offset, pendings_length, pendings_next, sizes_next, sizes_room}
 use Rattle.emit_bytes.proofs.put_pendings.Goals as goal
+use Rattle.pending.specs.declared.InstructionLabel.{InstructionLabel}
 
 pub loop-i-init : goal.loop-i-init
 unfolding pendings_bytes pendings_len
@@ -25,18 +25,18 @@ onward-from-requires c = omega (arith, offset c.loop-i.i c.loop-i.from c.args.or
 pub onward-from-requires-in-Some : goal.onward-from-requires-in-Some
 onward-from-requires-in-Some c = omega (arith, offset c.loop-i.i c.loop-i.from c.args.origin c.loop-i.invariant.2)
 
-pub loop-i-preserved-in-Nothing : goal.loop-i-preserved-in-Nothing
-loop-i-preserved-in-Nothing c =
+pub loop-i-preserved-in-None : goal.loop-i-preserved-in-None
+loop-i-preserved-in-None c =
     let a = c.args in
     let l = c.loop-i in
     let t = a.tokens.now in
     let ps = a.e.instructions in
-    let g : (get_or ps l.i (plain 0)).label ≡ Nothing = c.in-Nothing.is in
+    let g : (get_or ps l.i (plain 0)).label ≡ None = c.in-None.is in
     let h : length ps ≡ 5 = search rules in (
       omega arith,
-      omega (arith, sizes_next t (plain 0) Nothing ps l.i (omega arith) g),
+      omega (arith, sizes_next t (plain 0) None ps l.i (omega arith) g),
       c.onward-from.ensures ∙ ap onward l.invariant.2 ∙ word_next l.i a.origin,
-      l.invariant.3 ∙ ap (append a.d.now a.at) (sym (pendings_next t (plain 0) Nothing a.origin ps l.i (omega arith) g ∙ append-nil _)),
+      l.invariant.3 ∙ ap (append a.d.now a.at) (sym (pendings_next t (plain 0) None a.origin ps l.i (omega arith) g ∙ append-nil _)),
     )
 
 pub put_pending-requires : goal.put_pending-requires
@@ -57,7 +57,7 @@ loop-i-preserved c =
     let t = a.tokens.now in
     let ps = a.e.instructions in
     let x = c.in-Some.label in
-    let w : PairLabel = Some x in
+    let w : (Option InstructionLabel) = Some x in
     let h : length ps ≡ 5 = search rules in
     let e = sizes_next t (plain 0) w ps l.i (omega arith) c.in-Some.is in
     let r = sizes_room t (plain 0) w ps l.i a.e.count (omega arith) (omega arith) c.in-Some.is in

@@ -18,29 +18,29 @@ returns-then-numbers-eq-NO_REGION c =
 pub returns-then-filled-data : goal.returns-then-filled-data
 returns-then-filled-data c =
     sym (room_are _ _ _ _ _ (words c.args.e (search rules) c.requires.1 c.count_of-n.ensures) c.pendings_size-size.ensures.0
-    (ne_eqb _ _ c.if-numbers-eq-NO_REGION.false) (sym c.in-Pass.ensures) (lt-leb _ _ c.if-filled-data.true) refl refl refl)
+    (ne_eqb _ _ c.if-numbers-eq-NO_REGION.false) (sym c.in-Ok.ensures) (lt-leb _ _ c.if-filled-data.true) refl refl refl)
 
 pub returns-then-filled-gt-MOST_DATA : goal.returns-then-filled-gt-MOST_DATA
 returns-then-filled-gt-MOST_DATA c =
     sym (room_are _ _ _ _ _ (words c.args.e (search rules) c.requires.1 c.count_of-n.ensures) c.pendings_size-size.ensures.0
-    (ne_eqb _ _ c.if-numbers-eq-NO_REGION.false) (sym c.in-Pass.ensures) (le-leb _ _ c.if-filled-data.false) (lt-leb _ _ c.if-filled-gt-MOST_DATA.true) refl refl)
+    (ne_eqb _ _ c.if-numbers-eq-NO_REGION.false) (sym c.in-Ok.ensures) (le-leb _ _ c.if-filled-data.false) (lt-leb _ _ c.if-filled-gt-MOST_DATA.true) refl refl)
 
 pub returns-then-counts-size : goal.returns-then-counts-size
 returns-then-counts-size c =
     sym (room_are _ _ _ _ _ (words c.args.e (search rules) c.requires.1 c.count_of-n.ensures) c.pendings_size-size.ensures.0
-    (ne_eqb _ _ c.if-numbers-eq-NO_REGION.false) (sym c.in-Pass.ensures) (le-leb _ _ c.if-filled-data.false) (le-leb _ _ c.if-filled-gt-MOST_DATA.false) (lt-leb _ _ c.if-counts-size.true) refl)
+    (ne_eqb _ _ c.if-numbers-eq-NO_REGION.false) (sym c.in-Ok.ensures) (le-leb _ _ c.if-filled-data.false) (le-leb _ _ c.if-filled-gt-MOST_DATA.false) (lt-leb _ _ c.if-counts-size.true) refl)
 
 pub returns-then-counts-n : goal.returns-then-counts-n
 returns-then-counts-n c =
     sym (room_are _ _ _ _ _ (words c.args.e (search rules) c.requires.1 c.count_of-n.ensures) c.pendings_size-size.ensures.0
-    (ne_eqb _ _ c.if-numbers-eq-NO_REGION.false) (sym c.in-Pass.ensures) (le-leb _ _ c.if-filled-data.false) (le-leb _ _ c.if-filled-gt-MOST_DATA.false) (le-leb _ _ c.if-counts-size.false) (lt-leb _ _ c.if-counts-n.true))
+    (ne_eqb _ _ c.if-numbers-eq-NO_REGION.false) (sym c.in-Ok.ensures) (le-leb _ _ c.if-filled-data.false) (le-leb _ _ c.if-filled-gt-MOST_DATA.false) (le-leb _ _ c.if-counts-size.false) (lt-leb _ _ c.if-counts-n.true))
 
-pub returns-in-Stop : goal.returns-in-Stop
-returns-in-Stop c =
+pub returns-in-Err : goal.returns-in-Err
+returns-in-Err c =
     sym (room_are _ _ _ _ _ (words c.args.e (search rules) c.requires.1 c.count_of-n.ensures) c.pendings_size-size.ensures.0
-    (ne_eqb _ _ c.if-numbers-eq-NO_REGION.false) (sym c.in-Stop.ensures) refl refl refl refl)
+    (ne_eqb _ _ c.if-numbers-eq-NO_REGION.false) (sym c.in-Err.ensures) refl refl refl refl)
 
 pub returns-else-counts-n : goal.returns-else-counts-n
 returns-else-counts-n c =
     sym (room_are _ _ _ _ _ (words c.args.e (search rules) c.requires.1 c.count_of-n.ensures) c.pendings_size-size.ensures.0
-    (ne_eqb _ _ c.if-numbers-eq-NO_REGION.false) (sym c.in-Pass.ensures) (le-leb _ _ c.if-filled-data.false) (le-leb _ _ c.if-filled-gt-MOST_DATA.false) (le-leb _ _ c.if-counts-size.false) (le-leb _ _ c.if-counts-n.false))
+    (ne_eqb _ _ c.if-numbers-eq-NO_REGION.false) (sym c.in-Ok.ensures) (le-leb _ _ c.if-filled-data.false) (le-leb _ _ c.if-filled-gt-MOST_DATA.false) (le-leb _ _ c.if-counts-size.false) (le-leb _ _ c.if-counts-n.false))

@@ -8,19 +8,19 @@ use Rattle.emit_dispatch.specs.Lines.{encoding_range, encoding_pairs, encoding_f
 use Rattle.emit_dispatch.proofs.LinesLaws.{line_missed, line_read}
 use Rattle.emit_dispatch.proofs.dispatch_encoding.Goals as goal
 
-pub returns-in-Missed : goal.returns-in-Missed
+pub returns-in-Err : goal.returns-in-Err
 unfolding encoding_line
-returns-in-Missed c =
+returns-in-Err c =
     let a = c.args in
     let w = encoding_wants a.encoding in
     line_missed w (read_operands w (tokens a.list.now) a.from.index) (asked_as a.from.index c.encoding_wants.ensures c.read_operands-read.ensures)
-    (encoding_range a.job a.encoding a.op) (encoding_pairs a.job a.encoding a.op) (encoding_form a.encoding) _ c.in-Missed.is refl c.none.ensures
+    (encoding_range a.job a.encoding a.op) (encoding_pairs a.job a.encoding a.op) (encoding_form a.encoding) _ c.in-Err.is refl c.none.ensures
 
-pub returns-in-Got : goal.returns-in-Got
+pub returns-in-Ok : goal.returns-in-Ok
 unfolding encoding_line
-returns-in-Got c =
+returns-in-Ok c =
     let a = c.args in
     let w = encoding_wants a.encoding in
     line_read w (read_operands w (tokens a.list.now) a.from.index) (asked_as a.from.index c.encoding_wants.ensures c.read_operands-read.ensures)
-    (encoding_range a.job a.encoding a.op) (encoding_pairs a.job a.encoding a.op) (encoding_form a.encoding) _ c.in-Got.is
+    (encoding_range a.job a.encoding a.op) (encoding_pairs a.job a.encoding a.op) (encoding_form a.encoding) _ c.in-Ok.is
     (c.range_answer-answer.ensures ∙ ap range_answer c.encoding_range.ensures) c.encoding_pairs-emit.ensures

@@ -16,13 +16,13 @@ returns-then-is_immediate c =
 pub push-requires : goal.push-requires
 push-requires c = omega (arith, c.load_pairs.ensures.count_is, (load_pairs_length c.args.operands.constant 1).1)
 
-pub returns-in-Nothing : goal.returns-in-Nothing
-returns-in-Nothing c =
+pub returns-in-None : goal.returns-in-None
+returns-in-None c =
     let a = c.args in
     let o = a.operands in
     let e : is_immediate o.constant ≡ false = sym c.is_immediate.ensures ∙ c.if-is_immediate.false in
-    emit_by c.none.ensures (pairs_refused a.op (register_number o.temp) (register_number o.source) o.constant e c.in-Nothing.is)
-    (form_refused o.constant e c.in-Nothing.is)
+    emit_by c.none.ensures (pairs_refused a.op (register_number o.temp) (register_number o.source) o.constant e c.in-None.is)
+    (form_refused o.constant e c.in-None.is)
 
 pub returns-in-Some : goal.returns-in-Some
 returns-in-Some c =

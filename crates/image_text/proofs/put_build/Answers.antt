@@ -1,10 +1,8 @@
+use Rattle.std.specs.Prelude.{None, Ok, Result}
 use Rattle.std.proofs.Common.{◌≡◌, ℕ, List, sym, ◌∙◌, ap₂, arith}
 use Rattle.jobs.specs.declared.Job.{Job}
-use Rattle.record.specs.declared.Layout.TheVariants.{Good}
 use Rattle.labels.specs.Labels.{table_of}
 use Rattle.regions.specs.Regions.{region_layout}
-use Rattle.build_outcome.specs.declared.Built.{Built}
-use Rattle.build_outcome.specs.declared.Built.TheVariants.{Entry}
 use Rattle.reading.specs.Reading.{image_of}
 use Rattle.text.proofs.TextLaws.{put_then, put_room, refused_most}
 use Rattle.binary_builder.specs.Contract.{BuildBy}
@@ -13,28 +11,29 @@ use Rattle.image_text.proofs.ImageLaws.{entry_length}
 use Rattle.image_text.proofs.MostLaws.{image_most}
 use Rattle.image_text.proofs.BuiltLaws.{accepted_layout}
 use Rattle.image_text.proofs.put_build.Goals as goal
+use Rattle.refusal.specs.declared.Refusal.{Refusal}
 
 -- an accepted build's regions keep their layout, and so its text is not too long
-good : (job : Job) (labels entry regions pending : List ℕ) (built : Built) (exit : List ℕ) (address : ℕ) → BuildBy job labels entry regions pending built exit → built ≡ Entry address
-    → region_layout exit ≡ Good
+good : (job : Job) (labels entry regions pending : List ℕ) (built : Result ℕ Refusal) (exit : List ℕ) (address : ℕ) → BuildBy job labels entry regions pending built exit → built ≡ Ok address
+    → region_layout exit ≡ None
 good job labels entry regions pending built exit address b e = rw b.bytes_are (accepted_layout job (table_of labels) entry regions pending address (sym b.answer_is ∙ e))
 
 pub put_refusal-requires : goal.put_refusal-requires
 put_refusal-requires c = omega (arith, refused_most c.numbers.result)
 
 pub put_entry-at-requires : goal.put_entry-at-requires
-put_entry-at-requires c = omega (arith, entry_length c.in-Entry.address)
+put_entry-at-requires c = omega (arith, entry_length c.in-Ok.address)
 
 pub put_regions-requires-clause-regions_value : goal.put_regions-requires-clause-regions_value
-put_regions-requires-clause-regions_value c = good _ _ _ _ _ _ _ c.in-Entry.address c.build_for.ensures c.in-Entry.is
+put_regions-requires-clause-regions_value c = good _ _ _ _ _ _ _ c.in-Ok.address c.build_for.ensures c.in-Ok.is
 
 pub put_regions-requires-clause-regions_in_bounds : goal.put_regions-requires-clause-regions_in_bounds
 put_regions-requires-clause-regions_in_bounds c =
     let e = c.build_for.new.regions in
-    let g = good _ _ _ _ _ _ _ c.in-Entry.address c.build_for.ensures c.in-Entry.is in
-    put_room _ _ _ _ _ c.put_entry-at.ensures (regions_text 0 (image_of e)) (omega (arith, image_most e c.in-Entry.address g))
+    let g = good _ _ _ _ _ _ _ c.in-Ok.address c.build_for.ensures c.in-Ok.is in
+    put_room _ _ _ _ _ c.put_entry-at.ensures (regions_text 0 (image_of e)) (omega (arith, image_most e c.in-Ok.address g))
 
-pub returns-in-Entry : goal.returns-in-Entry
-returns-in-Entry c =
+pub returns-in-Ok : goal.returns-in-Ok
+returns-in-Ok c =
     let b = c.build_for.ensures in
-    rw (ap₂ outcome_text (sym b.answer_is ∙ c.in-Entry.is) (sym b.bytes_are)) (put_then _ _ _ _ _ c.put_entry-at.ensures _ _ _ c.put_regions.ensures)
+    rw (ap₂ outcome_text (sym b.answer_is ∙ c.in-Ok.is) (sym b.bytes_are)) (put_then _ _ _ _ _ c.put_entry-at.ensures _ _ _ c.put_regions.ensures)

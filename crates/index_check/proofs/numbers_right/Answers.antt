@@ -1,6 +1,6 @@
+use Rattle.std.specs.Prelude.{None}
 use Rattle.std.proofs.Common.{◌+◌, ◌≡◌, get_or, refl, sym, subst}
 use Rattle.record.specs.Records.{first_bad}
-use Rattle.record.specs.declared.Layout.TheVariants.{Good}
 use Rattle.record.proofs.RecordsLaws.{good_at}
 use Rattle.pending.specs.Pendings.{pending_ok}
 use Rattle.pending.proofs.PendingsLaws.{pending_is}
@@ -44,21 +44,21 @@ source_of-requires c =
     let k = c.requires.lists in
     let pending = c.args.pending.now in
     rw c.widened.ensures (pending_is 16 pending (get_or c.args.places.now c.half_at-n.result 0)
-    (good_at (pending_ok 16 pending) c.args.places.now (subst (λ ps. first_bad (pending_ok 16 pending) ps ≡ Good) (sym k.places_are) k.kept) c.half_at-n.result c.if-n-places.false))
+    (good_at (pending_ok 16 pending) c.args.places.now (subst (λ ps. first_bad (pending_ok 16 pending) ps ≡ None) (sym k.places_are) k.kept) c.half_at-n.result c.if-n-places.false))
 
-pub returns-in-Other : goal.returns-in-Other
-returns-in-Other c =
+pub returns-in-None : goal.returns-in-None
+returns-in-None c =
     let a = c.args in
     let l = c.loop-left in
-    wrong (goal.at.returns-in-Other c).After-half_at-n
-    (not_named a.labels.now a.pending.now a.places.now c.requires.lists.places_are a.index.now l.from l.least c.half_at-n.result c.widened.result c.half_at-n.ensures.0 c.widened.ensures c.name_at-name.result.now c.standing_at-standing.result (sym c.in-Other.ensures))
+    wrong (goal.at.returns-in-None c).After-half_at-n
+    (not_named a.labels.now a.pending.now a.places.now c.requires.lists.places_are a.index.now l.from l.least c.half_at-n.result c.widened.result c.half_at-n.ensures.0 c.widened.ensures c.name_at-name.result.now c.standing_at-standing.result (sym c.in-None.ensures))
 
 pub returns-then-not-still_stands : goal.returns-then-not-still_stands
 returns-then-not-still_stands c =
     let a = c.args in
     let l = c.loop-left in
     wrong (goal.at.returns-then-not-still_stands c).After-half_at-n
-    (not_standing a.labels.now a.pending.now a.places.now c.requires.lists.places_are a.index.now l.from l.least c.half_at-n.result c.widened.result c.half_at-n.ensures.0 c.widened.ensures c.name_at-name.result.now c.standing_at-standing.result c.in-Of.source (sym c.in-Of.ensures)
+    (not_standing a.labels.now a.pending.now a.places.now c.requires.lists.places_are a.index.now l.from l.least c.half_at-n.result c.widened.result c.half_at-n.ensures.0 c.widened.ensures c.name_at-name.result.now c.standing_at-standing.result c.in-Some.source (sym c.in-Some.ensures)
     c.if-not-still_stands.ensures)
 
 pub loop-left-preserved : goal.loop-left-preserved
@@ -68,8 +68,8 @@ loop-left-preserved c =
     let name = c.name_at-name.result.now in
     let standing = c.standing_at-standing.result in
     let k = c.if-not-still_stands.ensures in
-    counting_next a.labels.now a.pending.now a.index.now a.at name standing l.left l.from l.least l.last.some l.last.source l.invariant c.half_at-n.result c.in-Of.source c.loop-left-test.true c.half_at-n.ensures.0
-    (right_one a.labels.now a.pending.now a.places.now c.requires.lists.places_are a.index.now l.from l.least c.half_at-n.result c.widened.result c.half_at-n.ensures.0 c.widened.ensures name standing c.in-Of.source c.if-n-least.false c.if-n-places.false (sym c.in-Of.ensures) k)
+    counting_next a.labels.now a.pending.now a.index.now a.at name standing l.left l.from l.least l.last.some l.last.source l.invariant c.half_at-n.result c.in-Some.source c.loop-left-test.true c.half_at-n.ensures.0
+    (right_one a.labels.now a.pending.now a.places.now c.requires.lists.places_are a.index.now l.from l.least c.half_at-n.result c.widened.result c.half_at-n.ensures.0 c.widened.ensures name standing c.in-Some.source c.if-n-least.false c.if-n-places.false (sym c.in-Some.ensures) k)
     k
 
 pub returns : goal.returns

@@ -1,7 +1,7 @@
+use Rattle.std.specs.Prelude.{Ok}
 use Rattle.std.proofs.Common.{ℕ, List, sym, ap₂, ◌∙◌, arith}
 use Rattle.label_uses.specs.UseBytes.{index_of}
 use Rattle.label_uses.proofs.IndexFits.{index_fits}
-use Rattle.indexed_outcome.specs.declared.IndexAnswer.TheVariants.{Made}
 use Rattle.indexed_outcome.specs.Make.{made_of}
 use Rattle.indexed_outcome.proofs.MakeLaws.{kept_layout, room_yes}
 use Rattle.index_maker.proofs.fill_or_refuse.Goals as goal
@@ -16,4 +16,4 @@ returns c =
     let a = c.args in
     let m = c.fill_index in
     room_yes (index_of a.labels.now a.pending.now) a.index.now (omega (arith, c.if-index-pending.false, index_fits a.labels.now a.pending.now (kept_layout a.pending.now c.requires.pending_value c.requires.pending_len_bound.0)))
-    ∙ ap₂ (λ (n : ℕ) (x : List ℕ). made_of (Made n) x) (sym m.ensures.filled) (sym m.ensures.bytes)
+    ∙ ap₂ (λ (n : ℕ) (x : List ℕ). made_of (Ok n) x) (sym m.ensures.filled) (sym m.ensures.bytes)

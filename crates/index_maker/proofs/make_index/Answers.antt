@@ -1,13 +1,12 @@
+use Rattle.std.specs.Prelude.{Err, None, Ok, Some}
 use Rattle.std.proofs.Common.{refl, sym, ◌∙◌, arith, length-take, length-take-le}
-use Rattle.refusal.specs.declared.Verdict.TheVariants.{Pass, Stop}
-use Rattle.names.specs.declared.Repeat.TheVariants.{None, Later}
 use Rattle.labels.proofs.LabelsLaws.{labels_named}
 use Rattle.breakpoints.proofs.BreakpointsLaws.{pending_buffer_good}
 use Rattle.indexed_outcome.proofs.MakeLaws.{layouts_good, outcome_by, repeat_place}
 use Rattle.index_maker.proofs.make_index.Goals as goal
 
-pub returns-in-Stop : goal.returns-in-Stop
-returns-in-Stop c = outcome_by _ _ _ _ (Stop _) _ (sym c.in-Stop.ensures) refl
+pub returns-in-Err : goal.returns-in-Err
+returns-in-Err c = outcome_by _ _ _ _ (Err _) _ (sym c.in-Err.ensures) refl
 
 pub make_index-n-requires-clause-labels_value : goal.make_index-n-requires-clause-labels_value
 make_index-n-requires-clause-labels_value c = (layouts_good _ _ _ _ (sym c.in_default.ensures)).labels_good
@@ -16,10 +15,10 @@ pub first_repeat-requires-clause-labels_value : goal.first_repeat-requires-claus
 first_repeat-requires-clause-labels_value c = (layouts_good _ _ _ _ (sym c.in_default.ensures)).labels_good
 
 pub overflow_cast-result : goal.overflow_cast-result
-overflow_cast-result c = omega (arith, repeat_place _ _ (layouts_good _ _ _ _ (sym c.in_default.ensures)).labels_good (sym c.in-Later.ensures))
+overflow_cast-result c = omega (arith, repeat_place _ _ (layouts_good _ _ _ _ (sym c.in_default.ensures)).labels_good (sym c.in-Some.ensures))
 
-pub returns-in-Later : goal.returns-in-Later
-returns-in-Later c = outcome_by _ _ _ _ Pass (Later _) (sym c.in_default.ensures) (sym c.in-Later.ensures)
+pub returns-in-Some : goal.returns-in-Some
+returns-in-Some c = outcome_by _ _ _ _ (Ok tt) (Some _) (sym c.in_default.ensures) (sym c.in-Some.ensures)
 
 pub slice_bounds-fill_or_refuse-end : goal.slice_bounds-fill_or_refuse-end
 slice_bounds-fill_or_refuse-end c = sym (length-take-le _ _ (pending_buffer_good _ _ (layouts_good _ _ _ _ (sym c.in_default.ensures)).pending_good).1)
@@ -37,4 +36,4 @@ pub fill_or_refuse-requires-clause-labels_value : goal.fill_or_refuse-requires-c
 fill_or_refuse-requires-clause-labels_value c = labels_named _ (layouts_good _ _ _ _ (sym c.in_default.ensures)).labels_good
 
 pub returns : goal.returns
-returns c = outcome_by _ _ _ _ Pass None (sym c.in_default.ensures) (sym c.in_default-first_repeat.ensures) ∙ c.fill_or_refuse.ensures
+returns c = outcome_by _ _ _ _ (Ok tt) None (sym c.in_default.ensures) (sym c.in_default-first_repeat.ensures) ∙ c.fill_or_refuse.ensures

@@ -36,11 +36,11 @@ size c h =
 pub overflow_cast-position : goal.overflow_cast-position
 overflow_cast-position c = omega (arith, index_most _ _ c.requires.line_good.placed c.requires.lists_filled.tokens_length)
 
-pub returns-in-Stop : goal.returns-in-Stop
-returns-in-Stop c =
+pub returns-in-Err : goal.returns-in-Err
+returns-in-Err c =
     let a = c.args in
-    let k = (goal.at.returns-in-Stop c).After-check_line in
-    with_stopped a.tokens.now a.labels.now a.index.now a.line a.numbers (lent k) a.fill a.made _ (sym c.in-Stop.ensures)
+    let k = (goal.at.returns-in-Err c).After-check_line in
+    with_stopped a.tokens.now a.labels.now a.index.now a.line a.numbers (lent k) a.fill a.made _ (sym c.in-Err.ensures)
     ∙ sym (ap (λ (x : IndexedEmitted). indexed_outcome_of x.answer x.counts (lent k) a.index.now) c.refused.ensures)
 
 pub size_with_line-size-requires-clause-an_index : goal.size_with_line-size-requires-clause-an_index

@@ -5,10 +5,10 @@ use Rattle.indexed_outcome.specs.declared.IndexedEmitted.{IndexedEmitted}
 use Rattle.indexed_core.proofs.StepsLaws.{call_stopped, indexed_by_lem}
 use Rattle.indexed_core.proofs.do_indexed_job.Goals as goal
 
-pub returns-in-Stop : goal.returns-in-Stop
-returns-in-Stop c =
+pub returns-in-Err : goal.returns-in-Err
+returns-in-Err c =
     let a = c.args in
     let lent = lent_of a.«data».now a.pending.now a.breakpoints.now in
     indexed_by_lem
-    (call_stopped a.job (indexed_call_of (call_of a.tokens.now a.mnemonic.now a.descriptors.now lent a.counts.counts a.place) a.labels.now a.index.now a.counts.index) _ (sym c.in-Stop.ensures)
+    (call_stopped a.job (indexed_call_of (call_of a.tokens.now a.mnemonic.now a.descriptors.now lent a.counts.counts a.place) a.labels.now a.index.now a.counts.index) _ (sym c.in-Err.ensures)
     ∙ sym (ap (λ (x : IndexedEmitted). indexed_outcome_of x.answer x.counts lent a.index.now) c.refused.ensures))

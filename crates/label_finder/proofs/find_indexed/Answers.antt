@@ -8,10 +8,10 @@ first_repeat-requires-clause-labels_value c = labels_are _ _ c.requires.name_val
 
 pub overflow_cast-result : goal.overflow_cast-result
 overflow_cast-result c =
-    omega (arith, repeat_place c.args.labels.now _ (labels_are _ _ c.requires.name_value) (sym c.first_repeat.ensures ∙ c.in-Later.is))
+    omega (arith, repeat_place c.args.labels.now _ (labels_are _ _ c.requires.name_value) (sym c.first_repeat.ensures ∙ c.in-Some.is))
 
-pub returns-in-Later : goal.returns-in-Later
-returns-in-Later c = repeated _ _ _ c.requires.name_value _ (sym c.first_repeat.ensures ∙ c.in-Later.is)
+pub returns-in-Some : goal.returns-in-Some
+returns-in-Some c = repeated _ _ _ c.requires.name_value _ (sym c.first_repeat.ensures ∙ c.in-Some.is)
 
 pub get-requires : goal.get-requires
 get-requires c = record {

@@ -1,7 +1,6 @@
+use Rattle.std.specs.Prelude.{None, Some}
 use Rattle.std.proofs.Common.{ℕ, ◌≡◌, ◌≤◌, sym, ap, ◌∙◌, arith}
-use Rattle.names.specs.declared.Named.TheVariants.{At, Missing}
 use Rattle.name_index.specs.declared.Looked.{Looked}
-use Rattle.labels.specs.declared.Address.TheVariants.{Known}
 use Rattle.labels.specs.Labels.{labelled}
 use Rattle.labels.proofs.LabelsLaws.{LabelIs, found_label, resolve_is}
 use Rattle.labels.specs.Lookup.{looked_up}
@@ -20,21 +19,21 @@ counted c =
     (e, rw e (few_compared c.args.labels.now c.args.index.now c.requires c.args.source c.args.name.now))
 
 -- the record that is found is a label
-found : (c : After-look_up-looked) (p : ℕ) → c.look_up-looked.result.named ≡ At p → LabelIs c.args.labels.now p
+found : (c : After-look_up-looked) (p : ℕ) → c.look_up-looked.result.named ≡ Some p → LabelIs c.args.labels.now p
 found c p e = found_label c.args.labels.now c.args.source c.args.name.now p c.requires.layout (sym (scanned c) ∙ e)
 
 pub overflow_add-at : goal.overflow_add-at
-overflow_add-at c = omega (arith, found (goal.at.overflow_add-at c).After-look_up-looked _ c.in-At.is)
+overflow_add-at c = omega (arith, found (goal.at.overflow_add-at c).After-look_up-looked _ c.in-Some.is)
 
 pub word_at-requires : goal.word_at-requires
-word_at-requires c = omega (arith, found (goal.at.word_at-requires c).After-look_up-looked _ c.in-At.is)
+word_at-requires c = omega (arith, found (goal.at.word_at-requires c).After-look_up-looked _ c.in-Some.is)
 
-pub returns-in-At : goal.returns-in-At
-returns-in-At c =
-    let l = (goal.at.returns-in-At c).After-look_up-looked in
-    (ap Known c.word_at.ensures ∙ sym (resolve_is _ _ _ (At c.in-At.at) (sym c.in-At.is ∙ scanned l)), (counted l).0, (counted l).1)
+pub returns-in-Some : goal.returns-in-Some
+returns-in-Some c =
+    let l = (goal.at.returns-in-Some c).After-look_up-looked in
+    (ap Some c.word_at.ensures ∙ sym (resolve_is _ _ _ (Some c.in-Some.at) (sym c.in-Some.is ∙ scanned l)), (counted l).0, (counted l).1)
 
-pub returns-in-Missing : goal.returns-in-Missing
-returns-in-Missing c =
-    let l = (goal.at.returns-in-Missing c).After-look_up-looked in
-    (sym (resolve_is _ _ _ Missing (sym c.in-Missing.is ∙ scanned l)), (counted l).0, (counted l).1)
+pub returns-in-None : goal.returns-in-None
+returns-in-None c =
+    let l = (goal.at.returns-in-None c).After-look_up-looked in
+    (sym (resolve_is _ _ _ None (sym c.in-None.is ∙ scanned l)), (counted l).0, (counted l).1)

@@ -2,10 +2,10 @@ use Rattle.std.proofs.Common.{sym, ◌∙◌}
 use Rattle.line_text.specs.Line.{line_text}
 use Rattle.line_text.proofs.emit_line.Goals as goal
 
-pub returns-in-Of : goal.returns-in-Of
+pub returns-in-Some : goal.returns-in-Some
 unfolding line_text
-returns-in-Of c = rw (sym c.job_in.ensures ∙ c.in-Of.is) c.put_job.ensures
+returns-in-Some c = rw (sym c.job_in.ensures ∙ c.in-Some.is) c.put_job.ensures
 
-pub returns-in-NoSuch : goal.returns-in-NoSuch
+pub returns-in-None : goal.returns-in-None
 unfolding line_text
-returns-in-NoSuch c = rw (sym c.job_in.ensures ∙ c.in-NoSuch.is) c.put_text.ensures
+returns-in-None c = rw (sym c.job_in.ensures ∙ c.in-None.is) c.put_text.ensures

@@ -1,12 +1,12 @@
+use Rattle.std.specs.Prelude.{None}
 use Rattle.std.proofs.Common.{ℕ, List, ◌<◌, ◌≡◌, length, sym, ap, ◌∙◌, arith}
 use Rattle.record.specs.Records.{places_from, first_bad}
 use Rattle.record.proofs.RecordsLaws.{places_all, places_step, places_end, good_ok, good_next}
-use Rattle.record.specs.declared.Layout.TheVariants.{Good}
 use Rattle.pending.specs.Pendings.{pending_ok, PendingIs}
 use Rattle.pending.proofs.PendingsLaws.{pending_is}
 use Rattle.line_uses.proofs.count_pendings.Goals as goal
 
-turn : (pending : List ℕ) (at : ℕ) → at < length pending → first_bad (pending_ok 16 pending) (places_from pending at) ≡ Good → PendingIs pending at
+turn : (pending : List ℕ) (at : ℕ) → at < length pending → first_bad (pending_ok 16 pending) (places_from pending at) ≡ None → PendingIs pending at
 turn pending at h g = pending_is 16 pending at (good_ok (pending_ok 16 pending) pending at h g)
 
 pub loop-at-init : goal.loop-at-init

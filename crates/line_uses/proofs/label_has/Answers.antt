@@ -8,7 +8,7 @@ returns-in-Less c =
     let a = c.args in
     has_less a.labels.now a.tokens.now a.label c.in-Label.l c.in-Label.is c.name_of-other.result.now (c.name_of-other.ensures ∙ ap (name_bytes a.tokens.now) (sym c.in-Label.is)) a.name.now a.standing (sym c.in-Less.ensures)
 
-pub returns-in-More : goal.returns-in-More
-returns-in-More c =
+pub returns-in-Greater : goal.returns-in-Greater
+returns-in-Greater c =
     let a = c.args in
-    has_more a.labels.now a.tokens.now a.label c.in-Label.l c.in-Label.is c.name_of-other.result.now (c.name_of-other.ensures ∙ ap (name_bytes a.tokens.now) (sym c.in-Label.is)) a.name.now a.standing (sym c.in-More.ensures)
+    has_more a.labels.now a.tokens.now a.label c.in-Label.l c.in-Label.is c.name_of-other.result.now (c.name_of-other.ensures ∙ ap (name_bytes a.tokens.now) (sym c.in-Label.is)) a.name.now a.standing (sym c.in-Greater.ensures)

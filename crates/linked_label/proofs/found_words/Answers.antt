@@ -1,13 +1,13 @@
+use Rattle.std.specs.Prelude.{Option, ℕ}
 use Rattle.std.proofs.Common.{sym, ap}
-use Rattle.labels.specs.declared.Address.{Address}
 use Rattle.linked_answer.specs.Words.{low_word}
 use Rattle.linked_label.specs.LinkedLabel.{address_words}
 use Rattle.linked_label.proofs.found_words.Goals as goal
 
-pub returns-in-Known : goal.returns-in-Known
+pub returns-in-Some : goal.returns-in-Some
 unfolding low_word
-returns-in-Known c = sym (ap (λ (a : Address). address_words a c.args.found.compared) c.in-Known.is)
+returns-in-Some c = sym (ap (λ (a : Option ℕ). address_words a c.args.found.compared) c.in-Some.is)
 
-pub returns-in-Unknown : goal.returns-in-Unknown
+pub returns-in-None : goal.returns-in-None
 unfolding low_word
-returns-in-Unknown c = sym (ap (λ (a : Address). address_words a c.args.found.compared) c.in-Unknown.is)
+returns-in-None c = sym (ap (λ (a : Option ℕ). address_words a c.args.found.compared) c.in-None.is)

@@ -7,21 +7,21 @@ use Rattle.macro_text.proofs.put_written.Goals as goal
 use Rattle.macro_text.proofs.put_written.Goals.{In-Written}
 
 -- the fill is within the buffer
-within : (c : In-Written) → c.in-Written.fill ≤ length c.write_out.new.out
+within : (c : In-Written) → c.in-Ok.fill ≤ length c.write_out.new.out
 within c =
     let a = c.args in
-    omega (arith, fill_within a.tokens.now a.macros.now a.written.now c.in-Written.fill (ap (λ (o : WriteOutOutcome). o.answer) c.in-Written.ensures))
+    omega (arith, fill_within a.tokens.now a.macros.now a.written.now c.in-Ok.fill (ap (λ (o : WriteOutOutcome). o.answer) c.in-Ok.ensures))
 
 pub slice_bounds-put_tokens-end : goal.slice_bounds-put_tokens-end
 slice_bounds-put_tokens-end c = within (goal.at.slice_bounds-put_tokens-end c).In-Written
 
-pub slice_bounds-put_tokens-end-in-Written : goal.slice_bounds-put_tokens-end-in-Written
-slice_bounds-put_tokens-end-in-Written c = sym (length-take-le _ _ (within (goal.at.slice_bounds-put_tokens-end-in-Written c).In-Written))
+pub slice_bounds-put_tokens-end-in-Ok : goal.slice_bounds-put_tokens-end-in-Ok
+slice_bounds-put_tokens-end-in-Ok c = sym (length-take-le _ _ (within (goal.at.slice_bounds-put_tokens-end-in-Ok c).In-Written))
 
 pub put_tokens-requires : goal.put_tokens-requires
 put_tokens-requires c =
     let d = c.write_out.new.out in
-    omega (arith, line_length (take c.in-Written.fill d), length-take c.in-Written.fill d, c.requires)
+    omega (arith, line_length (take c.in-Ok.fill d), length-take c.in-Ok.fill d, c.requires)
 
 pub put_refusal-requires : goal.put_refusal-requires
 put_refusal-requires c = omega (arith, refused_most c.numbers.result, c.requires)

@@ -1,12 +1,12 @@
+use Rattle.std.specs.Prelude.{Some}
 use Rattle.std.proofs.Common.{ℕ, ◌≡◌, ◌+◌, get_or, sym, ap, ap₂, ◌∙◌, arith}
-use Rattle.names.specs.declared.Named.TheVariants.{At}
-use Rattle.name_order.specs.declared.Ordered.{Ordered}
 use Rattle.name_index.specs.declared.Standing.{Standing}
 use Rattle.name_index.specs.Index.{middle, standing}
 use Rattle.name_index.proofs.IndexLaws.{named_at}
 use Rattle.name_index.proofs.SearchLaws.{lookup_from_lem, search_end, search_up, search_hit, search_down}
 use Rattle.name_index.proofs.find_from.Goals as goal
 use Rattle.name_index.proofs.find_from.Goals.{After-stands-told}
+use Rattle.std.specs.declared.cmp.Ordering.{Ordering}
 
 pub loop-lo-init : goal.loop-lo-init
 loop-lo-init c = record { within = omega arith; count = omega arith; rest = lookup_from_lem _ _ _ _ _ _ }
@@ -21,7 +21,7 @@ stands-told-requires c = (
 counted : (c : After-stands-told) → c.stands-told.result.compared ≡ c.loop-lo.compared + 1
 counted c = ap (λ (t : Standing). t.compared) c.stands-told.ensures
 
-compared : (c : After-stands-told) (o : Ordered) → c.stands-told.result.ordered ≡ o
+compared : (c : After-stands-told) (o : Ordering) → c.stands-told.result.ordered ≡ o
     → standing c.args.skip c.args.list.now c.args.owner c.args.name.now (get_or c.args.index.now (middle c.loop-lo.lo c.loop-lo.hi) 0) ≡ o
 compared c o e =
     sym (ap (λ (t : Standing). t.ordered) c.stands-told.ensures ∙ ap (standing c.args.skip c.args.list.now c.args.owner c.args.name.now) c.widened-p.ensures) ∙ e
@@ -35,11 +35,11 @@ loop-lo-preserved-in-Less c =
       rest = rw (counted t) (c.loop-lo.invariant.rest ∙ search_up _ c.args.index.now c.loop-lo.lo c.loop-lo.hi c.loop-lo.compared c.loop-lo-test.true (compared t _ c.in-Less.is));
     }
 
-pub returns-in-Same : goal.returns-in-Same
-returns-in-Same c =
-    let t = (goal.at.returns-in-Same c).After-stands-told in
-    ap₂ (λ (p n : ℕ). record { named = At p; compared = n; end = middle c.loop-lo.lo c.loop-lo.hi }) c.widened-p.ensures (counted t)
-    ∙ sym (c.loop-lo.invariant.rest ∙ search_hit _ c.args.index.now c.loop-lo.lo c.loop-lo.hi c.loop-lo.compared c.loop-lo-test.true (compared t _ c.in-Same.is))
+pub returns-in-Equal : goal.returns-in-Equal
+returns-in-Equal c =
+    let t = (goal.at.returns-in-Equal c).After-stands-told in
+    ap₂ (λ (p n : ℕ). record { named = Some p; compared = n; end = middle c.loop-lo.lo c.loop-lo.hi }) c.widened-p.ensures (counted t)
+    ∙ sym (c.loop-lo.invariant.rest ∙ search_hit _ c.args.index.now c.loop-lo.lo c.loop-lo.hi c.loop-lo.compared c.loop-lo-test.true (compared t _ c.in-Equal.is))
 
 pub loop-lo-preserved : goal.loop-lo-preserved
 loop-lo-preserved c =
@@ -47,7 +47,7 @@ loop-lo-preserved c =
     record {
       within = omega arith;
       count = omega (arith, counted t);
-      rest = rw (counted t) (c.loop-lo.invariant.rest ∙ search_down _ c.args.index.now c.loop-lo.lo c.loop-lo.hi c.loop-lo.compared c.loop-lo-test.true (compared t _ c.in-More.is));
+      rest = rw (counted t) (c.loop-lo.invariant.rest ∙ search_down _ c.args.index.now c.loop-lo.lo c.loop-lo.hi c.loop-lo.compared c.loop-lo-test.true (compared t _ c.in-Greater.is));
     }
 
 pub returns : goal.returns

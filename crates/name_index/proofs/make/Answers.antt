@@ -1,6 +1,6 @@
+use Rattle.std.specs.Prelude.{None}
 use Rattle.std.proofs.Common.{ℕ, List, ◌≡◌, ◌≤◌, ◌*◌, length, sym, subst, arith, length-take}
 use Rattle.record.specs.Records.{places, first_bad}
-use Rattle.record.specs.declared.Layout.TheVariants.{Good}
 use Rattle.names.specs.Owners.{has_owned_name}
 use Rattle.names.proofs.OwnersLaws.{owned_is}
 use Rattle.name_sort.specs.Before.{AllNamed}
@@ -9,7 +9,7 @@ use Rattle.name_index.proofs.PlacesLaws.{all_ok}
 use Rattle.name_index.proofs.make.Goals as goal
 
 -- a record has four bytes at least
-few : (skip : ℕ) (list : List ℕ) → first_bad (has_owned_name skip list) (places list) ≡ Good → length (places list) * 4 ≤ length list
+few : (skip : ℕ) (list : List ℕ) → first_bad (has_owned_name skip list) (places list) ≡ None → length (places list) * 4 ≤ length list
 few skip list g = count_at_least 4 list (has_owned_name skip list) (λ p e. ((owned_is skip list p e).whole_at, omega arith)) g
 
 pub sort-requires-clause-a_in_bounds : goal.sort-requires-clause-a_in_bounds

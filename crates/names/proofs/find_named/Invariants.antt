@@ -1,6 +1,6 @@
+use Rattle.std.specs.Prelude.{None}
 use Rattle.std.proofs.Common.{length, ◌-◌, ◌≡◌, ◌≤◌}
 use Rattle.record.proofs.RecordsLaws.{layout_from}
-use Rattle.record.specs.declared.Layout.TheVariants.{Good}
 use Rattle.names.specs.Owners.{has_owned_name, is_owned, first_owned}
 use Rattle.names.proofs.NamesLaws.{where_from}
 use Rattle.names.proofs.find_named.Given as goal
@@ -8,7 +8,7 @@ use Rattle.names.proofs.find_named.Given as goal
 abbrev pub invariant-loop-at : goal.invariant-loop-at
 invariant-loop-at l = record {
   within : l.at ≤ length l.list;
-  named : layout_from (has_owned_name l.skip l.list) l.list l.at ≡ Good;
+  named : layout_from (has_owned_name l.skip l.list) l.list l.at ≡ None;
   first : first_owned l.skip l.list l.owner l.name ≡ where_from (is_owned l.skip l.list l.owner l.name) l.list l.at;
 }
 

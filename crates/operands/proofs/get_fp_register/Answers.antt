@@ -1,11 +1,12 @@
 -- The register is made of the token that was read.
-use Rattle.cursor.specs.declared.Seen.{Seen}
+use Rattle.std.specs.Prelude.{Option}
 use Rattle.operand.specs.declared.Want.TheVariants.{FPRegister}
 use Rattle.operand.specs.Answers.{answer_of}
 use Rattle.operands.specs.Operands.{fp_register_seen, get_fp_register}
 use Rattle.operands.proofs.OperandsLaws.{read_made}
 use Rattle.operands.proofs.get_fp_register.Goals as goal
+use Rattle.lexer.specs.declared.Token.{Token}
 
 pub returns : goal.returns
 unfolding get_fp_register
-returns c = read_made c.next_adjacent-read.ensures (λ (s : Seen). answer_of FPRegister (fp_register_seen s)) _ c.fp_register_seen-answer.ensures
+returns c = read_made c.next_adjacent-read.ensures (λ (s : Option Token). answer_of FPRegister (fp_register_seen s)) _ c.fp_register_seen-answer.ensures

@@ -5,17 +5,17 @@ use Rattle.page_core.proofs.ChecksLaws.{page_long, page_within, layouts_are}
 use Rattle.page_core.proofs.check_layouts.Goals as goal
 
 pub overflow_cast-result : goal.overflow_cast-result
-overflow_cast-result c = omega (arith, label_place_lem _ _ (sym c.first_bad_label.ensures ∙ c.in-Bad.is))
+overflow_cast-result c = omega (arith, label_place_lem _ _ (sym c.first_bad_label.ensures ∙ c.in-Some.is))
 
-pub returns-in-Bad : goal.returns-in-Bad
-returns-in-Bad c = sym (layouts_are _ _ _ _ _ _ (sym c.first_bad_label.ensures ∙ c.in-Bad.is) refl refl)
+pub returns-in-Some : goal.returns-in-Some
+returns-in-Some c = sym (layouts_are _ _ _ _ _ _ (sym c.first_bad_label.ensures ∙ c.in-Some.is) refl refl)
 
-pub overflow_cast-result-in-Bad-first_bad_region : goal.overflow_cast-result-in-Bad-first_bad_region
-overflow_cast-result-in-Bad-first_bad_region c = omega (arith, region_place_lem _ _ (sym c.first_bad_region.ensures ∙ c.in-Bad-first_bad_region.is))
+pub overflow_cast-result-in-Some-first_bad_region : goal.overflow_cast-result-in-Some-first_bad_region
+overflow_cast-result-in-Some-first_bad_region c = omega (arith, region_place_lem _ _ (sym c.first_bad_region.ensures ∙ c.in-Some-first_bad_region.is))
 
-pub returns-in-Bad-first_bad_region : goal.returns-in-Bad-first_bad_region
-returns-in-Bad-first_bad_region c =
-    sym (layouts_are _ _ _ _ _ _ (sym c.first_bad_label.ensures ∙ c.in_default.is) (sym c.first_bad_region.ensures ∙ c.in-Bad-first_bad_region.is) refl)
+pub returns-in-Some-first_bad_region : goal.returns-in-Some-first_bad_region
+returns-in-Some-first_bad_region c =
+    sym (layouts_are _ _ _ _ _ _ (sym c.first_bad_label.ensures ∙ c.in_default.is) (sym c.first_bad_region.ensures ∙ c.in-Some-first_bad_region.is) refl)
 
 pub returns-then-page-gt-LIMIT : goal.returns-then-page-gt-LIMIT
 returns-then-page-gt-LIMIT c =

@@ -5,8 +5,8 @@ use Rattle.page_core.proofs.ChecksLaws.{labels_few}
 use Rattle.page_core.proofs.OutcomeLaws.{layout_stops, lists_good}
 use Rattle.page_core.proofs.lay_out.Goals as goal
 
-pub returns-in-Stop : goal.returns-in-Stop
-returns-in-Stop c = layout_stops c.args.labels.now c.args.regions.now c.args.page.now _ (sym c.check_layouts.ensures ∙ c.in-Stop.is)
+pub returns-in-Err : goal.returns-in-Err
+returns-in-Err c = layout_stops c.args.labels.now c.args.regions.now c.args.page.now _ (sym c.check_layouts.ensures ∙ c.in-Err.is)
 
 pub lay_out_in-requires-clause-labels_in_bounds : goal.lay_out_in-requires-clause-labels_in_bounds
 lay_out_in-requires-clause-labels_in_bounds c =

@@ -1,9 +1,9 @@
+use Rattle.std.specs.Prelude.{Ok}
 use Rattle.std.proofs.Common.{◌≡◌, ℕ, List, length, sym, ◌∙◌, ap₂, arith}
 use Rattle.labels.proofs.LabelsLaws.{labels_within, labels_named, repeat_place}
 use Rattle.page_outcome.specs.Page.{page_of}
 use Rattle.page_outcome.proofs.Length.{page_length, page_most}
 use Rattle.page_outcome.specs.Outcome.{PageOutcome}
-use Rattle.page_outcome.specs.declared.LaidOut.TheVariants.{Length}
 use Rattle.page_core.proofs.OutcomeLaws.{lists_good, name_stops, room_stops, all_pass}
 use Rattle.page_core.proofs.lay_out_in.Goals as goal
 
@@ -19,10 +19,10 @@ first_repeat-requires-clause-labels_value c = (lists_good _ _ _ c.requires.page_
 
 pub overflow_cast-result : goal.overflow_cast-result
 overflow_cast-result c =
-    omega (arith, repeat_place c.args.labels.now _ (lists_good _ _ _ c.requires.page_value).0 (sym c.first_repeat.ensures ∙ c.in-Later.is))
+    omega (arith, repeat_place c.args.labels.now _ (lists_good _ _ _ c.requires.page_value).0 (sym c.first_repeat.ensures ∙ c.in-Some.is))
 
-pub returns-in-Later : goal.returns-in-Later
-returns-in-Later c = name_stops _ _ _ c.requires.page_value _ (sym c.first_repeat.ensures ∙ c.in-Later.is)
+pub returns-in-Some : goal.returns-in-Some
+returns-in-Some c = name_stops _ _ _ c.requires.page_value _ (sym c.first_repeat.ensures ∙ c.in-Some.is)
 
 pub count_lines-requires : goal.count_lines-requires
 count_lines-requires c = (lists_good _ _ _ c.requires.page_value).1
@@ -46,7 +46,7 @@ pub returns : goal.returns
 returns c =
     let a = c.args in
     let e : c.put_page.result ≡ length (page_of a.labels.now a.regions.now) = omega (arith, c.put_page.ensures.ends) in
-    let o : ℕ → List ℕ → PageOutcome = λ n bytes. record { answer = Length n; page = bytes } in
+    let o : ℕ → List ℕ → PageOutcome = λ n bytes. record { answer = Ok n; page = bytes } in
     all_pass a.labels.now a.regions.now a.page.now c.requires.page_value (sym c.first_repeat.ensures ∙ c.in_default.is)
     (omega (arith, c.if-page-count_lines.false, c.count_lines.ensures.0))
     ∙ sym (ap₂ o e c.put_page.ensures.bytes)

@@ -1,5 +1,5 @@
+use Rattle.std.specs.Prelude.{Option, ℕ}
 use Rattle.std.proofs.Common.{◌≡◌, ◌+◌, ◌-◌, ap, ◌∙◌, arith}
-use Rattle.labels.specs.declared.Address.{Address}
 use Rattle.patch.specs.Patches.{wrap32, plus_offset}
 use Rattle.patch.proofs.PatchesLaws.{destination_constant, destination_label}
 use Rattle.patch.proofs.get_address.Goals as goal
@@ -11,4 +11,4 @@ pub returns-in-Label : goal.returns-in-Label
 returns-in-Label c =
     let name = c.in-Label.name in
     let e : name.name_at + name.name_len - name.name_at ≡ name.name_len = omega arith in
-    rw (c.in-Label.is, destination_label, ← e) (c.plus_offset.ensures ∙ ap (λ (a : Address). plus_offset a (wrap32 name.offset)) c.get-found.ensures.0)
+    rw (c.in-Label.is, destination_label, ← e) (c.plus_offset.ensures ∙ ap (λ (a : Option ℕ). plus_offset a (wrap32 name.offset)) c.get-found.ensures.0)

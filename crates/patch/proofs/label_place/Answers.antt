@@ -23,7 +23,7 @@ overflow_cast-result c =
     let e = scanned a.labels.now a.index.now a.list.now name.location.source name.name_at name.name_len c.look_up-looked.result c.requires.indexed c.look_up-looked.ensures in
     omega (
       arith,
-      found_within a.labels.now a.list.now c.requires.indexed.layout _ _ c.in-At.place (sym e ∙ c.in-At.is),
+      found_within a.labels.now a.list.now c.requires.indexed.layout _ _ c.in-Some.place (sym e ∙ c.in-Some.is),
       labels_within a.labels.now c.requires.indexed.layout,
     )
 
@@ -31,18 +31,18 @@ pub returns-in-Constant : goal.returns-in-Constant
 unfolding label_place
 returns-in-Constant c = rw c.in-Constant.is
 
-pub returns-in-At : goal.returns-in-At
+pub returns-in-Some : goal.returns-in-Some
 unfolding label_place
-returns-in-At c =
+returns-in-Some c =
     let a = c.args in
     let name = c.in-Label.name in
     let e = scanned a.labels.now a.index.now a.list.now name.location.source name.name_at name.name_len c.look_up-looked.result c.requires.indexed c.look_up-looked.ensures in
-    rw c.in-Label.is (ap place_of (sym c.in-At.is ∙ e))
+    rw c.in-Label.is (ap place_of (sym c.in-Some.is ∙ e))
 
-pub returns-in-Missing : goal.returns-in-Missing
+pub returns-in-None : goal.returns-in-None
 unfolding label_place
-returns-in-Missing c =
+returns-in-None c =
     let a = c.args in
     let name = c.in-Label.name in
     let e = scanned a.labels.now a.index.now a.list.now name.location.source name.name_at name.name_len c.look_up-looked.result c.requires.indexed c.look_up-looked.ensures in
-    rw c.in-Label.is (ap place_of (sym c.in-Missing.is ∙ e))
+    rw c.in-Label.is (ap place_of (sym c.in-None.is ∙ e))

@@ -1,5 +1,5 @@
+use Rattle.std.specs.Prelude.{None}
 use Rattle.std.proofs.Common.{◌≡◌, ℕ, ◌<◌, List, length, ap, sym, ◌∙◌, arith, rules}
-use Rattle.record.specs.declared.Layout.TheVariants.{Good}
 use Rattle.record.specs.Records.{places, first_bad}
 use Rattle.record.proofs.RecordsLaws.{layout_from, places_all, places_step, places_end, good_ok, good_next}
 use Rattle.pending.specs.Pendings.{pending_ok, pending_layout, PendingIs}
@@ -9,7 +9,7 @@ use Rattle.binary_builder.proofs.OrderLaws.{pendings_few}
 use Rattle.patching_checks.proofs.count_pendings.Goals as goal
 
 -- in a turn the record at `at` is a pending
-turn : (s : List ℕ) (at : ℕ) → PendingList s → at < length s → ((n : _) → pending_layout n s ≡ Good → layout_from (pending_ok n s) s at ≡ Good) → PendingIs s at
+turn : (s : List ℕ) (at : ℕ) → PendingList s → at < length s → ((n : _) → pending_layout n s ≡ None → layout_from (pending_ok n s) s at ≡ None) → PendingIs s at
 turn s at l h k = pending_is l.regions s at (good_ok (pending_ok l.regions s) s at h (k l.regions l.kept))
 
 pub loop-at-init : goal.loop-at-init

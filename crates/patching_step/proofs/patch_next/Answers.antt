@@ -1,11 +1,9 @@
+use Rattle.std.specs.Prelude.{Ok, Option}
 use Rattle.std.proofs.Common.{◌≡◌, ℕ, ◌+◌, ◌-◌, ◌*◌, ◌<◌, ◌≤◌, List, length, get_or, take, drop, ap, ◌∙◌, arith, rules, length-take}
 use Rattle.std.proofs.Math.Seq.{length-take-le}
 use Rattle.jobs.specs.declared.Job.{Job}
 use Rattle.record.specs.Stores.{append}
-use Rattle.refusal.specs.declared.Verdict.{Verdict}
-use Rattle.refusal.specs.declared.Verdict.TheVariants.{Pass}
 use Rattle.labels.specs.Labels.{Table, table_of}
-use Rattle.labels.specs.declared.Address.{Address}
 use Rattle.regions.specs.declared.Region.{Region}
 use Rattle.pending.specs.Pendings.{pending_at}
 use Rattle.pending.specs.declared.Pending.{Pending}
@@ -16,15 +14,16 @@ use Rattle.patching_outcome.specs.declared.PatchCounts.{PatchCounts}
 use Rattle.patching_step.specs.Steps.{filled_regions, filled_pendings, StepLists, InOrder}
 use Rattle.patching_step.proofs.NextLaws.{order_short, patch_at, patches_at, next_inside, next_stops, next_passes}
 use Rattle.patching_step.proofs.patch_next.Goals as goal
+use Rattle.refusal.specs.Verdicts.{Verdict}
 
 four : (m : ℕ) → m + 4 - m ≡ 4
 four m = omega arith
 
 -- what passes ends within the list, and there is room for its word
-passed : (job : Job) (labels : Table) {regions pending kept order : List ℕ} {counts : PatchCounts} {at : ℕ} {q : Pending} {g : Region} {address : Address} {v : Verdict}
+passed : (job : Job) (labels : Table) {regions pending kept order : List ℕ} {counts : PatchCounts} {at : ℕ} {q : Pending} {g : Region} {address : (Option ℕ)} {v : Verdict}
     → StepLists regions pending kept counts → InOrder regions pending counts order → counts.patches < length order → at ≡ get_or order counts.patches 0
     → q ≡ pending_at (filled_pendings pending counts) at → g ≡ region_for (filled_regions regions counts) q → address ≡ destination labels (filled_pendings pending counts) q.label
-    → v ≡ patch_stop job g q address → v ≡ Pass
+    → v ≡ patch_stop job g q address → v ≡ Ok tt
     → (g.start + q.offset + 4 ≤ counts.regions) × (counts.regions ≤ length regions) × (4 * counts.patches + 4 ≤ length kept) × (counts.patches < most_pendings)
 passed job labels {regions} {pending} {kept} {order} {counts} {at} {q} {g} {address} {v} lists in_order h at_is q-is g-is a-is v-is pass =
     let s = order_short regions pending kept counts lists order in_order in
@@ -53,21 +52,21 @@ overflow_add-slot c =
     omega (
       arith,
       passed c.args.job (table_of c.args.labels.now) c.requires.indexed.1 c.requires.in_order.0 c.requires.in_order.1 c.widened.ensures c.read_pending-patch.ensures c.region_at-region.ensures
-          c.get_address-address.ensures c.check_pending.ensures c.in-Pass.is,
+          c.get_address-address.ensures c.check_pending.ensures c.in-Ok.is,
     )
 
-pub overflow_add-slot-in-Pass : goal.overflow_add-slot-in-Pass
-overflow_add-slot-in-Pass c =
+pub overflow_add-slot-in-Ok : goal.overflow_add-slot-in-Ok
+overflow_add-slot-in-Ok c =
     omega (
       arith,
       passed c.args.job (table_of c.args.labels.now) c.requires.indexed.1 c.requires.in_order.0 c.requires.in_order.1 c.widened.ensures c.read_pending-patch.ensures c.region_at-region.ensures
-          c.get_address-address.ensures c.check_pending.ensures c.in-Pass.is,
+          c.get_address-address.ensures c.check_pending.ensures c.in-Ok.is,
     )
 
 pub slice_bounds-put_all-end : goal.slice_bounds-put_all-end
 slice_bounds-put_all-end c =
     let p = passed c.args.job (table_of c.args.labels.now) c.requires.indexed.1 c.requires.in_order.0 c.requires.in_order.1 c.widened.ensures c.read_pending-patch.ensures c.region_at-region.ensures
-    c.get_address-address.ensures c.check_pending.ensures c.in-Pass.is in
+    c.get_address-address.ensures c.check_pending.ensures c.in-Ok.is in
     search rules
 
 pub put_all-requires : goal.put_all-requires
@@ -75,7 +74,7 @@ put_all-requires c =
     omega (
       arith,
       passed c.args.job (table_of c.args.labels.now) c.requires.indexed.1 c.requires.in_order.0 c.requires.in_order.1 c.widened.ensures c.read_pending-patch.ensures c.region_at-region.ensures
-          c.get_address-address.ensures c.check_pending.ensures c.in-Pass.is,
+          c.get_address-address.ensures c.check_pending.ensures c.in-Ok.is,
       length-take {A = ℕ},
     )
 
@@ -84,7 +83,7 @@ write_pending-requires c =
     omega (
       arith,
       passed c.args.job (table_of c.args.labels.now) c.requires.indexed.1 c.requires.in_order.0 c.requires.in_order.1 c.widened.ensures c.read_pending-patch.ensures c.region_at-region.ensures
-          c.get_address-address.ensures c.check_pending.ensures c.in-Pass.is,
+          c.get_address-address.ensures c.check_pending.ensures c.in-Ok.is,
     )
 
 pub overflow_add-result : goal.overflow_add-result
@@ -92,7 +91,7 @@ overflow_add-result c =
     omega (
       arith,
       passed c.args.job (table_of c.args.labels.now) c.requires.indexed.1 c.requires.in_order.0 c.requires.in_order.1 c.widened.ensures c.read_pending-patch.ensures c.region_at-region.ensures
-          c.get_address-address.ensures c.check_pending.ensures c.in-Pass.is,
+          c.get_address-address.ensures c.check_pending.ensures c.in-Ok.is,
     )
 
 pub overflow_add-counts : goal.overflow_add-counts
@@ -100,22 +99,22 @@ overflow_add-counts c =
     omega (
       arith,
       passed c.args.job (table_of c.args.labels.now) c.requires.indexed.1 c.requires.in_order.0 c.requires.in_order.1 c.widened.ensures c.read_pending-patch.ensures c.region_at-region.ensures
-          c.get_address-address.ensures c.check_pending.ensures c.in-Pass.is,
+          c.get_address-address.ensures c.check_pending.ensures c.in-Ok.is,
     )
 
-pub returns-in-Stop : goal.returns-in-Stop
-returns-in-Stop c =
+pub returns-in-Err : goal.returns-in-Err
+returns-in-Err c =
     let a = c.args in
     let read = c.read_pending-patch.ensures ∙ ap (pending_at (filled_pendings a.pending.now a.counts)) c.widened.ensures in
     next_stops a.job (table_of a.labels.now) a.regions.now a.pending.now a.kept.now a.counts (get_or a.order.now a.counts.patches 0) c.read_pending-patch.result
     c.region_at-region.result c.get_address-address.result read c.region_at-region.ensures c.get_address-address.ensures a.order.now c.requires.in_order.0 _
-    c.check_pending.result c.check_pending.ensures c.in-Stop.is _ c.put_back.ensures _ c.now_at.ensures
+    c.check_pending.result c.check_pending.ensures c.in-Err.is _ c.put_back.ensures _ c.now_at.ensures
 
-pub returns-in-Pass : goal.returns-in-Pass
-returns-in-Pass c =
+pub returns-in-Ok : goal.returns-in-Ok
+returns-in-Ok c =
     let a = c.args in
     let read = c.read_pending-patch.ensures ∙ ap (pending_at (filled_pendings a.pending.now a.counts)) c.widened.ensures in
     let i = c.region_at-region.result.start + c.read_pending-patch.result.offset in
     next_passes a.job (table_of a.labels.now) a.regions.now a.pending.now a.kept.now a.counts (get_or a.order.now a.counts.patches 0) c.read_pending-patch.result
     c.region_at-region.result c.get_address-address.result read c.region_at-region.ensures c.get_address-address.ensures c.check_pending.result c.check_pending.ensures
-    c.in-Pass.is _ c.write_pending.ensures _ (c.put_all.ensures ∙ ap (λ (m : ℕ). append a.kept.now (4 * a.counts.patches) (take m (drop i a.regions.now))) (four i)) _ c.now_at-in-Pass.ensures
+    c.in-Ok.is _ c.write_pending.ensures _ (c.put_all.ensures ∙ ap (λ (m : ℕ). append a.kept.now (4 * a.counts.patches) (take m (drop i a.regions.now))) (four i)) _ c.now_at-in-Ok.ensures

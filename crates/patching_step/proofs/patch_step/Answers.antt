@@ -1,17 +1,17 @@
+use Rattle.std.specs.Prelude.{Err, Ok}
 use Rattle.std.proofs.Common.{ℕ, [], refl, sym, ap, ◌∙◌, arith, length-take}
 use Rattle.refusal.specs.Verdicts.{name_verdict}
-use Rattle.refusal.specs.declared.Verdict.TheVariants.{Pass, Stop}
 use Rattle.labels.specs.Labels.{table_of}
 use Rattle.labels.proofs.LabelsLaws.{repeat_place}
 use Rattle.patching_step.proofs.StepLaws.{lists_pass, checks_are, step_refuses}
 use Rattle.patching_step.proofs.patch_step.Goals as goal
 
-pub returns-in-Stop : goal.returns-in-Stop
-returns-in-Stop c =
+pub returns-in-Err : goal.returns-in-Err
+returns-in-Err c =
     let a = c.args in
     let t = table_of a.labels.now in
     step_refuses t a.entry.now a.regions.now a.pending.now a.kept.now a.counts a.job _
-    (checks_are t a.entry.now a.regions.now a.pending.now a.kept.now a.counts (Stop _) _ _ (λ b. c.check_layouts.ensures b ∙ c.in-Stop.is) refl refl)
+    (checks_are t a.entry.now a.regions.now a.pending.now a.kept.now a.counts (Err _) _ _ (λ b. c.check_layouts.ensures b ∙ c.in-Err.is) refl refl)
 
 pub make_index-n-requires-clause-labels_value : goal.make_index-n-requires-clause-labels_value
 make_index-n-requires-clause-labels_value c = (lists_pass _ _ _ _ _ _ [] (c.check_layouts.ensures [] ∙ c.in_default.is)).labels_good
@@ -21,15 +21,15 @@ first_repeat-requires-clause-labels_value c = (lists_pass _ _ _ _ _ _ [] (c.chec
 
 pub overflow_cast-result : goal.overflow_cast-result
 overflow_cast-result c =
-    omega (arith, repeat_place _ _ (lists_pass _ _ _ _ _ _ [] (c.check_layouts.ensures [] ∙ c.in_default.is)).labels_good (sym c.first_repeat.ensures ∙ c.in-Later.is))
+    omega (arith, repeat_place _ _ (lists_pass _ _ _ _ _ _ [] (c.check_layouts.ensures [] ∙ c.in_default.is)).labels_good (sym c.first_repeat.ensures ∙ c.in-Some.is))
 
-pub returns-in-Later : goal.returns-in-Later
-returns-in-Later c =
+pub returns-in-Some : goal.returns-in-Some
+returns-in-Some c =
     let a = c.args in
     let t = table_of a.labels.now in
     step_refuses t a.entry.now a.regions.now a.pending.now a.kept.now a.counts a.job _
-    (checks_are t a.entry.now a.regions.now a.pending.now a.kept.now a.counts Pass (Stop _) _ (λ b. c.check_layouts.ensures b ∙ c.in_default.is)
-    (ap (name_verdict 0) (sym c.first_repeat.ensures ∙ c.in-Later.is)) refl)
+    (checks_are t a.entry.now a.regions.now a.pending.now a.kept.now a.counts (Ok tt) (Err _) _ (λ b. c.check_layouts.ensures b ∙ c.in_default.is)
+    (ap (name_verdict 0) (sym c.first_repeat.ensures ∙ c.in-Some.is)) refl)
 
 pub step_indexed-requires-clause-indexed : goal.step_indexed-requires-clause-indexed
 step_indexed-requires-clause-indexed c =

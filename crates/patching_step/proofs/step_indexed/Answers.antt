@@ -1,8 +1,8 @@
+use Rattle.std.specs.Prelude.{Err, Ok}
 use Rattle.std.proofs.Common.{ℕ, ◌≤◌, List, sym, ap, ◌∙◌, arith, length-take}
 use Rattle.std.proofs.lemmas.List.{length-replicate}
 use Rattle.record.specs.Records.{places}
 use Rattle.refusal.specs.Verdicts.{name_verdict}
-use Rattle.refusal.specs.declared.Verdict.TheVariants.{Pass, Stop}
 use Rattle.labels.specs.Labels.{table_of}
 use Rattle.regions.specs.Regions.{region_count}
 use Rattle.regions.proofs.RegionsLaws.{region_good}
@@ -51,28 +51,28 @@ pub stopped_step-answer-requires-clause-indexed : goal.stopped_step-answer-requi
 stopped_step-answer-requires-clause-indexed c =
     (c.requires.indexed.0, c.requires.indexed.1.lists, (ordered c.requires.indexed.1.lists c.order_patches-n.result c.order_patches-n.new.order c.order_patches-n.ensures).places_are)
 
-pub returns-in-Refused : goal.returns-in-Refused
-returns-in-Refused c =
+pub returns-in-Err : goal.returns-in-Err
+returns-in-Err c =
     let a = c.args in
     let t = table_of a.labels.now in
-    let e = entry_stops t a.entry.now (entry_of a.entry.now (places a.entry.now)) _ (sym c.find_entry.ensures ∙ c.in-Refused.is) in
+    let e = entry_stops t a.entry.now (entry_of a.entry.now (places a.entry.now)) _ (sym c.find_entry.ensures ∙ c.in-Err.is) in
     step_refuses t a.entry.now a.regions.now a.pending.now a.kept.now a.counts a.job _
-    (checks_are t a.entry.now a.regions.now a.pending.now a.kept.now a.counts Pass Pass (Stop _) c.requires.layouts_are (ap (name_verdict 0) c.requires.indexed.0.distinct) e)
+    (checks_are t a.entry.now a.regions.now a.pending.now a.kept.now a.counts (Ok tt) (Ok tt) (Err _) c.requires.layouts_are (ap (name_verdict 0) c.requires.indexed.0.distinct) e)
 
 pub returns-then-counts-eq0 : goal.returns-then-counts-eq0
 returns-then-counts-eq0 c =
     let a = c.args in
     let t = table_of a.labels.now in
-    let e = entry_passes t a.entry.now (entry_of a.entry.now (places a.entry.now)) _ (sym c.find_entry.ensures ∙ c.in-Entry.is) in
+    let e = entry_passes t a.entry.now (entry_of a.entry.now (places a.entry.now)) _ (sym c.find_entry.ensures ∙ c.in-Ok.is) in
     step_runs t a.entry.now a.regions.now a.pending.now a.kept.now a.counts a.job
-    (checks_are t a.entry.now a.regions.now a.pending.now a.kept.now a.counts Pass Pass Pass c.requires.layouts_are (ap (name_verdict 0) c.requires.indexed.0.distinct) e.0)
+    (checks_are t a.entry.now a.regions.now a.pending.now a.kept.now a.counts (Ok tt) (Ok tt) (Ok tt) c.requires.layouts_are (ap (name_verdict 0) c.requires.indexed.0.distinct) e.0)
     _ e.1 c.if-counts-eq0.true _ _ _ _ c.running_step.ensures
 
 pub returns-else-counts-eq0 : goal.returns-else-counts-eq0
 returns-else-counts-eq0 c =
     let a = c.args in
     let t = table_of a.labels.now in
-    let e = entry_passes t a.entry.now (entry_of a.entry.now (places a.entry.now)) _ (sym c.find_entry.ensures ∙ c.in-Entry.is) in
+    let e = entry_passes t a.entry.now (entry_of a.entry.now (places a.entry.now)) _ (sym c.find_entry.ensures ∙ c.in-Ok.is) in
     step_stopped t a.entry.now a.regions.now a.pending.now a.kept.now a.counts a.job
-    (checks_are t a.entry.now a.regions.now a.pending.now a.kept.now a.counts Pass Pass Pass c.requires.layouts_are (ap (name_verdict 0) c.requires.indexed.0.distinct) e.0)
+    (checks_are t a.entry.now a.regions.now a.pending.now a.kept.now a.counts (Ok tt) (Ok tt) (Ok tt) c.requires.layouts_are (ap (name_verdict 0) c.requires.indexed.0.distinct) e.0)
     _ e.1 c.if-counts-eq0.false _ c.stopped_step-answer.ensures

@@ -9,12 +9,12 @@ use Rattle.patching_text.proofs.patch_steps.Goals as goal
 byte_is : (rest s : List ℕ) (b : ℕ) → rest ≡ behind_lists 6 s → b ≡ byte_at rest 12 → job_numbered b ≡ job_numbered (byte_at (behind_lists 6 s) 12)
 byte_is rest s b r e = ap job_numbered (e ∙ ap (λ (l : List ℕ). byte_at l 12) r)
 
-pub returns-in-Of : goal.returns-in-Of
+pub returns-in-Some : goal.returns-in-Some
 unfolding steps_text
-returns-in-Of c =
-    rw (← (c.in-Of.ensures ∙ byte_is _ c.args.input.now _ c.behind_lists-numbers.ensures c.byte_or_zero.ensures)) c.put_job.ensures
+returns-in-Some c =
+    rw (← (c.in-Some.ensures ∙ byte_is _ c.args.input.now _ c.behind_lists-numbers.ensures c.byte_or_zero.ensures)) c.put_job.ensures
 
-pub returns-in-NoSuch : goal.returns-in-NoSuch
+pub returns-in-None : goal.returns-in-None
 unfolding steps_text
-returns-in-NoSuch c =
-    rw (← (c.in-NoSuch.ensures ∙ byte_is _ c.args.input.now _ c.behind_lists-numbers.ensures c.byte_or_zero.ensures)) c.put_text.ensures
+returns-in-None c =
+    rw (← (c.in-None.ensures ∙ byte_is _ c.args.input.now _ c.behind_lists-numbers.ensures c.byte_or_zero.ensures)) c.put_text.ensures

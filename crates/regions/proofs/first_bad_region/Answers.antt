@@ -1,5 +1,5 @@
+use Rattle.std.specs.Prelude.{Option}
 use Rattle.std.proofs.Common.{ℕ, suc, ◌-◌, List, true, ◌≡◌, sym, ap, ◌∙◌, arith}
-use Rattle.record.specs.declared.Layout.{Layout}
 use Rattle.record.specs.Records.{places_from, first_bad_of}
 use Rattle.record.proofs.RecordsLaws.{of_end, of_past, of_bad, of_next}
 use Rattle.regions.specs.Regions.{region_ok}
@@ -7,7 +7,7 @@ use Rattle.regions.proofs.RegionsLaws.{region_is, layout_long, layout_none, layo
 use Rattle.regions.proofs.first_bad_region.Goals as goal
 
 -- the layout of the records from `at` on, where at most n may stand
-abbrev rest : List ℕ → ℕ → ℕ → Layout
+abbrev rest : List ℕ → ℕ → ℕ → Option ℕ
 rest s at n = first_bad_of n (region_ok s) (places_from s at)
 
 pub returns-then-regions-gt-LIMIT : goal.returns-then-regions-gt-LIMIT

@@ -1,12 +1,12 @@
+use Rattle.std.specs.Prelude.{None}
 use Rattle.std.proofs.Common.{ℕ, ◌≤◌, ◌<◌, ◌≡◌, List, ap, sym, ◌∙◌, arith}
-use Rattle.record.specs.declared.Layout.TheVariants.{Good}
 use Rattle.record.specs.Records.{next}
 use Rattle.regions.specs.Regions.{region_layout, region_count, region_place, region_at}
 use Rattle.regions.proofs.RegionsLaws.{RegionIs, region_is, region_place_ok, place_first, place_after}
 use Rattle.regions.proofs.region_at.Goals as goal
 
 -- the record at `at` is a region
-region : (s : List ℕ) (n number at : ℕ) → region_layout s ≡ Good → number < region_count s → (n ≤ number) × (at ≡ region_place s n) → RegionIs s at
+region : (s : List ℕ) (n number at : ℕ) → region_layout s ≡ None → number < region_count s → (n ≤ number) × (at ≡ region_place s n) → RegionIs s at
 region s n number at g h i = rw i.1 (region_is s (region_place s n) (region_place_ok s n g (omega arith)))
 
 pub loop-n-init : goal.loop-n-init

@@ -1,5 +1,5 @@
+use Rattle.std.specs.Prelude.{None}
 use Rattle.std.proofs.Common.{length, ◌+◌, ◌-◌, ◌≡◌, ◌≤◌}
-use Rattle.record.specs.declared.Layout.TheVariants.{Good}
 use Rattle.record.specs.Records.{places_from}
 use Rattle.record.proofs.RecordsLaws.{layout_from}
 use Rattle.regions.specs.Regions.{region_ok, region_count}
@@ -9,7 +9,7 @@ use Rattle.regions.proofs.region_count.Given as goal
 abbrev pub invariant-loop-at : goal.invariant-loop-at
 invariant-loop-at l =
     (l.at ≤ length l.regions)
-    × (layout_from (region_ok l.regions) l.regions l.at ≡ Good)
+    × (layout_from (region_ok l.regions) l.regions l.at ≡ None)
     × (l.count + length (places_from l.regions l.at) ≡ region_count l.regions)
 
 abbrev pub decreases-loop-at : goal.decreases-loop-at

@@ -1,9 +1,9 @@
+use Rattle.std.specs.Prelude.{Err}
 use Rattle.std.proofs.Common.{◌≡◌, ℕ, ◌+◌, ◌≤◌, Bool, true, length, refl, sym, ap, ap₂, subst, ◌∙◌, arith}
 use Rattle.record.specs.Stores.{append}
 use Rattle.record.specs.declared.Location.{Location}
 use Rattle.refusal.specs.declared.Refusal.TheVariants.{BadByte, BadToken, NoTokenSpace}
 use Rattle.token_bytes.specs.TokenBytes.{carried_by, carried_size, token_bytes}
-use Rattle.text_reader.specs.declared.TextRead.TheVariants.{Refused}
 use Rattle.text_reader.proofs.FitLaws.{Stands, stands_small}
 use Rattle.text_reader.specs.Reading.{location_of}
 use Rattle.text_reader.proofs.OutcomeLaws.{blank_stands, record_size, answer_at, answer_end, answer_blank, answer_byte, answer_bad, answer_token, answer_short, stands}
@@ -66,7 +66,7 @@ returns-then-room-end c =
     let a = c.args in
     let s = answer_short a.source a.text.now l.at _ c.loop-at-test.true c.piece_at.ensures _ _ c.in-Token.is (length l.tokens) l.fill
     (omega (arith, c.record_size.ensures, l.invariant.3)) in (
-      ap (λ (x : Location). Refused (NoTokenSpace x)) c.location_of.ensures ∙ sym (l.invariant.4 ∙ s),
+      ap (λ (x : Location). Err (NoTokenSpace x)) c.location_of.ensures ∙ sym (l.invariant.4 ∙ s),
       going_fault a.source a.text.now a.tokens.now l.tokens l.at l.fill a.writes _ s l.invariant.5,
     )
 
@@ -138,7 +138,7 @@ returns-in-BadByte c =
     let l = c.loop-at in
     let a = c.args in
     let s = answer_byte a.source a.text.now l.at _ c.loop-at-test.true c.in-BadByte.ensures refl (length l.tokens) l.fill in (
-      ap (λ (x : Location). Refused (BadByte x)) c.location_of-in-BadByte.ensures ∙ sym (l.invariant.4 ∙ s),
+      ap (λ (x : Location). Err (BadByte x)) c.location_of-in-BadByte.ensures ∙ sym (l.invariant.4 ∙ s),
       going_fault a.source a.text.now a.tokens.now l.tokens l.at l.fill a.writes _ s l.invariant.5,
     )
 
@@ -147,7 +147,7 @@ returns-in-BadToken c =
     let l = c.loop-at in
     let a = c.args in
     let s = answer_bad a.source a.text.now l.at _ c.loop-at-test.true c.in-BadToken.ensures refl (length l.tokens) l.fill in (
-      ap (λ (x : Location). Refused (BadToken x)) c.location_of-in-BadToken.ensures ∙ sym (l.invariant.4 ∙ s),
+      ap (λ (x : Location). Err (BadToken x)) c.location_of-in-BadToken.ensures ∙ sym (l.invariant.4 ∙ s),
       going_fault a.source a.text.now a.tokens.now l.tokens l.at l.fill a.writes _ s l.invariant.5,
     )
 

@@ -8,21 +8,21 @@ use Rattle.token_text.proofs.put_read.Goals.{In-Read}
 use Rattle.std.specs.Prelude.{◌≤◌, length}
 
 -- the fill is within the buffer
-within : (c : In-Read) → c.in-Read.fill ≤ length c.read_text.new.tokens
+within : (c : In-Read) → c.in-Ok.fill ≤ length c.read_text.new.tokens
 within c =
     let a = c.args in
-    omega (arith, fill_within a.text.now a.source a.tokens.now c.in-Read.fill (ap (λ (o : TextOutcome). o.answer) c.in-Read.ensures))
+    omega (arith, fill_within a.text.now a.source a.tokens.now c.in-Ok.fill (ap (λ (o : TextOutcome). o.answer) c.in-Ok.ensures))
 
 pub slice_bounds-put_tokens-end : goal.slice_bounds-put_tokens-end
 slice_bounds-put_tokens-end c = within (goal.at.slice_bounds-put_tokens-end c).In-Read
 
-pub slice_bounds-put_tokens-end-in-Read : goal.slice_bounds-put_tokens-end-in-Read
-slice_bounds-put_tokens-end-in-Read c = sym (length-take-le _ _ (within (goal.at.slice_bounds-put_tokens-end-in-Read c).In-Read))
+pub slice_bounds-put_tokens-end-in-Ok : goal.slice_bounds-put_tokens-end-in-Ok
+slice_bounds-put_tokens-end-in-Ok c = sym (length-take-le _ _ (within (goal.at.slice_bounds-put_tokens-end-in-Ok c).In-Read))
 
 pub put_tokens-requires : goal.put_tokens-requires
 put_tokens-requires c =
     let d = c.read_text.new.tokens in
-    omega (arith, line_length (take c.in-Read.fill d), length-take c.in-Read.fill d, c.requires)
+    omega (arith, line_length (take c.in-Ok.fill d), length-take c.in-Ok.fill d, c.requires)
 
 pub put_refusal-requires : goal.put_refusal-requires
 put_refusal-requires c = omega (arith, refused_most c.numbers.result, c.requires)

@@ -16,9 +16,9 @@ pub returns-in-Less : goal.returns-in-Less
 returns-in-Less c us i =
     reached_less c.args.index.now c.args.fill us (key_with c.args.name.now c.args.standing) c.loop-at.at i (c.loop-at.invariant us i) c.loop-at-test.true (sym c.in-Less.ensures)
 
-pub returns-in-Same : goal.returns-in-Same
-returns-in-Same c us i =
-    reached_same c.args.index.now c.args.fill us (key_with c.args.name.now c.args.standing) c.loop-at.at i (c.loop-at.invariant us i) c.loop-at-test.true (sym c.in-Same.ensures)
+pub returns-in-Equal : goal.returns-in-Equal
+returns-in-Equal c us i =
+    reached_same c.args.index.now c.args.fill us (key_with c.args.name.now c.args.standing) c.loop-at.at i (c.loop-at.invariant us i) c.loop-at-test.true (sym c.in-Equal.ensures)
 
 pub next-at-requires : goal.next-at-requires
 next-at-requires c =
@@ -30,7 +30,7 @@ pub loop-at-preserved : goal.loop-at-preserved
 loop-at-preserved c us i =
     let k = key_with c.args.name.now c.args.standing in
     subst (Reached us k) (sym c.next-at.ensures.0)
-    (reached_next c.args.index.now c.args.fill us k c.loop-at.at i (c.loop-at.invariant us i) c.loop-at-test.true (sym c.in-More.ensures))
+    (reached_next c.args.index.now c.args.fill us k c.loop-at.at i (c.loop-at.invariant us i) c.loop-at-test.true (sym c.in-Greater.ensures))
 
 pub returns : goal.returns
 returns c us i =

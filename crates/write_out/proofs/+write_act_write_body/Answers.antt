@@ -38,23 +38,23 @@ write_act-write_body-requires t c = (
   omega (arith, c.decreases, (above_it c.requires.0 c.in-Call.is).0),
   (
     subst (λ (x : List ℕ). Ready c.args.text.now c.args.macros.now c.in-Call.k x c.call_at-called.result.body)
-        (sym (body_part c.args.macros.now c.in-Call.k c.next-end.result c.next-end.ensures.0)) (c.call_at-called.ensures.opened c.in-Pass-verdict.is).ready,
+        (sym (body_part c.args.macros.now c.in-Call.k c.next-end.result c.next-end.ensures.0)) (c.call_at-called.ensures.opened c.in-Ok-verdict.is).ready,
     c.requires.1,
     c.requires.2,
   ),
 )
 
-pub write_act-returns-in-Pass : goal.write_act-returns-in-Pass
-write_act-returns-in-Pass t c = record {
-  value = rw c.in-Pass.is (sym (answer_none (length c.args.out.now) c.args.fill));
-  out_after = rw c.in-Pass.is (none_left c.args.really c.args.out.now c.args.fill);
+pub write_act-returns-in-Ok : goal.write_act-returns-in-Ok
+write_act-returns-in-Ok t c = record {
+  value = rw c.in-Ok.is (sym (answer_none (length c.args.out.now) c.args.fill));
+  out_after = rw c.in-Ok.is (none_left c.args.really c.args.out.now c.args.fill);
 }
 
-pub write_act-returns-in-Stop : goal.write_act-returns-in-Stop
-write_act-returns-in-Stop t c =
+pub write_act-returns-in-Err : goal.write_act-returns-in-Err
+write_act-returns-in-Err t c =
     let a = c.args in
     let steps = act_steps a.text.now a.macros.now a.levels a.list.now a.body a.place a.next in
-    let s = stop_left a.really a.out.now a.fill c.in-Stop.r (steps a.act) (ap steps c.in-Call.is ∙ c.call_at-called.ensures.stopped c.in-Stop.r c.in-Stop.is) in
+    let s = stop_left a.really a.out.now a.fill c.in-Err.r (steps a.act) (ap steps c.in-Call.is ∙ c.call_at-called.ensures.stopped c.in-Err.r c.in-Err.is) in
     record { value = s.0; out_after = s.1 }
 
 -- ---- a body
@@ -117,11 +117,11 @@ write_body-loop-at-preserved t c =
       turn_rest g,
       rw c.mode_after-mode.ensures
           (same_call a.really a.out.now a.from (steps Leading a.body.start) l.out l.fill (steps l.mode l.at) l.invariant.1 (act_steps a.text.now a.macros.now a.levels a.list.now a.body c.place_at-place.result n c.act_at-act.result) (steps (mode_after c.act_at-act.result) n) (turn_act g a.levels) w.result w.new.out w.ensures.value w.ensures.out_after
-          c.in-Written.f c.in-Written.is w.auto.out),
+          c.in-Ok.f c.in-Ok.is w.auto.out),
     )
 
-pub write_body-returns-in-Refused : goal.write_body-returns-in-Refused
-write_body-returns-in-Refused t c =
+pub write_body-returns-in-Err : goal.write_body-returns-in-Err
+write_body-returns-in-Err t c =
     let l = c.loop-at in
     let a = c.args in
     let w = c.write_act in
@@ -129,7 +129,7 @@ write_body-returns-in-Refused t c =
     let g = turn l.invariant.0 c.loop-at-test.true c.next-next.ensures.0 c.place_at-place.ensures c.act_at-act.ensures in
     let steps = steps_from a.text.now a.macros.now a.most a.levels a.list.now a.body in
     let e = ends_call a.really a.out.now a.from (steps Leading a.body.start) l.out l.fill (steps l.mode l.at) l.invariant.1 (act_steps a.text.now a.macros.now a.levels a.list.now a.body c.place_at-place.result n c.act_at-act.result) (steps (mode_after c.act_at-act.result) n) (turn_act g a.levels) w.result w.new.out w.ensures.value w.ensures.out_after
-    c.in-Refused.r c.in-Refused.is in
+    c.in-Err.r c.in-Err.is in
     record { value = e.answered; out_after = e.left }
 
 pub write_body-returns : goal.write_body-returns

@@ -1,7 +1,6 @@
 use Rattle.std.proofs.Common.{◌≡◌, ℕ, ◌+◌, ◌-◌, ◌≤◌, length, sym, ap, ap₂, subst, ◌∙◌, arith}
 use Rattle.record.specs.Bytes.{part, location_at}
 use Rattle.record.specs.declared.Location.{Location}
-use Rattle.refusal.specs.declared.Verdict.{Verdict}
 use Rattle.macros.specs.Macros.{count_of, macro_ok, body_at, head_of}
 use Rattle.macros.proofs.LayoutLaws.{body_part}
 use Rattle.macros.specs.declared.Head.{Head}
@@ -12,6 +11,7 @@ use Rattle.macro_tokens.specs.Arguments.{arguments_from}
 use Rattle.write_out.specs.Calls.{call_verdict, CallIs}
 use Rattle.write_out.proofs.CallsLaws.{bytes_ok, inside, call_is}
 use Rattle.write_out.proofs.call_at.Goals as goal
+use Rattle.refusal.specs.Verdicts.{Verdict}
 
 pub next-end-requires : goal.next-end-requires
 next-end-requires c =

@@ -3,30 +3,30 @@ use Rattle.write_out.proofs.EntryLaws.{token_place, macro_place, repeat_place, s
 use Rattle.write_out.proofs.check.Goals as goal
 
 pub overflow_cast-result : goal.overflow_cast-result
-overflow_cast-result c = omega (arith, token_place c.args.tokens.now c.in-Bad.place (sym c.in-Bad.ensures))
+overflow_cast-result c = omega (arith, token_place c.args.tokens.now c.in-Some.place (sym c.in-Some.ensures))
 
-pub returns-in-Bad : goal.returns-in-Bad
-returns-in-Bad c = sym (stop_tokens c.args.tokens.now c.args.macros.now c.args.room _ (sym c.in-Bad.ensures))
+pub returns-in-Some : goal.returns-in-Some
+returns-in-Some c = sym (stop_tokens c.args.tokens.now c.args.macros.now c.args.room _ (sym c.in-Some.ensures))
 
-pub overflow_cast-result-in-Bad-first_bad_macro : goal.overflow_cast-result-in-Bad-first_bad_macro
-overflow_cast-result-in-Bad-first_bad_macro c =
-    omega (arith, macro_place c.args.macros.now c.in-Bad-first_bad_macro.place (sym c.in-Bad-first_bad_macro.ensures))
+pub overflow_cast-result-in-Some-first_bad_macro : goal.overflow_cast-result-in-Some-first_bad_macro
+overflow_cast-result-in-Some-first_bad_macro c =
+    omega (arith, macro_place c.args.macros.now c.in-Some-first_bad_macro.place (sym c.in-Some-first_bad_macro.ensures))
 
-pub returns-in-Bad-first_bad_macro : goal.returns-in-Bad-first_bad_macro
-returns-in-Bad-first_bad_macro c =
-    sym (stop_macros c.args.tokens.now c.args.macros.now c.args.room (sym c.in_default.ensures) _ (sym c.in-Bad-first_bad_macro.ensures))
+pub returns-in-Some-first_bad_macro : goal.returns-in-Some-first_bad_macro
+returns-in-Some-first_bad_macro c =
+    sym (stop_macros c.args.tokens.now c.args.macros.now c.args.room (sym c.in_default.ensures) _ (sym c.in-Some-first_bad_macro.ensures))
 
 pub returns-then-room-gt-LIMIT : goal.returns-then-room-gt-LIMIT
 returns-then-room-gt-LIMIT c =
     sym (stop_room c.args.tokens.now c.args.macros.now c.args.room (sym c.in_default.ensures) (sym c.in_default-first_bad_macro.ensures) c.if-room-gt-LIMIT.true)
 
-pub overflow_cast-result-in-Later : goal.overflow_cast-result-in-Later
-overflow_cast-result-in-Later c =
-    omega (arith, repeat_place c.args.macros.now c.in-Later.place (sym c.in_default-first_bad_macro.ensures) (sym c.in-Later.ensures))
+pub overflow_cast-result-in-Some : goal.overflow_cast-result-in-Some
+overflow_cast-result-in-Some c =
+    omega (arith, repeat_place c.args.macros.now c.in-Some.place (sym c.in_default-first_bad_macro.ensures) (sym c.in-Some.ensures))
 
-pub returns-in-Later : goal.returns-in-Later
-returns-in-Later c =
-    sym (stop_name c.args.tokens.now c.args.macros.now c.args.room (sym c.in_default.ensures) (sym c.in_default-first_bad_macro.ensures) c.if-room-gt-LIMIT.false _ (sym c.in-Later.ensures))
+pub returns-in-Some : goal.returns-in-Some
+returns-in-Some c =
+    sym (stop_name c.args.tokens.now c.args.macros.now c.args.room (sym c.in_default.ensures) (sym c.in_default-first_bad_macro.ensures) c.if-room-gt-LIMIT.false _ (sym c.in-Some.ensures))
 
 pub returns : goal.returns
 returns c =

@@ -2,8 +2,8 @@ use Rattle.std.proofs.Common.{sym, arith}
 use Rattle.write_out.proofs.EntryLaws.{passed, stopped_outcome, refused_outcome, written_outcome}
 use Rattle.write_out.proofs.write_out.Goals as goal
 
-pub returns-in-Stop : goal.returns-in-Stop
-returns-in-Stop c = stopped_outcome c.args.tokens.now c.args.macros.now c.args.out.now _ (sym c.in-Stop.ensures)
+pub returns-in-Err : goal.returns-in-Err
+returns-in-Err c = stopped_outcome c.args.tokens.now c.args.macros.now c.args.out.now _ (sym c.in-Err.ensures)
 
 pub write_all-answer-requires : goal.write_all-answer-requires
 write_all-answer-requires c =

@@ -1,18 +1,17 @@
+use Rattle.std.specs.Prelude.{Option, Some}
 use Rattle.std.proofs.Common.{◌≡◌, ℕ, ◌+◌, ◌<◌, ◌≤◌, List, get_or, sym, ap, ◌∙◌, arith}
 use Rattle.record.specs.Bytes.{le32}
 use Rattle.record.specs.Records.{body_len, places}
 use Rattle.regions.proofs.RegionsLaws.{RegionIs}
 use Rattle.machine.proofs.EffectsLaws.{wraps_back}
 use Rattle.reading.specs.Reading.{image_of}
-use Rattle.dry_run_outcome.specs.declared.Fetched.{Fetched}
-use Rattle.dry_run_outcome.specs.declared.Fetched.TheVariants.{Word}
 use Rattle.dry_run_outcome.specs.Fetch.{offset_in, fetch}
 use Rattle.dry_run_core.proofs.FetchLaws.{fetch_at, offset_at, fetch_image, place_is, drop_here, drop_on, drop_end}
 use Rattle.dry_run_core.proofs.image.fetch.Goals as goal
 use Rattle.dry_run_core.proofs.image.fetch.Goals.{After-wrapping_sub_u32-offset}
 
 -- the whole image is that of all places, which is that of the places from here on
-whole : (s found : List ℕ) (pc : ℕ) {f : Fetched} → found ≡ places s → fetch_at s found pc ≡ f → fetch (image_of s) pc ≡ f
+whole : (s found : List ℕ) (pc : ℕ) {f : (Option ℕ)} → found ≡ places s → fetch_at s found pc ≡ f → fetch (image_of s) pc ≡ f
 whole s found pc e r = fetch_image s pc ∙ ap (λ (ps : List ℕ). fetch_at s ps pc) (sym e) ∙ r
 
 -- the offset is that of pc in the region
@@ -41,7 +40,7 @@ returns-then-offset-half_at c =
     let o = offset (goal.at.returns-then-offset-half_at c).After-wrapping_sub_u32-offset in
     let t : RegionIs s place = place_is s c.args.found.now c.loop-i.i c.requires.regions_value c.requires.found_value c.loop-i-test.true in
     let h : offset_at s place c.args.pc + 8 ≤ body_len s place = omega (arith, o, c.if-offset-half_at.true, c.half_at.ensures.0) in
-    ap Word (c.word_at-then-offset-half_at.ensures ∙ ap (λ (n : ℕ). le32 s (place + 8 + n)) o)
+    ap Some (c.word_at-then-offset-half_at.ensures ∙ ap (λ (n : ℕ). le32 s (place + 8 + n)) o)
     ∙ sym (whole _ _ _ c.requires.found_value (c.loop-i.invariant.1 ∙ drop_here s c.args.found.now c.loop-i.i c.args.pc c.loop-i-test.true t h))
 
 pub loop-i-preserved : goal.loop-i-preserved
