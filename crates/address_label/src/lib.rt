@@ -29,29 +29,20 @@ pub enum AddressLabel {
 }
 
 // Whether the bytes from `at` on, up to the record's end, are a constant or a name.
+#[tactic(auto, unfolding(crate::specs::AddressLabels::address_label_ok))]
 pub fn address_label_ok(list: &[u8], at: usize, end: usize) -> bool
     requires { (at + 17 ≤ end) × (end ≤ length list.now) }
     ensures { result ≡ address_label_ok list.now at end }
 {
-    if list[at] == 0 {
-        if end != at + 17 {
-            return false;
+    match list[at] {
+        0 => {
+            end == at + 17
+                && record::word_at(list, at + 9) == 0
+                && record::word_at(list, at + 13) == 0
         }
-        if record::word_at(list, at + 9) != 0 {
-            return false;
-        }
-        return record::word_at(list, at + 13) == 0;
+        1 => at + 18 <= end && end <= at + 81 && record::all_text(&list[at + 17..end]),
+        _ => false,
     }
-    if list[at] != 1 {
-        return false;
-    }
-    if end < at + 18 {
-        return false;
-    }
-    if end > at + 81 {
-        return false;
-    }
-    record::all_text(&list[at + 17..end])
 }
 
 pub fn address_label_at(list: &[u8], at: usize, end: usize) -> AddressLabel
@@ -62,30 +53,24 @@ pub fn address_label_at(list: &[u8], at: usize, end: usize) -> AddressLabel
     if list[at] == 0 {
         return AddressLabel::Constant(offset);
     }
-    let location = record::location_at(list, at + 9);
     AddressLabel::Label(NamedLabel {
         name_at: at + 17,
         name_len: end - (at + 17),
-        location,
+        location: record::location_at(list, at + 9),
         offset,
     })
 }
 
 // Whether the record at `at` is an entry.
+#[tactic(auto, unfolding(crate::specs::Entries::entry_ok))]
 fn entry_ok(entry: &[u8], at: usize) -> bool
     requires { at ≤ length entry.now }
     ensures { result ≡ entry_ok entry.now at }
 {
-    if !record::whole_at(entry, at) {
-        return false;
-    }
-    if record::half_at(entry, at + 2) != ENTRY {
-        return false;
-    }
-    if record::half_at(entry, at) < 17 {
-        return false;
-    }
-    address_label_ok(entry, at + 4, record::next(entry, at))
+    record::whole_at(entry, at)
+        && record::half_at(entry, at + 2) == ENTRY
+        && record::half_at(entry, at) >= 17
+        && address_label_ok(entry, at + 4, record::next(entry, at))
 }
 
 // The place of the first record that breaks the layout, or the limit.
@@ -95,24 +80,21 @@ pub fn first_bad_entry(entry: &[u8]) -> Option<usize>
     if entry.len() > record::LIMIT {
         return Some(record::LIMIT);
     }
-    if entry.len() == 0 {
+    if entry.is_empty() {
         return None;
     }
     if !entry_ok(entry, 0) {
         return Some(0);
     }
     let end = record::next(entry, 0);
-    if end < entry.len() {
-        return Some(end);
-    }
-    None
+    if end < entry.len() { Some(end) } else { None }
 }
 
 pub fn read_entry(entry: &[u8]) -> Option<AddressLabel>
     requires { entry_layout entry.now ≡ None }
     ensures { result ≡ entry_of entry.now (places entry.now) }
 {
-    if entry.len() == 0 {
+    if entry.is_empty() {
         return None;
     }
     Some(address_label_at(entry, 4, record::next(entry, 0)))
@@ -123,17 +105,10 @@ pub fn name_of(names: &[u8], label: AddressLabel) -> &[u8]
     ensures { result.now ≡ name_bytes names.now label }
 {
     match label {
-        AddressLabel::Constant(_) => &names[0..0],
+        AddressLabel::Constant(_) => &names[..0],
         AddressLabel::Label(name) => {
-            let at = name.name_at;
-            let len = name.name_len;
-            if at > names.len() {
-                return &names[0..0];
-            }
-            if len > names.len() - at {
-                return &names[at..];
-            }
-            &names[at..at + len]
+            let behind = &names[name.name_at.min(names.len())..];
+            &behind[..name.name_len.min(behind.len())]
         }
     }
 }
@@ -146,16 +121,14 @@ pub fn put_label(d: &mut [u8], names: &[u8], at: usize, label: AddressLabel)
     match label {
         AddressLabel::Constant(value) => {
             d[at] = 0;
-            record::put64(&mut *d, at + 1, value);
-            record::put64(&mut *d, at + 9, 0);
+            record::put64(d, at + 1, value);
+            record::put64(d, at + 9, 0);
         }
         AddressLabel::Label(name) => {
-            let location = name.location;
-            let offset = name.offset;
             d[at] = 1;
-            record::put64(&mut *d, at + 1, offset);
-            record::put_location(&mut *d, at + 9, location);
-            record::put_all(&mut *d, at + 17, name_of(names, label));
+            record::put64(d, at + 1, name.offset);
+            record::put_location(d, at + 9, name.location);
+            record::put_all(d, at + 17, name_of(names, label));
         }
     }
 }

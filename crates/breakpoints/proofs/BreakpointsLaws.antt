@@ -69,6 +69,12 @@ module _ (fill : ℕ) (s : List ℕ) where
       go (kept h f) = cc (filled_kept None h f)
       go (refused q r) = cc (r None, r l)
 
+  -- a layout that counts where neither is refused
+  pub filled_or : (l given answer : Option ℕ) → given ≡ filled_layout fill s None → (given ≡ None → answer ≡ l) → ((p : ℕ) → given ≡ Some p → answer ≡ Some p)
+      → answer ≡ filled_layout fill s l
+  filled_or l None answer e good bad = let g = filled_good None (sym e) in good refl ∙ sym (filled_kept l g.0 g.1)
+  filled_or l (Some p) answer e good bad = bad p refl ∙ sym (filled_bad l p (sym e))
+
   -- ---- the three buffers
   pub pending_buffer_good : pending_buffer_layout fill s ≡ None → (length s ≤ limit) × (fill ≤ length s) × (first_bad (pending_ok 16 (take fill s)) (places (take fill s)) ≡ None)
   unfolding pending_buffer_layout

@@ -2,7 +2,6 @@
 #![tactic(auto)]
 
 ghost use Rattle.std.specs.Prelude.{◌≡◌, ◌+◌, ◌*◌, ◌^◌, ◌≤◌, length};
-ghost use Rattle.record.specs.Records.{places, first_bad};
 ghost use Rattle.record.specs.Stores.{append};
 ghost use Rattle.breakpoints.specs.BreakpointBytes.{breakpoint_bytes};
 ghost use Rattle.breakpoints.specs.Breakpoints.{breakpoint_ok, filled_layout, pending_buffer_layout, breakpoint_buffer_layout, data_buffer_layout};
@@ -19,39 +18,21 @@ pub struct Pcs {
     pub count: usize,
 }
 
-// Whether the record at `at` is a breakpoint.
-fn breakpoint_ok(list: &[u8], at: usize) -> bool
-    requires { at ≤ length list.now }
-    ensures { result ≡ breakpoint_ok list.now at }
-{
-    if !record::whole_at(list, at) {
-        return false;
-    }
-    let n = record::half_at(list, at);
-    if record::half_at(list, at + 2) != BREAKPOINT as usize {
-        return false;
-    }
-    if n < 12 {
-        return false;
-    }
-    if n > 28 {
-        return false;
-    }
-    n % 4 == 0
-}
+// The layout of a list of breakpoints.
+#[derive(Clone, Copy)]
+struct Breakpoints;
 
-// The place of the first record that is no breakpoint.
-fn first_bad_breakpoint(list: &[u8]) -> Option<usize>
-    ensures { result ≡ first_bad (breakpoint_ok list.now) (places list.now) }
-{
-    let mut at: usize = 0;
-    while at < list.len() {
-        if !breakpoint_ok(list, at) {
-            return Some(at);
-        }
-        at = record::next(list, at);
+impl record::Layout for Breakpoints {
+    ghost keeps = { λ self s at. breakpoint_ok s at };
+
+    #[tactic(auto, unfolding(crate::specs::Breakpoints::breakpoint_ok))]
+    fn keeps(&self, list: &[u8], at: usize) -> bool {
+        record::whole_at(list, at)
+            && record::half_at(list, at + 2) == usize::from(BREAKPOINT)
+            && record::half_at(list, at) >= 12
+            && record::half_at(list, at) <= 28
+            && record::half_at(list, at) % 4 == 0
     }
-    None
 }
 
 // Whether the buffer is within the limit and the fill count within the buffer.
@@ -72,30 +53,22 @@ fn filled(buffer: &[u8], fill: usize) -> Option<usize>
 pub fn check_pending_buffer(buffer: &[u8], fill: usize) -> Option<usize>
     ensures { result ≡ pending_buffer_layout fill buffer.now }
 {
-    match filled(buffer, fill) {
-        Some(p) => Some(p),
-        None => pending::first_bad_pending(&buffer[..fill], 16),
-    }
+    filled(buffer, fill).or_else(|| pending::first_bad_pending(&buffer[..fill], 16))
 }
 
 // The layout of the first `fill` bytes as a list of breakpoints.
 pub fn check_breakpoint_buffer(buffer: &[u8], fill: usize) -> Option<usize>
     ensures { result ≡ breakpoint_buffer_layout fill buffer.now }
 {
-    match filled(buffer, fill) {
-        Some(p) => Some(p),
-        None => first_bad_breakpoint(&buffer[..fill]),
-    }
+    filled(buffer, fill).or_else(|| record::first_bad(&Breakpoints, &buffer[..fill]))
 }
 
 // The region's number, and the data's length and fill count.
 pub fn check_data_buffer(buffer: &[u8], fill: usize, region: u16) -> Option<usize>
     ensures { result ≡ data_buffer_layout region fill buffer.now }
 {
-    if region > 15 {
-        if region != 65535 {
-            return Some(0);
-        }
+    if region > 15 && region != 65535 {
+        return Some(0);
     }
     filled(buffer, fill)
 }
@@ -105,13 +78,9 @@ pub fn put_breakpoint(d: &mut [u8], at: usize, location: Location, pcs: Pcs)
     requires { (pcs.count ≤ 5) × (at + 12 + 4 * pcs.count ≤ length d.old) × (pcs.first + 4 * pcs.count ≤ 2 ^ 32 + 3) }
     ensures { d.new ≡ append d.old at (breakpoint_bytes location pcs.first pcs.count) }
 {
-    let pc = pcs.first;
-    let n = pcs.count;
-    record::put_head(&mut *d, at, (8 + 4 * n) as u16, BREAKPOINT);
-    record::put_location(&mut *d, at + 4, location);
-    let mut i: usize = 0;
-    while i < n {
-        record::put32(&mut *d, at + 12 + 4 * i, pc + 4 * (i as u32));
-        i = i + 1;
+    record::put_head(d, at, (8 + 4 * pcs.count) as u16, BREAKPOINT);
+    record::put_location(d, at + 4, location);
+    for i in 0..pcs.count {
+        record::put32(d, at + 12 + 4 * i, pcs.first + 4 * (i as u32));
     }
 }

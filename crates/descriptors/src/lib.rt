@@ -2,7 +2,7 @@
 #![tactic(auto)]
 
 ghost use Rattle.std.specs.Prelude.{◌≡◌, ◌+◌, ◌≤◌, length, take};
-ghost use Rattle.descriptors.specs.Mnemonics.{mnemonic_ok, mnemonic_layout, lower, mnemonic_name, mnemonic_location, ZeroFrom};
+ghost use Rattle.descriptors.specs.Mnemonics.{mnemonic_ok, mnemonic_layout, mnemonic_name, mnemonic_location, ZeroFrom};
 ghost use Rattle.descriptors.specs.Descriptors.{most_size, most_flag, most_present, most_alternative, fields_ok, descriptor_ok, descriptor_layout, descriptor_repeat, find_descriptor, opcode_from, size_from, alternative_at, instruction_at};
 
 mod numbers;
@@ -39,20 +39,11 @@ fn mnemonic_ok(list: &[u8], at: usize) -> bool
     requires { at ≤ length list.now }
     ensures { result ≡ mnemonic_ok list.now at }
 {
-    if !record::whole_at(list, at) {
-        return false;
-    }
-    let n = record::half_at(list, at);
-    if record::half_at(list, at + 2) != MNEMONIC {
-        return false;
-    }
-    if n < 8 {
-        return false;
-    }
-    if n > 24 {
-        return false;
-    }
-    record::all_text(&list[at + 12..at + 4 + n])
+    record::whole_at(list, at)
+        && record::half_at(list, at + 2) == MNEMONIC
+        && record::half_at(list, at) >= 8
+        && record::half_at(list, at) <= 24
+        && record::all_text(&list[at + 12..record::next(list, at)])
 }
 
 // The place of the first record that breaks the layout, the list's end where there is none, or the limit.
@@ -62,29 +53,14 @@ pub fn first_bad_mnemonic(list: &[u8]) -> Option<usize>
     if list.len() > record::LIMIT {
         return Some(record::LIMIT);
     }
-    if list.len() == 0 {
+    if list.is_empty() {
         return Some(0);
     }
     if !mnemonic_ok(list, 0) {
         return Some(0);
     }
     let end = record::next(list, 0);
-    if end < list.len() {
-        return Some(end);
-    }
-    None
-}
-
-fn lower_byte(b: u8) -> u8
-    ensures { result ≡ lower b }
-{
-    if b < 65 {
-        return b;
-    }
-    if b > 90 {
-        return b;
-    }
-    b + 32
+    if end < list.len() { Some(end) } else { None }
 }
 
 // The one mnemonic of a list that keeps its layout.
@@ -96,10 +72,8 @@ pub fn read_mnemonic(list: &[u8]) -> Mnemonic
     let len = record::half_at(list, 0) - 8;
     let location = record::location_at(list, 4);
     let mut bytes = [0u8; 16];
-    let mut i: usize = 0;
-    while i < len {
-        bytes[i] = lower_byte(list[12 + i]);
-        i = i + 1;
+    for i in 0..len {
+        bytes[i] = list[12 + i].to_ascii_lowercase();
     }
     Mnemonic {
         bytes,
@@ -116,49 +90,30 @@ fn fields_ok(list: &[u8], at: usize) -> bool
 {
     let encoding = list[at + 6];
     let present = list[at + 9];
-    if list[at + 4] > numbers::COP1I {
-        return false;
-    }
-    if encoding > numbers::FP_BRANCH {
-        return false;
-    }
-    if list[at + 7] > most_size(encoding) {
-        return false;
-    }
-    if list[at + 8] > most_flag(encoding) {
-        return false;
-    }
-    if present > most_present(encoding) {
-        return false;
-    }
-    if list[at + 10] > most_alternative(present, numbers::COP1I) {
-        return false;
-    }
-    list[at + 11] <= most_alternative(present, 255)
+    list[at + 4] <= numbers::COP1I
+        && encoding <= numbers::FP_BRANCH
+        && list[at + 7] <= most_size(encoding)
+        && list[at + 8] <= most_flag(encoding)
+        && present <= most_present(encoding)
+        && list[at + 10] <= most_alternative(present, numbers::COP1I)
+        && list[at + 11] <= most_alternative(present, 255)
 }
 
 fn most_size(encoding: u8) -> u8
     ensures { result ≡ most_size encoding }
 {
-    if encoding < numbers::FP_3REGISTER {
-        return 0;
+    match encoding {
+        numbers::FP_3REGISTER..=numbers::FP_COND => numbers::WORD,
+        _ => 0,
     }
-    if encoding > numbers::FP_COND {
-        return 0;
-    }
-    numbers::WORD
 }
 
 fn most_flag(encoding: u8) -> u8
     ensures { result ≡ most_flag encoding }
 {
-    if encoding == numbers::FP_MOVE {
-        return 1;
-    }
-    if encoding >= numbers::FP_CROSS_MOVE {
-        1
-    } else {
-        0
+    match encoding {
+        numbers::FP_MOVE | numbers::FP_CROSS_MOVE.. => 1,
+        _ => 0,
     }
 }
 
@@ -175,46 +130,30 @@ fn most_alternative(present: u8, most: u8) -> u8
     if present == 1 { most } else { 0 }
 }
 
-// Whether the record at `at` is a descriptor.
-#[tactic(auto, unfolding(crate::specs::Descriptors::descriptor_ok))]
-fn descriptor_ok(list: &[u8], at: usize) -> bool
-    requires { at ≤ length list.now }
-    ensures { result ≡ descriptor_ok list.now at }
-{
-    if !record::whole_at(list, at) {
-        return false;
+// The layout of a list of descriptors.
+#[derive(Clone, Copy)]
+struct Descriptors;
+
+impl record::Layout for Descriptors {
+    ghost keeps = { λ self s at. descriptor_ok s at };
+
+    #[tactic(auto, unfolding(crate::specs::Descriptors::descriptor_ok))]
+    fn keeps(&self, list: &[u8], at: usize) -> bool {
+        record::whole_at(list, at)
+            && record::half_at(list, at + 2) == DESCRIPTOR
+            && record::half_at(list, at) >= 9
+            && record::half_at(list, at) <= 24
+            && fields_ok(list, at)
+            && record::all_text(&list[at + 12..record::next(list, at)])
     }
-    let n = record::half_at(list, at);
-    if record::half_at(list, at + 2) != DESCRIPTOR {
-        return false;
-    }
-    if n < 9 {
-        return false;
-    }
-    if n > 24 {
-        return false;
-    }
-    if !fields_ok(list, at) {
-        return false;
-    }
-    record::all_text(&list[at + 12..at + 4 + n])
 }
 
 // The place of the first record that is no descriptor, or the limit.
+#[tactic(auto, unfolding(crate::specs::Descriptors::descriptor_layout))]
 pub fn first_bad_descriptor(list: &[u8]) -> Option<usize>
     ensures { result ≡ descriptor_layout list.now }
 {
-    if list.len() > record::LIMIT {
-        return Some(record::LIMIT);
-    }
-    let mut at: usize = 0;
-    while at < list.len() {
-        if !descriptor_ok(list, at) {
-            return Some(at);
-        }
-        at = record::next(list, at);
-    }
-    None
+    record::first_bad_within(&Descriptors, list)
 }
 
 // The first descriptor that shares its name with an earlier one, by an index of the list.
@@ -289,8 +228,7 @@ fn encoding_at(list: &[u8], at: usize) -> Encoding
     let size = size_from(list[at + 7]);
     let flag = list[at + 8] == 1;
     let alternative = alternative_at(list, at);
-    let encoding = list[at + 6];
-    match encoding {
+    match list[at + 6] {
         numbers::REGISTER => Encoding::Register,
         numbers::REGISTER_SHIFT => Encoding::RegisterShift,
         numbers::SOURCE => Encoding::Source,
@@ -320,7 +258,8 @@ pub fn instruction_at(list: &[u8], at: usize) -> Instruction
     requires { at + 12 ≤ length list.now }
     ensures { result ≡ instruction_at list.now at }
 {
-    let opcode = opcode_from(list[at + 4], list[at + 5]);
-    let encoding = encoding_at(list, at);
-    Instruction { opcode, encoding }
+    Instruction {
+        opcode: opcode_from(list[at + 4], list[at + 5]),
+        encoding: encoding_at(list, at),
+    }
 }

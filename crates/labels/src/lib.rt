@@ -27,48 +27,34 @@ fn kind_ok(labels: &[u8], at: usize) -> bool
     requires { has_owned_name 4 labels.now at ≡ true }
     ensures { result ≡ label_kind labels.now at }
 {
-    if record::half_at(labels, at + 2) == LABEL {
-        return true;
-    }
-    names::owner_at(labels, 4, at) < names::FOR_ALL
+    record::half_at(labels, at + 2) == LABEL || names::owner_at(labels, 4, at) < names::FOR_ALL
 }
 
-// Whether the record at `at` is a label.
-fn label_ok(labels: &[u8], at: usize) -> bool
-    requires { at ≤ length labels.now }
-    ensures { result ≡ label_ok labels.now at }
-{
-    if !names::has_name(labels, 4, at) {
-        return false;
+// The layout of a list of labels.
+#[derive(Clone, Copy)]
+struct Labels;
+
+impl record::Layout for Labels {
+    ghost keeps = { λ self s at. label_ok s at };
+
+    fn keeps(&self, labels: &[u8], at: usize) -> bool {
+        if !names::has_name(labels, 4, at) || !kind_ok(labels, at) {
+            return false;
+        }
+        let name = names::name_at(labels, 4, at);
+        match name.len() {
+            1..=64 => record::all_text(name),
+            _ => false,
+        }
     }
-    if !kind_ok(labels, at) {
-        return false;
-    }
-    let name = names::name_at(labels, 4, at);
-    if name.len() < 1 {
-        return false;
-    }
-    if name.len() > 64 {
-        return false;
-    }
-    record::all_text(name)
 }
 
 // The place of the first record that is no label, or the limit.
+#[tactic(auto, unfolding(crate::specs::Labels::label_layout))]
 pub fn first_bad_label(labels: &[u8]) -> Option<usize>
     ensures { result ≡ label_layout labels.now }
 {
-    if labels.len() > record::LIMIT {
-        return Some(record::LIMIT);
-    }
-    let mut at: usize = 0;
-    while at < labels.len() {
-        if !label_ok(labels, at) {
-            return Some(at);
-        }
-        at = record::next(labels, at);
-    }
-    None
+    record::first_bad_within(&Labels, labels)
 }
 
 // Makes the index of a list of labels, and answers their count; `spare` is scratch.
@@ -97,7 +83,7 @@ fn look_for_all(labels: &[u8], index: &[u16], end: usize, name: &[u8], before: u
     if end >= index.len() {
         return name_index::find_from(labels, 4, index, names::FOR_ALL, name, before);
     }
-    let place = record::widened(index[end]);
+    let place = usize::from(index[end]);
     let told = name_index::is_owned(labels, 4, names::FOR_ALL, name, place, before);
     if told.same {
         return Looked {
@@ -115,8 +101,7 @@ pub fn look_up(labels: &[u8], index: &[u16], source: u32, name: &[u8]) -> Looked
     ensures { result ≡ looked_up labels.now index.now source name.now }
 {
     let own = name_index::find(labels, 4, index, source, name);
-    let named = own.named;
-    match named {
+    match own.named {
         Some(_) => own,
         None => look_for_all(labels, index, own.end, name, own.compared),
     }
@@ -128,15 +113,8 @@ pub fn get(labels: &[u8], index: &[u16], source: u32, name: &[u8]) -> Found
     ensures { (result.address ≡ resolve labels.now source name.now) × (result.compared ≡ (looked_up labels.now index.now source name.now).compared) × (result.compared ≤ 32) }
 {
     let looked = look_up(labels, index, source, name);
-    let named = looked.named;
-    match named {
-        Some(at) => Found {
-            address: Some(record::word_at(labels, at + 4)),
-            compared: looked.compared,
-        },
-        None => Found {
-            address: None,
-            compared: looked.compared,
-        },
+    Found {
+        address: looked.named.map(|at| record::word_at(labels, at + 4)),
+        compared: looked.compared,
     }
 }

@@ -9,20 +9,12 @@ ghost use Rattle.name_index.specs.Index.{owned_first};
 
 use std::cmp::Ordering;
 
-
 // Where a name stands, how many names were compared to find it, and where in the index the search ended.
 #[derive(Clone, Copy)]
 pub struct Looked {
     pub named: Option<usize>,
     pub compared: u32,
     pub end: usize,
-}
-
-// How a record stands to a name of an owner, and how many names have been compared by then.
-#[derive(Clone, Copy)]
-struct Standing {
-    ordered: Ordering,
-    compared: u32,
 }
 
 // Whether a record has a name and an owner, and how many names have been compared by then.
@@ -38,12 +30,10 @@ pub fn fill(list: &[u8], skip: usize, index: &mut [u16]) -> usize
     requires list_len_bound { (length list.now ≤ limit) × (length (places list.now) ≤ length index.old) }
     ensures { (result ≡ length (places list.now)) × (take result index.new ≡ places list.now) × (drop result index.new ≡ drop result index.old) }
 {
-    let mut at: usize = 0;
-    let mut n: usize = 0;
-    while at < list.len() {
+    let mut n = 0;
+    for at in record::places(list) {
         index[n] = at as u16;
         n += 1;
-        at = record::next(list, at);
     }
     n
 }
@@ -53,17 +43,8 @@ fn is_below(list: &[u8], skip: usize, p: usize, q: usize) -> bool
     requires { (has_owned_name skip list.now p ≡ true) × (has_owned_name skip list.now q ≡ true) }
     ensures { result ≡ below skip list.now p q }
 {
-    match name_sort::stands(
-        list,
-        skip,
-        p,
-        names::owner_at(list, skip, q),
-        names::name_at(list, skip, q),
-    ) {
-        Ordering::Less => true,
-        Ordering::Equal => false,
-        Ordering::Greater => false,
-    }
+    let owner = names::owner_at(list, skip, q);
+    name_sort::stands(list, skip, p, owner, names::name_at(list, skip, q)).is_lt()
 }
 
 // Whether each record's name and owner go before the next one's: then none repeats another, and no index is needed to say so.
@@ -71,17 +52,15 @@ pub fn rises(list: &[u8], skip: usize) -> bool
     requires { first_bad (has_owned_name skip list.now) (places list.now) ≡ None }
     ensures { result ≡ names_rise skip list.now }
 {
-    if list.len() == 0 {
+    let mut places = record::places(list);
+    let Some(mut last) = places.next() else {
         return true;
-    }
-    let mut last: usize = 0;
-    let mut at: usize = record::next(list, 0);
-    while at < list.len() {
+    };
+    for at in places {
         if !is_below(list, skip, last, at) {
             return false;
         }
         last = at;
-        at = record::next(list, at);
     }
     true
 }
@@ -99,13 +78,19 @@ pub fn make(list: &[u8], skip: usize, index: &mut [u16], spare: &mut [u16]) -> u
 
 // Compares the name of the record at `at`, and then its owner. On the way of a lookup names are compared here and in `is_owned`, and the count of
 // comparisons grows where they are.
-fn stands(list: &[u8], skip: usize, at: usize, owner: u32, name: &[u8], compared: u32) -> Standing
-    requires { (has_owned_name skip list.now at ≡ true) × (compared < 131072) }
-    ensures { result ≡ (record { ordered = standing skip list.now owner name.now at; compared = compared + 1 }) }
+fn stands(
+    list: &[u8],
+    skip: usize,
+    at: usize,
+    owner: u32,
+    name: &[u8],
+    compared: &mut u32,
+) -> Ordering
+    requires { (has_owned_name skip list.now at ≡ true) × (compared.old < 131072) }
+    ensures { (result ≡ standing skip list.now owner name.now at) × (compared.new ≡ compared.old + 1) }
 {
-    let ordered = name_sort::stands(list, skip, at, owner, name);
-    let compared = compared + 1;
-    Standing { ordered, compared }
+    *compared += 1;
+    name_sort::stands(list, skip, at, owner, name)
 }
 
 // Whether the record at `at` has that owner and name. The owner is looked at first: a name of another owner is not compared.
@@ -113,14 +98,15 @@ pub fn is_owned(list: &[u8], skip: usize, owner: u32, name: &[u8], at: usize, co
     requires { (has_owned_name skip list.now at ≡ true) × (compared < 131072) }
     ensures { result ≡ told skip list.now owner name.now at compared }
 {
-    if names::owner_at(list, skip, at) == owner {
-        let same = record::same(names::name_at(list, skip, at), name);
-        let compared = compared + 1;
-        return Told { same, compared };
+    if names::owner_at(list, skip, at) != owner {
+        return Told {
+            same: false,
+            compared,
+        };
     }
     Told {
-        same: false,
-        compared,
+        same: record::same(names::name_at(list, skip, at), name),
+        compared: compared + 1,
     }
 }
 
@@ -137,19 +123,14 @@ pub fn find_from(
     requires index_of { IndexOf skip list.now index.now × (length index.now < 65536) × (before < 65536) }
     ensures { result ≡ lookup_from skip list.now index.now owner name.now before }
 {
-    let mut lo: usize = 0;
-    let mut hi: usize = index.len();
-    let mut compared: u32 = before;
+    let mut lo = 0;
+    let mut hi = index.len();
+    let mut compared = before;
     while lo < hi {
         let mid = lo + (hi - lo) / 2;
-        let p = record::widened(index[mid]);
-        let told = stands(list, skip, p, owner, name, compared);
-        let ordered = told.ordered;
-        compared = told.compared;
-        match ordered {
-            Ordering::Less => {
-                lo = mid + 1;
-            }
+        let p = usize::from(index[mid]);
+        match stands(list, skip, p, owner, name, &mut compared) {
+            Ordering::Less => lo = mid + 1,
             Ordering::Equal => {
                 return Looked {
                     named: Some(p),
@@ -157,9 +138,7 @@ pub fn find_from(
                     end: mid,
                 };
             }
-            Ordering::Greater => {
-                hi = mid;
-            }
+            Ordering::Greater => hi = mid,
         }
     }
     Looked {
@@ -185,13 +164,13 @@ fn repeats(list: &[u8], skip: usize, index: &[u16], i: usize) -> bool
     requires index_of { IndexOf skip list.now index.now × (0 < i) × (i < length index.now) }
     ensures { owned_first skip list.now (get_or index.now i 0) ≡ not result }
 {
-    let p = record::widened(index[i]);
+    let p = usize::from(index[i]);
     names::is_owned(
         list,
         skip,
         names::owner_at(list, skip, p),
         names::name_at(list, skip, p),
-        record::widened(index[i - 1]),
+        usize::from(index[i - 1]),
     )
 }
 
@@ -201,21 +180,12 @@ pub fn first_repeat(list: &[u8], skip: usize, index: &[u16]) -> Option<usize>
     requires index_of { IndexOf skip list.now index.now }
     ensures { result ≡ owned_repeat skip list.now }
 {
-    let mut best: usize = list.len();
-    let mut i: usize = 1;
-    while i < index.len() {
-        let p = record::widened(index[i]);
-        if p >= best {
-            i += 1;
-        } else if repeats(list, skip, index, i) {
-            best = p;
-            i += 1;
-        } else {
-            i += 1;
+    let mut best = None;
+    for i in 1..index.len() {
+        let p = usize::from(index[i]);
+        if best.is_none_or(|best| p < best) && repeats(list, skip, index, i) {
+            best = Some(p);
         }
     }
-    if best < list.len() {
-        return Some(best);
-    }
-    None
+    best
 }

@@ -1,8 +1,11 @@
 -- Laws of the order of names with owners: it is irreflexive, transitive and total. Assumes nothing.
 use Rattle.std.specs.Prelude.{ℕ, ◌+◌, ◌*◌, ◌<◌, ◌≤◌, List, [], ◌∷◌, ◌⊎◌, Bool, true, false, ◌≡◌, refl, length, get_or, drop, ltb}
 use Rattle.std.proofs.Common.{arith, add-one, inl, inr, ⊎_elim, sym, ap, ap₂, ◌∙◌, lt-ltb, le-ltb, ltb-true, ltb-false}
+use Rattle.std.proofs.lemmas.Bool.Decides.{nat_tests}
 use Rattle.std.proofs.Math.ListN.{drop_of_length-le}
 use Rattle.std.proofs.Math.Seq.{drop-cons}
+use Rattle.std.specs.Cmp.Lexicographic.{slice_cmp}
+use Rattle.std.specs.Ordering.{nat_cmp, ordering_then, is_ne}
 use Rattle.name_order.specs.Order.{then_by, numbers, order, Key, key_order}
 use Rattle.name_order.specs.EightBytes.{Bytes, more, four, high_first}
 use Rattle.std.specs.declared.cmp.Ordering.TheVariants.{Less, Equal, Greater}
@@ -149,6 +152,22 @@ key_trans a b c e f =
     (then_less (order b.0 c.0) (numbers b.1 c.1) f))
     (then_less (order a.0 b.0) (numbers a.1 b.1) e)
 
+-- ---- the same by `cmp`
+pub numbers_cmp : (x y : ℕ) → nat_cmp x y ≡ numbers x y
+numbers_cmp x y = grind (arith, nat_tests)
+
+pub order_cmp : (a b : List ℕ) → slice_cmp nat_cmp a b ≡ order a b
+unfolding order
+order_cmp [] [] = refl
+order_cmp [] (y ∷ ys) = refl
+order_cmp (x ∷ xs) [] = refl
+order_cmp (x ∷ xs) (y ∷ ys) = ap₂ ordering_then (numbers_cmp x y) (order_cmp xs ys) ∙ then_by_lem (numbers x y) (order xs ys)
+  where
+    then_by_lem : (o p : Ordering) → ordering_then o p ≡ then_by o p
+    then_by_lem Less p = refl
+    then_by_lem Equal p = refl
+    then_by_lem Greater p = refl
+
 -- ---- names from a place on
 module _ (a b : List ℕ) (i : ℕ) where
   pub order_ends : length a ≤ i → length b ≤ i → order (drop i a) (drop i b) ≡ Equal
@@ -231,3 +250,20 @@ module _ (a b : List ℕ) (i : ℕ) (h : i + 8 ≤ length a) (k : i + 8 ≤ leng
 
   pub words_more : high_first b i < high_first a i → rest i ≡ Greater
   words_more e = words ∙ ap (λ (o : Ordering). then_by o (rest (i + 8))) (numbers_more (high_first a i) (high_first b i) e)
+
+  -- what `cmp` says of eight bytes decides, or what is left does
+  pub words_differ : (o : Ordering) → o ≡ nat_cmp (high_first a i) (high_first b i) → is_ne o ≡ true → o ≡ rest i
+  words_differ o e f = decides o (rest (i + 8)) f ∙ sym (words ∙ ap (λ (o : Ordering). then_by o (rest (i + 8))) (sym (e ∙ numbers_cmp (high_first a i) (high_first b i))))
+    where
+      decides : (o p : Ordering) → is_ne o ≡ true → o ≡ then_by o p
+      decides Less p f = refl
+      decides Equal p f = cc
+      decides Greater p f = refl
+
+  pub words_same : (o : Ordering) → o ≡ nat_cmp (high_first a i) (high_first b i) → is_ne o ≡ false → rest i ≡ rest (i + 8)
+  words_same o e f = words ∙ ap (λ (o : Ordering). then_by o (rest (i + 8))) (sym (e ∙ numbers_cmp (high_first a i) (high_first b i))) ∙ passes o (rest (i + 8)) f
+    where
+      passes : (o p : Ordering) → is_ne o ≡ false → then_by o p ≡ p
+      passes Less p f = cc
+      passes Equal p f = refl
+      passes Greater p f = cc

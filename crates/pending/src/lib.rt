@@ -4,33 +4,24 @@
 ghost use Rattle.std.specs.Prelude.{◌≡◌, ◌+◌, ◌≤◌, length};
 ghost use Rattle.record.specs.Stores.{append};
 ghost use Rattle.address_label.specs.LabelBytes.{name_bytes};
-ghost use Rattle.pending.specs.PendingBytes.{kind_number, pending_bytes};
+ghost use Rattle.pending.specs.PendingBytes.{pending_bytes};
 ghost use Rattle.pending.specs.Pendings.{region_of, pending_ok, pending_layout, kind_from, pending_at};
 ghost use Rattle.pending.specs.Pendings.{PendingIs};
 
 use address_label::AddressLabel;
 use record::Location;
 
-// The record kind, and the patch kinds.
+// The record kind.
 const PENDING: u16 = 36;
 
-const BRANCH: u8 = 0;
-
-const JUMP: u8 = 1;
-
-const LOWER: u8 = 2;
-
-const UPPER: u8 = 3;
-
-const FULL: u8 = 4;
-
+// The patch kinds, by their numbers in a record.
 #[derive(Clone, Copy)]
 pub enum InstructionLabelKind {
-    Branch,
-    Jump,
-    Lower,
-    Upper,
-    Full,
+    Branch = 0,
+    Jump = 1,
+    Lower = 2,
+    Upper = 3,
+    Full = 4,
 }
 
 #[derive(Clone, Copy)]
@@ -65,45 +56,32 @@ fn region_of(list: &[u8], at: usize) -> usize
     record::half_at(list, at + 4)
 }
 
-// Whether the record at `at` is a pending of one of `regions` regions.
-fn pending_ok(list: &[u8], at: usize, regions: usize) -> bool
-    requires { at ≤ length list.now }
-    ensures { result ≡ pending_ok regions list.now at }
-{
-    if !record::whole_at(list, at) {
-        return false;
+// The layout of a list of pendings, each of one of so many regions.
+#[derive(Clone, Copy)]
+struct Pendings {
+    regions: usize,
+}
+
+impl record::Layout for Pendings {
+    ghost keeps = { λ self s at. pending_ok self.regions s at };
+
+    #[tactic(auto, unfolding(crate::specs::Pendings::pending_ok))]
+    fn keeps(&self, list: &[u8], at: usize) -> bool {
+        record::whole_at(list, at)
+            && record::half_at(list, at + 2) == usize::from(PENDING)
+            && record::half_at(list, at) >= 32
+            && region_of(list, at) < self.regions
+            && list[at + 18] <= InstructionLabelKind::Full as u8
+            && address_label::address_label_ok(list, at + 19, record::next(list, at))
     }
-    if record::half_at(list, at + 2) != PENDING as usize {
-        return false;
-    }
-    let end = record::next(list, at);
-    if end < at + 36 {
-        return false;
-    }
-    if region_of(list, at) >= regions {
-        return false;
-    }
-    if list[at + 18] > FULL {
-        return false;
-    }
-    address_label::address_label_ok(list, at + 19, end)
 }
 
 // The place of the first record that breaks the layout, or the limit.
+#[tactic(auto, unfolding(crate::specs::Pendings::pending_layout))]
 pub fn first_bad_pending(list: &[u8], regions: usize) -> Option<usize>
     ensures { result ≡ pending_layout regions list.now }
 {
-    if list.len() > record::LIMIT {
-        return Some(record::LIMIT);
-    }
-    let mut at: usize = 0;
-    while at < list.len() {
-        if !pending_ok(list, at, regions) {
-            return Some(at);
-        }
-        at = record::next(list, at);
-    }
-    None
+    record::first_bad_within(&Pendings { regions }, list)
 }
 
 #[tactic(auto, unfolding(crate::specs::Pendings::kind_from))]
@@ -111,10 +89,10 @@ fn kind_from(n: u8) -> InstructionLabelKind
     ensures { result ≡ kind_from n }
 {
     match n {
-        BRANCH => InstructionLabelKind::Branch,
-        JUMP => InstructionLabelKind::Jump,
-        LOWER => InstructionLabelKind::Lower,
-        UPPER => InstructionLabelKind::Upper,
+        0 => InstructionLabelKind::Branch,
+        1 => InstructionLabelKind::Jump,
+        2 => InstructionLabelKind::Lower,
+        3 => InstructionLabelKind::Upper,
         _ => InstructionLabelKind::Full,
     }
 }
@@ -139,32 +117,17 @@ pub fn read_pending(list: &[u8], at: usize) -> Pending
     }
 }
 
-fn kind_number(kind: InstructionLabelKind) -> u8
-    ensures { result ≡ kind_number kind }
-{
-    match kind {
-        InstructionLabelKind::Branch => BRANCH,
-        InstructionLabelKind::Jump => JUMP,
-        InstructionLabelKind::Lower => LOWER,
-        InstructionLabelKind::Upper => UPPER,
-        InstructionLabelKind::Full => FULL,
-    }
-}
-
 // One pending record from `at` on. The label's name is a part of `names`.
 pub fn put_pending(d: &mut [u8], names: &[u8], at: usize, origin: Origin, waits: InstructionLabel)
     requires { at + 36 + length (name_bytes names.now waits.label) ≤ length d.old }
     ensures { d.new ≡ append d.old at (pending_bytes names.now origin waits) }
 {
-    let kind = waits.kind;
-    let label = waits.label;
-    let location = origin.location;
-    let name = address_label::name_of(names, label);
+    let name = address_label::name_of(names, waits.label);
     let body = (32 + name.len()) % 0x1_0000;
-    record::put_head(&mut *d, at, body as u16, PENDING);
-    record::put16(&mut *d, at + 4, origin.region);
-    record::put32(&mut *d, at + 6, origin.offset);
-    record::put_location(&mut *d, at + 10, location);
-    d[at + 18] = kind_number(kind);
-    address_label::put_label(&mut *d, names, at + 19, label);
+    record::put_head(d, at, body as u16, PENDING);
+    record::put16(d, at + 4, origin.region);
+    record::put32(d, at + 6, origin.offset);
+    record::put_location(d, at + 10, origin.location);
+    d[at + 18] = waits.kind as u8;
+    address_label::put_label(d, names, at + 19, waits.label);
 }

@@ -3,3 +3,4 @@ pub mod BytesLaws
 pub mod OneMoreLaws
 pub mod RecordsLaws
 pub mod StoresLaws
+pub mod WalkLaws

@@ -1,8 +1,9 @@
 -- Laws of appended bytes: one append after the other, and what stores leave. Assumes nothing.
 use Rattle.std.specs.Prelude.{ℕ, suc, ◌+◌, ◌≤◌, ◌≡◌, List, [], ◌∷◌, ◌++◌, length, take, drop, set}
-use Rattle.std.proofs.Common.{add-zero, add-one, arith, sym, ap, ap₂, ◌∙◌, append_assoc, append-nil, take-append-drop, length-append, length-take, drop-drop, take_at}
+use Rattle.std.proofs.Common.{add-one, add-zero, arith, sym, ap, ap₂, ◌∙◌, append_assoc, append-nil, take-append-drop, length-append, length-take, drop-drop, take_at}
 use Rattle.std.proofs.lemmas.List.Edits.{sets-eq}
 use Rattle.std.proofs.Math.Seq.{drop-append-add}
+use borrow.Rule.Slice.PartMut.{put_mid}
 use Rattle.record.specs.Stores.{append, filled_with}
 
 -- ---- appends
@@ -52,3 +53,9 @@ four_stores d at b₀ b₁ b₂ b₃ h =
     let e2 : at + 2 ≡ suc (suc at) = omega arith in
     let e3 : at + 3 ≡ suc (suc (suc at)) = omega arith in
     rw (e1, e2, e3) (sets-eq (b₀ ∷ b₁ ∷ b₂ ∷ b₃ ∷ []) d at h)
+
+-- ---- a part that is written whole, as `d[at..at + n].copy_from_slice(bs)` does
+pub append_put : (d : List ℕ) (at n : ℕ) (bs : List ℕ) {new : List ℕ} → new ≡ bs → n ≡ length bs → put_mid at n d new ≡ append d at bs
+unfolding append
+append_put d at n bs {new} e h =
+    rw (e, h) (ap (λ (rest : List ℕ). take at d ++ (bs ++ rest)) (drop-drop (length bs) at d) ∙ sym (append_assoc (take at d) bs (drop (at + length bs) d)))

@@ -1,5 +1,5 @@
 -- Laws of regions: what a layout that is kept says of each region, that regions stand one after another, that a change within one region's data moves none, and where a layout breaks. Assumes nothing.
-use Rattle.std.specs.Prelude.{ℕ, zero, suc, ◌+◌, ◌-◌, ◌≤◌, ◌<◌, List, [], ◌∷◌, Bool, true, false, ◌&&◌, ◌⊎◌, ◌≡◌, refl, length, get_or, leb, eqb, ltb, None, Some}
+use Rattle.std.specs.Prelude.{ℕ, zero, suc, ◌+◌, ◌≤◌, ◌<◌, List, [], ◌∷◌, Bool, true, false, ◌&&◌, ◌⊎◌, ◌≡◌, refl, length, get_or, leb, eqb, ltb, None, Some}
 use Rattle.std.proofs.Common.{add-one, arith, inl, inr, ⊎_elim, sym, ap, ◌∙◌, leb-true, ltb-true, ltb-false}
 use Rattle.std.proofs.Math.Bool.{and-eq-true_iff}
 use Rattle.record.specs.Bytes.{byte_at, le16}

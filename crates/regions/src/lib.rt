@@ -4,7 +4,6 @@
 ghost use Rattle.std.specs.Prelude.{◌≡◌, ◌≤◌, ◌<◌, length};
 ghost use Rattle.regions.specs.Regions.{region_ok, region_layout, region_count, region_place, region_at};
 
-
 // The record kind.
 const REGION: usize = 35;
 
@@ -20,17 +19,14 @@ pub struct Region {
 }
 
 // Whether the record at `at` is a region.
+#[tactic(auto, unfolding(crate::specs::Regions::region_ok))]
 fn region_ok(regions: &[u8], at: usize) -> bool
     requires { at ≤ length regions.now }
     ensures { result ≡ region_ok regions.now at }
 {
-    if !record::whole_at(regions, at) {
-        return false;
-    }
-    if record::half_at(regions, at + 2) != REGION {
-        return false;
-    }
-    4 <= record::half_at(regions, at)
+    record::whole_at(regions, at)
+        && record::half_at(regions, at + 2) == REGION
+        && record::half_at(regions, at) >= 4
 }
 
 // The place of the first record that breaks the layout, the list's end where there is none, or the limit.
@@ -40,20 +36,13 @@ pub fn first_bad_region(regions: &[u8]) -> Option<usize>
     if regions.len() > record::LIMIT {
         return Some(record::LIMIT);
     }
-    if regions.len() == 0 {
+    if regions.is_empty() {
         return Some(0);
     }
-    let mut left: usize = MOST;
-    let mut at: usize = 0;
-    while at < regions.len() {
-        if left == 0 {
+    for (n, at) in record::places(regions).enumerate() {
+        if n >= MOST || !region_ok(regions, at) {
             return Some(at);
         }
-        if !region_ok(regions, at) {
-            return Some(at);
-        }
-        at = record::next(regions, at);
-        left = left - 1;
     }
     None
 }
@@ -62,13 +51,7 @@ pub fn region_count(regions: &[u8]) -> usize
     requires { region_layout regions.now ≡ None }
     ensures { (result ≡ region_count regions.now) × (result ≤ 16) }
 {
-    let mut count: usize = 0;
-    let mut at: usize = 0;
-    while at < regions.len() {
-        at = record::next(regions, at);
-        count = count + 1;
-    }
-    count
+    record::places(regions).count()
 }
 
 // The region of that number.
@@ -77,11 +60,9 @@ pub fn region_at(regions: &[u8], number: usize) -> Region
     requires number_bound { number < region_count regions.now }
     ensures { result ≡ region_at regions.now (region_place regions.now number) }
 {
-    let mut n: usize = 0;
-    let mut at: usize = 0;
-    while n < number {
+    let mut at = 0;
+    for _ in 0..number {
         at = record::next(regions, at);
-        n = n + 1;
     }
     let address = record::word_at(regions, at + 4);
     let size = record::half_at(regions, at) - 4;

@@ -1,5 +1,6 @@
 use Rattle.std.specs.Prelude.{Some}
-use Rattle.std.proofs.Common.{◌≡◌, true, sym, ap, ◌∙◌, arith}
+use Rattle.std.proofs.Common.{◌≡◌, length, true, eqb-true, sym, ap, ◌∙◌, arith}
+use Rattle.std.proofs.lemmas.Bool.{eqb-false}
 use Rattle.record.specs.Records.{next, places_from, first_bad_of}
 use Rattle.record.proofs.RecordsLaws.{of_end, of_past, of_bad, of_next}
 use Rattle.address_label.specs.Entries.{entry_ok, entry_layout}
@@ -18,15 +19,15 @@ rest c =
 pub returns-then-entry-gt-LIMIT : goal.returns-then-entry-gt-LIMIT
 returns-then-entry-gt-LIMIT c = sym (entry_passed _ c.if-entry-gt-LIMIT.true)
 
-pub returns-then-entry-eq0 : goal.returns-then-entry-eq0
-returns-then-entry-eq0 c =
+pub returns-then-is_empty : goal.returns-then-is_empty
+returns-then-is_empty c =
     let s = c.args.entry.now in
-    sym (entry_kept s c.if-entry-gt-LIMIT.false ∙ of_end 1 (entry_ok s) s 0 (omega arith))
+    sym (entry_kept s c.if-entry-gt-LIMIT.false ∙ of_end 1 (entry_ok s) s 0 (omega (arith, eqb-true (length c.args.entry.now) 0 (sym c.if-is_empty.ensures))))
 
 pub returns-then-not-entry_ok : goal.returns-then-not-entry_ok
 returns-then-not-entry_ok c =
     let s = c.args.entry.now in
-    sym (entry_kept s c.if-entry-gt-LIMIT.false ∙ of_bad 0 (entry_ok s) s 0 (omega (arith, c.if-entry-eq0.false)) (sym c.entry_ok.ensures ∙ c.if-not-entry_ok.true))
+    sym (entry_kept s c.if-entry-gt-LIMIT.false ∙ of_bad 0 (entry_ok s) s 0 (omega (arith, eqb-false (length c.args.entry.now) 0 (sym c.if-is_empty.ensures))) (sym c.entry_ok.ensures ∙ c.if-not-entry_ok.true))
 
 pub next-end-requires : goal.next-end-requires
 next-end-requires c = omega (arith, entry_is c.args.entry.now 0 (sym c.entry_ok.ensures ∙ c.if-not-entry_ok.false))
@@ -37,7 +38,7 @@ returns-then-end-entry c =
     let e = c.next-end.ensures.0 in
     sym (rest (goal.at.returns-then-end-entry c).After-next-end ∙ of_past (entry_ok s) s (next s 0) (omega (arith, e)) ∙ ap Some (sym e))
 
-pub returns : goal.returns
-returns c =
+pub returns-else-end-entry : goal.returns-else-end-entry
+returns-else-end-entry c =
     let s = c.args.entry.now in
-    sym (rest (goal.at.returns c).After-next-end ∙ of_end 0 (entry_ok s) s (next s 0) (omega (arith, c.next-end.ensures.0)))
+    sym (rest (goal.at.returns-else-end-entry c).After-next-end ∙ of_end 0 (entry_ok s) s (next s 0) (omega (arith, c.next-end.ensures.0)))

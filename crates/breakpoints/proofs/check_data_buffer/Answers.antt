@@ -1,7 +1,7 @@
 use Rattle.std.proofs.Common.{sym, ◌∙◌}
 use Rattle.breakpoints.proofs.BreakpointsLaws.{data_layout, data_refused, number_region, number_none, number_other}
 use Rattle.breakpoints.proofs.check_data_buffer.Goals as goal
-use Rattle.breakpoints.proofs.check_data_buffer.Goals.{then-region-gt15+else-region-ne65535, else-region-gt15}
+use Rattle.breakpoints.proofs.check_data_buffer.Goals.{else-region-gt15-via-then-region-gt15+else-region-ne65535, else-region-gt15-via-else-region-gt15}
 
 pub returns-then-region-ne65535 : goal.returns-then-region-ne65535
 returns-then-region-ne65535 c =
@@ -14,7 +14,7 @@ returns c =
     c.filled.ensures
     ∙ sym
     (data_layout a.fill a.buffer.now a.region
-    (elim c.if-region-gt15.branch [
-      | then-region-gt15+else-region-ne65535 w ↦ number_none a.region w.if-region-gt15.true w.if-region-ne65535.false
-      | else-region-gt15 w ↦ number_region a.region w.if-region-gt15.false
+    (elim c.else-region-gt15.branch [
+      | else-region-gt15-via-then-region-gt15+else-region-ne65535 w ↦ number_none a.region w.if-region-gt15.true w.if-region-ne65535.false
+      | else-region-gt15-via-else-region-gt15 w ↦ number_region a.region w.if-region-gt15.false
     ]))

@@ -7,19 +7,17 @@ use Rattle.breakpoints.proofs.put_breakpoint.Goals as goal
 
 pub loop-i-init : goal.loop-i-init
 unfolding pcs_bytes
-loop-i-init c = (omega arith, append_none _ _)
+loop-i-init c = append_none _ _
 
 pub loop-i-preserved : goal.loop-i-preserved
 loop-i-preserved c =
     let at = c.args.at in
     let pc = c.args.pcs.first in
     let l = c.loop-i in
-    let h = c.put_location.new.d in (
-      omega arith,
-      append_then h (at + 12) (pcs_bytes l.i pc) (at + 12 + 4 * l.i) (le32_bytes (pc + 4 * l.i)) l.invariant.1 c.put32.ensures
-          (omega (arith, pcs_length l.i pc)) (omega arith)
-          ∙ ap (append h (at + 12)) (sym (pcs_next l.i pc (pc + 4 * l.i) refl)),
-    )
+    let h = c.put_location.new.d in
+    append_then h (at + 12) (pcs_bytes l.i pc) (at + 12 + 4 * l.i) (le32_bytes (pc + 4 * l.i)) l.invariant c.put32.ensures
+    (omega (arith, pcs_length l.i pc)) (omega arith)
+    ∙ ap (append h (at + 12)) (sym (pcs_next l.i pc (pc + 4 * l.i) refl))
 
 pub returns : goal.returns
 returns c =
@@ -29,7 +27,7 @@ returns c =
     let n = a.pcs.count in
     let h = c.put_location.new.d in
     let i : c.loop-i.i ≡ n = omega arith in
-    let pcs : c.loop-i.d ≡ append h (a.at + 12) (pcs_bytes n pc) = c.loop-i.invariant.1 ∙ ap (λ (k : ℕ). append h (a.at + 12) (pcs_bytes k pc)) i in
+    let pcs : c.loop-i.d ≡ append h (a.at + 12) (pcs_bytes n pc) = c.loop-i.invariant ∙ ap (λ (k : ℕ). append h (a.at + 12) (pcs_bytes k pc)) i in
     let e3 = append_then d a.at (le16_bytes (8 + 4 * n) ++ le16_bytes 37) (a.at + 4) (location_bytes a.location) c.put_head.ensures c.put_location.ensures (omega arith) (omega arith) in
     let e4 = append_then d a.at _ (a.at + 12) (pcs_bytes n pc) e3 pcs (omega arith) (omega (arith, pcs_length n pc)) in
     let body : List ℕ = location_bytes a.location ++ pcs_bytes n pc in

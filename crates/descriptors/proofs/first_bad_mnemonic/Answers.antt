@@ -1,5 +1,6 @@
 use Rattle.std.specs.Prelude.{Some}
-use Rattle.std.proofs.Common.{List, ℕ, true, ◌≡◌, ◌<◌, ◌≤◌, length, sym, ap, ◌∙◌, arith}
+use Rattle.std.proofs.Common.{List, ℕ, true, ◌≡◌, ◌<◌, ◌≤◌, length, sym, ap, ◌∙◌, arith, eqb-true}
+use Rattle.std.proofs.lemmas.Bool.{eqb-false}
 use Rattle.record.specs.Records.{next, places_from, first_bad_of, limit}
 use Rattle.record.proofs.RecordsLaws.{of_end, of_past, of_bad, of_next}
 use Rattle.descriptors.specs.Mnemonics.{mnemonic_ok, mnemonic_layout}
@@ -13,13 +14,13 @@ rest s h k e = mnemonic_some s h k ∙ of_next 0 (mnemonic_ok s) s 0 h e (mnemon
 pub returns-then-list-gt-LIMIT : goal.returns-then-list-gt-LIMIT
 returns-then-list-gt-LIMIT c = sym (mnemonic_passed c.args.list.now c.if-list-gt-LIMIT.true)
 
-pub returns-then-list-eq0 : goal.returns-then-list-eq0
-returns-then-list-eq0 c = sym (mnemonic_none c.args.list.now c.if-list-eq0.true)
+pub returns-then-is_empty : goal.returns-then-is_empty
+returns-then-is_empty c = sym (mnemonic_none c.args.list.now (eqb-true _ 0 (sym c.if-is_empty.ensures)))
 
 pub returns-then-not-mnemonic_ok : goal.returns-then-not-mnemonic_ok
 returns-then-not-mnemonic_ok c =
     let s = c.args.list.now in
-    sym (mnemonic_some s (omega arith) c.if-list-gt-LIMIT.false ∙ of_bad 0 (mnemonic_ok s) s 0 (omega arith) (sym c.if-not-mnemonic_ok.ensures))
+    sym (mnemonic_some s (omega (arith, eqb-false (length s) 0 (sym c.if-is_empty.ensures))) c.if-list-gt-LIMIT.false ∙ of_bad 0 (mnemonic_ok s) s 0 (omega (arith, eqb-false (length s) 0 (sym c.if-is_empty.ensures))) (sym c.if-not-mnemonic_ok.ensures))
 
 pub next-end-requires : goal.next-end-requires
 next-end-requires c = omega (arith, mnemonic_is c.args.list.now 0 (sym c.if-not-mnemonic_ok.ensures))
@@ -28,9 +29,9 @@ pub returns-then-end-list : goal.returns-then-end-list
 returns-then-end-list c =
     let s = c.args.list.now in
     let e = c.next-end.ensures.0 in
-    sym (rest s (omega arith) c.if-list-gt-LIMIT.false (sym c.if-not-mnemonic_ok.ensures) ∙ of_past (mnemonic_ok s) s (next s 0) (omega arith) ∙ ap Some (sym e))
+    sym (rest s (omega (arith, eqb-false (length s) 0 (sym c.if-is_empty.ensures))) c.if-list-gt-LIMIT.false (sym c.if-not-mnemonic_ok.ensures) ∙ of_past (mnemonic_ok s) s (next s 0) (omega arith) ∙ ap Some (sym e))
 
-pub returns : goal.returns
-returns c =
+pub returns-else-end-list : goal.returns-else-end-list
+returns-else-end-list c =
     let s = c.args.list.now in
-    sym (rest s (omega arith) c.if-list-gt-LIMIT.false (sym c.if-not-mnemonic_ok.ensures) ∙ of_end 0 (mnemonic_ok s) s (next s 0) (omega arith))
+    sym (rest s (omega (arith, eqb-false (length s) 0 (sym c.if-is_empty.ensures))) c.if-list-gt-LIMIT.false (sym c.if-not-mnemonic_ok.ensures) ∙ of_end 0 (mnemonic_ok s) s (next s 0) (omega arith))

@@ -1,4 +1,6 @@
-use Rattle.std.proofs.Common.{ℕ, ◌+◌, ◌-◌, ◌≡◌, ◌≤◌, take, drop, map, length, sym, ap, ◌∙◌, arith, length-drop, length-set, get_or-drop}
+use Rattle.std.specs.Char.{to_ascii_lowercase}
+use Rattle.std.proofs.lemmas.Bool.Decides.{nat_tests}
+use Rattle.std.proofs.Common.{ℕ, ◌+◌, ◌-◌, ◌≡◌, ◌≤◌, take, drop, map, length, sym, ap, ◌∙◌, arith, length-drop, length-set, get_or, get_or-drop}
 use Rattle.record.specs.Records.{body_len}
 use Rattle.descriptors.specs.Mnemonics.{lower, mnemonic_name}
 use Rattle.descriptors.proofs.MnemonicsLaws.{mnemonic_good, lowered_next, zero_next}
@@ -11,6 +13,10 @@ room : (c : After-half_at-len) → let s = c.args.list.now in
 room c =
     let m = mnemonic_good c.args.list.now c.requires in
     (c.half_at-len.ensures.0, omega arith, omega arith, omega arith)
+
+-- std's lower case is the papers'
+lowered : (b : ℕ) → to_ascii_lowercase b ≡ lower b
+lowered b = grind (arith, nat_tests)
 
 pub half_at-len-requires : goal.half_at-len-requires
 half_at-len-requires c = omega (arith, mnemonic_good c.args.list.now c.requires)
@@ -31,15 +37,14 @@ pub loop-i-preserved : goal.loop-i-preserved
 loop-i-preserved c =
     let bytes = c.loop-i.bytes in
     let i = c.loop-i.i in
-    let b = c.lower_byte.result in
+    let b = c.to_ascii_lowercase.result in
     let s = c.args.list.now in
     let r = room (goal.at.loop-i-preserved c).After-half_at-len in
     record {
-      within = omega arith;
       size = length-set bytes i b ∙ c.loop-i.invariant.size;
       lowered =
           lowered_next bytes (drop 12 s) i b (omega arith) (omega (arith, length-drop 12 s)) c.loop-i.invariant.lowered
-          (c.lower_byte.ensures ∙ ap lower (sym (get_or-drop 12 s i 0)));
+          (c.to_ascii_lowercase.ensures.value ∙ lowered (get_or s (12 + i) 0) ∙ ap lower (sym (get_or-drop 12 s i 0)));
       zeros = zero_next bytes i b c.loop-i.invariant.zeros;
     }
 

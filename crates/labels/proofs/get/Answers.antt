@@ -1,7 +1,7 @@
-use Rattle.std.specs.Prelude.{None, Some}
-use Rattle.std.proofs.Common.{ℕ, ◌≡◌, ◌≤◌, sym, ap, ◌∙◌, arith}
+use Rattle.std.specs.Prelude.{Some}
+use Rattle.std.proofs.Common.{ℕ, ◌≡◌, ◌≤◌, sym, ap, ◌∙◌, rules}
 use Rattle.name_index.specs.declared.Looked.{Looked}
-use Rattle.labels.specs.Labels.{labelled}
+use Rattle.labels.specs.Labels.{labelled, address_of}
 use Rattle.labels.proofs.LabelsLaws.{LabelIs, found_label, resolve_is}
 use Rattle.labels.specs.Lookup.{looked_up}
 use Rattle.labels.proofs.LookupLaws.{looked_up_lem, few_compared}
@@ -22,18 +22,11 @@ counted c =
 found : (c : After-look_up-looked) (p : ℕ) → c.look_up-looked.result.named ≡ Some p → LabelIs c.args.labels.now p
 found c p e = found_label c.args.labels.now c.args.source c.args.name.now p c.requires.layout (sym (scanned c) ∙ e)
 
-pub overflow_add-at : goal.overflow_add-at
-overflow_add-at c = omega (arith, found (goal.at.overflow_add-at c).After-look_up-looked _ c.in-Some.is)
+pub map-requires : goal.map-requires
+map-requires c = λ x e. let l = found (goal.at.map-requires c).After-look_up-looked x e in search rules
 
-pub word_at-requires : goal.word_at-requires
-word_at-requires c = omega (arith, found (goal.at.word_at-requires c).After-look_up-looked _ c.in-Some.is)
-
-pub returns-in-Some : goal.returns-in-Some
-returns-in-Some c =
-    let l = (goal.at.returns-in-Some c).After-look_up-looked in
-    (ap Some c.word_at.ensures ∙ sym (resolve_is _ _ _ (Some c.in-Some.at) (sym c.in-Some.is ∙ scanned l)), (counted l).0, (counted l).1)
-
-pub returns-in-None : goal.returns-in-None
-returns-in-None c =
-    let l = (goal.at.returns-in-None c).After-look_up-looked in
-    (sym (resolve_is _ _ _ None (sym c.in-None.is ∙ scanned l)), (counted l).0, (counted l).1)
+pub returns : goal.returns
+returns c =
+    let l = (goal.at.returns c).After-look_up-looked in
+    let n : c.map.result ≡ address_of c.args.labels.now c.look_up-looked.result.named = search rules in
+    (n ∙ sym (resolve_is _ _ _ _ (scanned l)), (counted l).0, (counted l).1)

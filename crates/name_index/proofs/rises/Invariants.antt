@@ -1,10 +1,16 @@
-use Rattle.std.proofs.Common.{length, ◌-◌}
-use Rattle.name_index.proofs.RiseLaws.{Passed}
+use Rattle.std.specs.Prelude.{None}
+use Rattle.std.proofs.Common.{true, ◌∷◌, ◌≡◌}
+use Rattle.record.specs.Records.{first_bad}
+use Rattle.record.specs.Left.{places_left}
+use Rattle.names.specs.Owners.{has_owned_name}
+use Rattle.name_sort.specs.Sorting.{in_order}
+use Rattle.name_index.specs.Index.{below, names_rise}
 use Rattle.name_index.proofs.rises.Given as goal
 
 -- the names rise where they do from the record at `last` on
 abbrev pub invariant-loop-at : goal.invariant-loop-at
-invariant-loop-at l = Passed l.skip l.list l.last l.at
-
-abbrev pub decreases-loop-at : goal.decreases-loop-at
-decreases-loop-at l = length l.list - l.at
+invariant-loop-at l = record {
+  last_named : has_owned_name l.skip l.list l.last ≡ true;
+  named : first_bad (has_owned_name l.skip l.list) (places_left l.at-iterator) ≡ None;
+  rest : names_rise l.skip l.list ≡ in_order (below l.skip l.list) (l.last ∷ places_left l.at-iterator);
+}

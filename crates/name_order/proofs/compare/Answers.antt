@@ -1,21 +1,24 @@
-use Rattle.std.proofs.Common.{sym, ◌∙◌, arith}
-use Rattle.name_order.proofs.OrderLaws.{words_next, words_less, words_more}
+use Rattle.std.proofs.Common.{ℕ, ◌≡◌, ◌+◌, ◌*◌, ◌/◌, drop, sym, ap, ◌∙◌, arith}
+use Rattle.std.proofs.lemmas.List.{take_rest}
+use Rattle.name_order.specs.Order.{order}
+use Rattle.name_order.proofs.OrderLaws.{order_cmp, words_differ, words_same}
 use Rattle.name_order.proofs.compare.Goals as goal
 
-pub returns-then-x-y-2 : goal.returns-then-x-y-2
-returns-then-x-y-2 c =
-    let x = c.high_first-x.ensures in
-    let y = c.high_first-y.ensures in
-    sym (c.loop-i.invariant.1 ∙ words_less _ _ c.loop-i.i (omega arith) (omega arith) x.1 y.1 (omega (arith, x.0, y.0, c.if-x-y-2.true)))
-
-pub returns-then-x-y : goal.returns-then-x-y
-returns-then-x-y c =
-    let x = c.high_first-x.ensures in
-    let y = c.high_first-y.ensures in
-    sym (c.loop-i.invariant.1 ∙ words_more _ _ c.loop-i.i (omega arith) (omega arith) x.1 y.1 (omega (arith, x.0, y.0, c.if-x-y-2.false, c.if-x-y.true)))
+pub returns-then-is_ne : goal.returns-then-is_ne
+returns-then-is_ne c =
+    let x = c.high_first.ensures in
+    let y = c.high_first-in-loop-i.ensures in
+    words_differ _ _ (8 * c.loop-i.i) (omega arith) (omega arith) x.1 y.1 c.cmp-found.result (cc) (cc) ∙ sym c.loop-i.invariant
 
 pub loop-i-preserved : goal.loop-i-preserved
 loop-i-preserved c =
-    let x = c.high_first-x.ensures in
-    let y = c.high_first-y.ensures in
-    (omega arith, c.loop-i.invariant.1 ∙ words_next _ _ c.loop-i.i (omega arith) (omega arith) x.1 y.1 (sym x.0 ∙ c.if-x-y.false ∙ y.0))
+    let x = c.high_first.ensures in
+    let y = c.high_first-in-loop-i.ensures in
+    let e : 8 * (c.loop-i.i + 1) ≡ 8 * c.loop-i.i + 8 = omega arith in
+    rw e (c.loop-i.invariant ∙ words_same _ _ (8 * c.loop-i.i) (omega arith) (omega arith) x.1 y.1 c.cmp-found.result (cc) (cc))
+
+pub returns : goal.returns
+returns c =
+    let inv = c.loop-i.invariant in
+    let i : c.loop-i.i ≡ c.min-eights.result / 8 = omega arith in
+    simp take_rest at c.cmp.ensures ∙ order_cmp _ _ ∙ ap (λ (i : ℕ). order (drop (8 * i) c.args.a.now) (drop (8 * i) c.args.b.now)) (sym i) ∙ sym inv

@@ -6,37 +6,37 @@ use Rattle.regions.proofs.RegionsLaws.{RegionIs, region_is, region_place_ok, pla
 use Rattle.regions.proofs.region_at.Goals as goal
 
 -- the record at `at` is a region
-region : (s : List ℕ) (n number at : ℕ) → region_layout s ≡ None → number < region_count s → (n ≤ number) × (at ≡ region_place s n) → RegionIs s at
-region s n number at g h i = rw i.1 (region_is s (region_place s n) (region_place_ok s n g (omega arith)))
+region : (s : List ℕ) (n number at : ℕ) → region_layout s ≡ None → number < region_count s → n ≤ number → at ≡ region_place s n → RegionIs s at
+region s n number at g h i e = rw e (region_is s (region_place s n) (region_place_ok s n g (omega arith)))
 
-pub loop-n-init : goal.loop-n-init
-loop-n-init c = (omega arith, sym (place_first _))
+pub loop-init : goal.loop-init
+loop-init c = sym (place_first _)
 
 pub next-at-requires : goal.next-at-requires
-next-at-requires c = omega (arith, region _ c.loop-n.n _ _ c.requires.regions_value c.requires.number_bound c.loop-n.invariant)
+next-at-requires c = omega (arith, region _ c.loop.counter _ _ c.requires.regions_value c.requires.number_bound (omega arith) c.loop.invariant)
 
-pub loop-n-preserved : goal.loop-n-preserved
-loop-n-preserved c =
+pub loop-preserved : goal.loop-preserved
+loop-preserved c =
     let s = c.args.regions.now in
-    (omega arith, rw c.next-at.ensures.0 (ap (next s) c.loop-n.invariant.1 ∙ sym (place_after s c.loop-n.n (omega arith))))
+    rw c.next-at.ensures.0 (ap (next s) c.loop.invariant ∙ sym (place_after s c.loop.counter (omega arith)))
 
 pub overflow_add-at : goal.overflow_add-at
-overflow_add-at c = omega (arith, region _ c.loop-n.n _ _ c.requires.regions_value c.requires.number_bound c.loop-n.invariant)
+overflow_add-at c = omega (arith, region _ c.loop.counter _ _ c.requires.regions_value c.requires.number_bound (omega arith) c.loop.invariant)
 
 pub word_at-address-requires : goal.word_at-address-requires
-word_at-address-requires c = omega (arith, region _ c.loop-n.n _ _ c.requires.regions_value c.requires.number_bound c.loop-n.invariant)
+word_at-address-requires c = omega (arith, region _ c.loop.counter _ _ c.requires.regions_value c.requires.number_bound (omega arith) c.loop.invariant)
 
 pub half_at-size-requires : goal.half_at-size-requires
-half_at-size-requires c = omega (arith, region _ c.loop-n.n _ _ c.requires.regions_value c.requires.number_bound c.loop-n.invariant)
+half_at-size-requires c = omega (arith, region _ c.loop.counter _ _ c.requires.regions_value c.requires.number_bound (omega arith) c.loop.invariant)
 
 pub overflow_sub-size : goal.overflow_sub-size
-overflow_sub-size c = omega (arith, c.half_at-size.ensures.0, region _ c.loop-n.n _ _ c.requires.regions_value c.requires.number_bound c.loop-n.invariant)
+overflow_sub-size c = omega (arith, c.half_at-size.ensures.0, region _ c.loop.counter _ _ c.requires.regions_value c.requires.number_bound (omega arith) c.loop.invariant)
 
 pub overflow_add-result : goal.overflow_add-result
-overflow_add-result c = omega (arith, region _ c.loop-n.n _ _ c.requires.regions_value c.requires.number_bound c.loop-n.invariant)
+overflow_add-result c = omega (arith, region _ c.loop.counter _ _ c.requires.regions_value c.requires.number_bound (omega arith) c.loop.invariant)
 
 pub returns : goal.returns
 returns c =
     let s = c.args.regions.now in
-    let e : c.loop-n.n ≡ c.args.number = omega arith in
-    rw (c.word_at-address.ensures, c.half_at-size.ensures.0) (ap (region_at s) (c.loop-n.invariant.1 ∙ ap (region_place s) e))
+    let e : c.loop.counter ≡ c.args.number = omega arith in
+    rw (c.word_at-address.ensures, c.half_at-size.ensures.0) (ap (region_at s) (c.loop.invariant ∙ ap (region_place s) e))
