@@ -103,24 +103,19 @@ pub fn inputs_word(op: Opcode, source: RegisterSlot, temp: RegisterSlot) -> u32
 pub fn register_word(op: Opcode, fields: RegisterFields) -> u32
     ensures { result ≡ register_word op (register_number fields.dest) (register_number fields.source) (register_number fields.temp) }
 {
-    let dest = fields.dest;
-    let source = fields.source;
-    let temp = fields.temp;
     InstructionBuilder::from_op(op)
-        .with_dest(dest)
-        .with_source(source)
-        .with_temp(temp)
+        .with_dest(fields.dest)
+        .with_source(fields.source)
+        .with_temp(fields.temp)
         .finish()
 }
 
 pub fn sham_word(op: Opcode, fields: ShamFields) -> u32
     ensures { result ≡ sham_word op (register_number fields.dest) (register_number fields.temp) fields.sham }
 {
-    let dest = fields.dest;
-    let temp = fields.temp;
     InstructionBuilder::from_op(op)
-        .with_dest(dest)
-        .with_temp(temp)
+        .with_dest(fields.dest)
+        .with_temp(fields.temp)
         .with_sham(fields.sham)
         .finish()
 }
@@ -128,23 +123,20 @@ pub fn sham_word(op: Opcode, fields: ShamFields) -> u32
 pub fn immediate_word(op: Opcode, fields: ImmediateFields) -> u32
     ensures { result ≡ immediate_word op (register_number fields.source) (register_number fields.temp) fields.immediate }
 {
-    let source = fields.source;
-    let temp = fields.temp;
     InstructionBuilder::from_op(op)
-        .with_source(source)
-        .with_temp(temp)
+        .with_source(fields.source)
+        .with_temp(fields.temp)
         .with_immediate(fields.immediate)
         .finish()
 }
 
+// Beside immediate_word, as the Rust has it: the builder's methods for the two files of registers are apart.
 pub fn fp_immediate_word(op: Opcode, fields: FPImmediateFields) -> u32
     ensures { result ≡ immediate_word op (register_number fields.source) (fp_register_number fields.temp) fields.immediate }
 {
-    let source = fields.source;
-    let temp = fields.temp;
     InstructionBuilder::from_op(op)
-        .with_source(source)
-        .with_fp_temp(temp)
+        .with_source(fields.source)
+        .with_fp_temp(fields.temp)
         .with_immediate(fields.immediate)
         .finish()
 }
@@ -161,13 +153,10 @@ pub fn load_immediate_word(op: Opcode, temp: RegisterSlot, imm: u16) -> u32
 pub fn fp_3_register_word(op: Opcode, fmt: Format, fields: FP3Fields) -> u32
     ensures { result ≡ fp3_word op fmt (fp_register_number fields.dest) (fp_register_number fields.source) (fp_register_number fields.temp) }
 {
-    let dest = fields.dest;
-    let source = fields.source;
-    let temp = fields.temp;
     InstructionBuilder::from_op(op)
-        .with_fp_dest(dest)
-        .with_fp_source(source)
-        .with_fp_temp(temp)
+        .with_fp_dest(fields.dest)
+        .with_fp_source(fields.source)
+        .with_fp_temp(fields.temp)
         .with_fp_fmt(fmt)
         .finish()
 }
@@ -175,11 +164,9 @@ pub fn fp_3_register_word(op: Opcode, fmt: Format, fields: FP3Fields) -> u32
 pub fn fp_2_register_word(op: Opcode, fmt: Format, fields: FP2Fields) -> u32
     ensures { result ≡ fp2_word op fmt (fp_register_number fields.dest) (fp_register_number fields.source) }
 {
-    let dest = fields.dest;
-    let source = fields.source;
     InstructionBuilder::from_op(op)
-        .with_fp_dest(dest)
-        .with_fp_source(source)
+        .with_fp_dest(fields.dest)
+        .with_fp_source(fields.source)
         .with_fp_fmt(fmt)
         .finish()
 }
@@ -188,20 +175,16 @@ pub fn fp_2_register_word(op: Opcode, fmt: Format, fields: FP2Fields) -> u32
 fn code_bits(code: u64, flag: bool) -> u8
     ensures { result ≡ code_bits code flag }
 {
-    let bits = (code % 64 * 4) as u8;
-    if flag { bits + 1 } else { bits }
+    (code % 64 * 4) as u8 + u8::from(flag)
 }
 
 pub fn fp_move_word(op: Opcode, fmt: Format, fields: FPMoveFields) -> u32
     ensures { result ≡ fp_move_word op fmt (fp_register_number fields.dest) (fp_register_number fields.source) fields.code fields.flag }
 {
-    let dest = fields.dest;
-    let source = fields.source;
-    let bits = code_bits(fields.code, fields.flag);
     InstructionBuilder::from_op(op)
-        .with_fp_dest(dest)
-        .with_fp_source(source)
-        .with_fp_temp_value(bits)
+        .with_fp_dest(fields.dest)
+        .with_fp_source(fields.source)
+        .with_fp_temp_value(code_bits(fields.code, fields.flag))
         .with_fp_fmt(fmt)
         .finish()
 }
@@ -209,18 +192,15 @@ pub fn fp_move_word(op: Opcode, fmt: Format, fields: FPMoveFields) -> u32
 pub fn fp_cond_word(op: Opcode, fmt: Format, fields: FPCondFields) -> u32
     ensures { result ≡ fp_cond_word op fmt fields.code (fp_register_number fields.source) (fp_register_number fields.target) }
 {
-    let source = fields.source;
-    let target = fields.target;
-    let bits = code_bits(fields.code, false);
     InstructionBuilder::from_op(op)
-        .with_fp_dest_value(bits)
-        .with_fp_source(source)
-        .with_fp_temp(target)
+        .with_fp_dest_value(code_bits(fields.code, false))
+        .with_fp_source(fields.source)
+        .with_fp_temp(fields.target)
         .with_fp_fmt(fmt)
         .finish()
 }
 
-// A move between a general and a float register: `first` is the one that is written first.
+// A move between a general and a float register: `first` is the number of the one that is written first, for the builder's method of values.
 pub fn fp_cross_move_word(op: Opcode, first: u8, second: u8) -> u32
     requires { (first < 32) × (second < 32) }
     ensures { result ≡ fp_cross_move_word op first second }
@@ -245,12 +225,14 @@ pub fn abs_first_word(job: Job, source: RegisterSlot) -> u32
 {
     let dest = RegisterSlot::AssemblerTemporary;
     if jobs::by_manual(job) {
-        let fields = ShamFields {
-            dest,
-            temp: source,
-            sham: 31,
-        };
-        sham_word(Opcode::Func(3), fields)
+        sham_word(
+            Opcode::Func(3),
+            ShamFields {
+                dest,
+                temp: source,
+                sham: 31,
+            },
+        )
     } else {
         InstructionBuilder::from_op(Opcode::Func(3))
             .with_dest(dest)

@@ -5,7 +5,7 @@ ghost use Rattle.std.specs.Prelude.{◌≡◌};
 ghost use Rattle.instructions.specs.Bases.{instruction_base};
 
 // The six opcode classes, each with its key.
-#[derive(Clone, Copy)]
+#[derive(Clone, Copy, PartialEq, Eq)]
 pub enum Opcode {
     Op(u8),
     Func(u8),
@@ -15,7 +15,7 @@ pub enum Opcode {
     Cop1I(u8),
 }
 
-#[derive(Clone, Copy)]
+#[derive(Clone, Copy, PartialEq, Eq)]
 pub enum Size {
     Single,
     Double,
@@ -23,7 +23,7 @@ pub enum Size {
 }
 
 // How an instruction reads its operands and lays its word out.
-#[derive(Clone, Copy)]
+#[derive(Clone, Copy, PartialEq, Eq)]
 pub enum Encoding {
     Register,
     RegisterShift,
@@ -53,11 +53,11 @@ pub fn instruction_base(op: Opcode) -> u32
     ensures { result ≡ instruction_base op }
 {
     match op {
-        Opcode::Op(key) => (key % 64) as u32 * 0x0400_0000,
-        Opcode::Func(key) => (key % 64) as u32,
-        Opcode::Special(key) => (key % 64) as u32 * 0x1_0000 + 0x0400_0000,
-        Opcode::Algebra(key) => (key % 64) as u32 + 28 * 0x0400_0000,
-        Opcode::Cop1(key) => (key % 64) as u32 + 17 * 0x0400_0000,
-        Opcode::Cop1I(key) => (key % 32) as u32 * 0x20_0000 + 17 * 0x0400_0000,
+        Opcode::Op(key) => u32::from(key % 64) << 26,
+        Opcode::Func(key) => u32::from(key % 64),
+        Opcode::Special(key) => (u32::from(key % 64) << 16) + (1 << 26),
+        Opcode::Algebra(key) => u32::from(key % 64) + (28 << 26),
+        Opcode::Cop1(key) => u32::from(key % 64) + (17 << 26),
+        Opcode::Cop1I(key) => (u32::from(key % 32) << 21) + (17 << 26),
     }
 }

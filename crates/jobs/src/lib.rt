@@ -2,12 +2,12 @@
 #![tactic(auto)]
 
 ghost use Rattle.std.specs.Prelude.{◌≡◌};
-ghost use Rattle.jobs.specs.Jobs.{by_manual, is_release6, commit_code, manual_code, size_code, most_back, most_ahead, shift_within, code_within, is_function, source_opcode, is_dropped};
+ghost use Rattle.jobs.specs.Jobs.{by_manual, size_code, most_back, most_ahead, shift_within, code_within, is_function, source_opcode, is_dropped, commit_code, manual_code};
 
 use instructions::{Opcode, Size};
 
 // As the commit has it, by the manual, or by the manual for Release 6 boards.
-#[derive(Clone, Copy)]
+#[derive(Clone, Copy, PartialEq, Eq)]
 pub enum Job {
     Commit,
     Manual,
@@ -15,7 +15,7 @@ pub enum Job {
 }
 
 // A float format in a job.
-#[derive(Clone, Copy)]
+#[derive(Clone, Copy, PartialEq, Eq)]
 pub struct Format {
     pub job: Job,
     pub size: Size,
@@ -24,23 +24,10 @@ pub struct Format {
 pub fn by_manual(job: Job) -> bool
     ensures { result ≡ by_manual job }
 {
-    match job {
-        Job::Commit => false,
-        Job::Manual => true,
-        Job::Release6 => true,
-    }
+    job != Job::Commit
 }
 
-fn is_release_6(job: Job) -> bool
-    ensures { result ≡ is_release6 job }
-{
-    match job {
-        Job::Commit => false,
-        Job::Manual => false,
-        Job::Release6 => true,
-    }
-}
-
+// The commit's codes. Kept beside the manual's: a request wants the codes of each as plain cases.
 fn commit_code(size: Size) -> u32
     ensures { result ≡ commit_code size }
 {
@@ -65,12 +52,10 @@ fn manual_code(size: Size) -> u32
 pub fn size_code(fmt: Format) -> u32
     ensures { result ≡ size_code fmt }
 {
-    let job = fmt.job;
-    let size = fmt.size;
-    if by_manual(job) {
-        manual_code(size)
+    if by_manual(fmt.job) {
+        manual_code(fmt.size)
     } else {
-        commit_code(size)
+        commit_code(fmt.size)
     }
 }
 
@@ -92,48 +77,36 @@ pub fn most_ahead(job: Job) -> u32
 pub fn shift_within(job: Job, amount: u64) -> bool
     ensures { result ≡ shift_within job amount }
 {
-    if by_manual(job) { amount <= 31 } else { true }
+    !by_manual(job) || amount <= 31
 }
 
 // Whether a job takes a condition code.
 pub fn code_within(job: Job, code: u64) -> bool
     ensures { result ≡ code_within job code }
 {
-    if by_manual(job) { code <= 7 } else { true }
+    !by_manual(job) || code <= 7
 }
 
 fn is_function(function: u8, op: Opcode) -> bool
     ensures { result ≡ is_function function op }
 {
-    match op {
-        Opcode::Func(key) => key % 64 == function,
-        Opcode::Op(_) => false,
-        Opcode::Special(_) => false,
-        Opcode::Algebra(_) => false,
-        Opcode::Cop1(_) => false,
-        Opcode::Cop1I(_) => false,
-    }
+    matches!(op, Opcode::Func(key) if key % 64 == function)
 }
 
 // The opcode of a word under the encoding Source: Release 6 has jr with function 9.
 pub fn source_opcode(job: Job, op: Opcode) -> Opcode
     ensures { result ≡ source_opcode job op }
 {
-    if is_release_6(job) {
-        if is_function(8, op) {
-            return Opcode::Func(9);
-        }
+    if job == Job::Release6 && is_function(8, op) {
+        Opcode::Func(9)
+    } else {
+        op
     }
-    op
 }
 
 // Whether a job drops a line: `third` is whether it has the third operand of Inputs.
 pub fn is_dropped(job: Job, third: bool, op: Opcode) -> bool
     ensures { result ≡ is_dropped job third op }
 {
-    if is_release_6(job) {
-        if third { true } else { is_function(18, op) }
-    } else {
-        false
-    }
+    job == Job::Release6 && (third || is_function(18, op))
 }

@@ -11,7 +11,7 @@ use registers::RegisterSlot;
 use word::InstructionBuilder;
 
 // How a constant is loaded: addiu alone, ori alone, lui alone, or both halves; or that none is.
-#[derive(Clone, Copy)]
+#[derive(Clone, Copy, PartialEq, Eq)]
 pub enum LoadForm {
     Nothing,
     Addiu,
@@ -20,8 +20,8 @@ pub enum LoadForm {
     BothHalves,
 }
 
-// One or two words, their count and their form; a word that is not used is 0.
-#[derive(Clone, Copy)]
+// One or two words, their count and their form; a word that is not used is 0. An array with a count, since no heap is used.
+#[derive(Clone, Copy, PartialEq, Eq)]
 pub struct Loaded {
     pub words: [u32; 2],
     pub count: usize,
@@ -32,23 +32,21 @@ pub struct Loaded {
 pub fn load_immediate(constant: u64, into: RegisterSlot) -> Loaded
     ensures { LoadedIs constant (register_number into) result.words result.count result.form }
 {
+    let zero = RegisterSlot::Zero;
     let low = (constant % 0x1_0000_0000) as u32;
     let top = (low / 0x1_0000) as u16;
     let bottom = (low % 0x1_0000) as u16;
-    if low < 0x8000 {
-        return one(LoadForm::Addiu, from_zero(9, into, bottom));
-    }
-    if 0xFFFF_8000 <= low {
-        return one(LoadForm::Addiu, from_zero(9, into, bottom));
+    if low < 0x8000 || 0xFFFF_8000 <= low {
+        return one(LoadForm::Addiu, immediate_word(9, zero, into, bottom));
     }
     if top == 0 {
-        return one(LoadForm::Ori, from_zero(13, into, bottom));
+        return one(LoadForm::Ori, immediate_word(13, zero, into, bottom));
     }
-    let lui = from_zero(15, into, top);
+    let lui = immediate_word(15, zero, into, top);
     if bottom == 0 {
         return one(LoadForm::Lui, lui);
     }
-    let ori = ori_after_lui(into, bottom);
+    let ori = immediate_word(13, into, into, bottom);
     Loaded {
         words: [lui, ori],
         count: 2,
@@ -66,24 +64,13 @@ fn one(form: LoadForm, word: u32) -> Loaded
     }
 }
 
-// addiu, ori or lui, by its opcode, with $zero as rs.
-fn from_zero(opcode: u8, temp: RegisterSlot, imm: u16) -> u32
-    ensures { result ≡ immediate_layout (opcode % 64) 0 (register_number temp) imm }
+// addiu, ori or lui, by its opcode.
+fn immediate_word(opcode: u8, source: RegisterSlot, temp: RegisterSlot, imm: u16) -> u32
+    ensures { result ≡ immediate_layout (opcode % 64) (register_number source) (register_number temp) imm }
 {
     InstructionBuilder::from_op(Opcode::Op(opcode))
         .with_temp(temp)
-        .with_source(RegisterSlot::Zero)
-        .with_immediate(imm)
-        .finish()
-}
-
-// ori onto the register that lui has set.
-fn ori_after_lui(temp: RegisterSlot, imm: u16) -> u32
-    ensures { result ≡ immediate_layout 13 (register_number temp) (register_number temp) imm }
-{
-    InstructionBuilder::from_op(Opcode::Op(13))
-        .with_temp(temp)
-        .with_source(temp)
+        .with_source(source)
         .with_immediate(imm)
         .finish()
 }

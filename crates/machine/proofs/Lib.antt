@@ -1,3 +1,4 @@
+pub mod CastsLaws
 pub mod EffectsLaws
 pub mod FitsLaws
 pub mod InstructionsLaws

@@ -11,7 +11,7 @@ pub struct Machine {
     pub registers: [u32; 32],
 }
 
-#[derive(Clone, Copy)]
+#[derive(Clone, Copy, PartialEq, Eq)]
 pub enum Instruction {
     Nop,
     Addiu,
@@ -35,7 +35,7 @@ pub enum Instruction {
 }
 
 // Why a run stops.
-#[derive(Clone, Copy)]
+#[derive(Clone, Copy, PartialEq, Eq)]
 pub enum Reason {
     Allowance,
     Pc,
@@ -44,7 +44,7 @@ pub enum Reason {
 }
 
 // What a word does: it sets rt or rd and the next word follows, or it goes to a pc, or it overflows, or it is another word.
-#[derive(Clone, Copy)]
+#[derive(Clone, Copy, PartialEq, Eq)]
 pub enum Effect {
     SetRt(u32),
     SetRd(u32),

@@ -45,6 +45,7 @@ fn with_zero(field: u32, instruction: Instruction) -> Instruction
 }
 
 // The words of opcode 0.
+#[tactic(auto, unfolding(crate::specs::Instructions::table, crate::specs::Instructions::instruction_of))]
 fn special(word: u32) -> Instruction
     requires { opcode word ≡ 0 }
     ensures { result ≡ instruction_of word }
@@ -67,6 +68,7 @@ fn special(word: u32) -> Instruction
     }
 }
 
+#[tactic(auto, using(crate::proofs::InstructionsLaws::not_nop), unfolding(crate::specs::Instructions::table, crate::specs::Instructions::instruction_of))]
 pub(crate) fn decode(word: u32) -> Instruction
     ensures { result ≡ instruction_of word }
 {

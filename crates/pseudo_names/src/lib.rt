@@ -34,6 +34,9 @@ pub enum Pseudo {
     Subiu,
 }
 
+// The names in order, in comparisons of ten each. Kept: a match on the bytes of the name was tried, and its proof did not close, since
+// where no arm fits nothing can be cited of the bytes.
+
 // The pseudo-instruction of a name among the names behind the first twenty.
 #[tactic(auto, unfolding(crate::specs::PseudoNames::pseudo_in))]
 fn last_pseudo_of(name: &[u8]) -> Option<Pseudo>

@@ -1,8 +1,10 @@
--- The parts by the test of the sign. Assumes nothing.
-use Rattle.std.specs.Prelude.{ℕ, suc, ◌<◌, ◌^◌, ◌≡◌, refl, true, false, T, ℤ, pos, negsuc, nat_abs, ◌-ℤ◌}
-use Rattle.std.proofs.Common.{arith, ap, ltb-true, le-ltb, SFits}
+-- The parts from the sign and the absolute value. Assumes nothing.
+use Rattle.std.specs.Prelude.{ℕ, suc, ◌-◌, ◌<◌, ◌^◌, ◌≡◌, refl, Bool, true, false, T, ℤ, pos, negsuc, nat_abs, ◌-ℤ◌}
+use Rattle.std.proofs.Common.{arith, ap, ltb-true, le-ltb, SFits, ◌∙◌}
 use Rattle.std.specs.Int.Signed.{lt_z, non_neg}
 use Rattle.std.specs.Int.{w64}
+use Rattle.std.specs.Int as std
+use mir.Val.{bool_byte}
 use Rattle.refusal.specs.Split.{is_negative, size}
 
 pub small : (z : ℤ) → SFits w64 z → size z < 2 ^ 63
@@ -10,6 +12,23 @@ unfolding size
 small (pos n) f = f.sfits
 small (negsuc n) f = f.sfits
 
+same_sign : (z : ℤ) → std.is_negative z ≡ is_negative z
+unfolding is_negative
+same_sign (pos n) = le-ltb n 0 (omega arith)
+same_sign (negsuc n) = refl
+
+size_is : (z : ℤ) → nat_abs z - bool_byte (std.is_negative z) ≡ size z
+unfolding size is_negative
+size_is (pos n) = rw (same_sign (pos n), is_negative) (omega arith)
+size_is (negsuc n) = omega arith
+
+pub parts : (z : ℤ) {negative : Bool} {bit magnitude : ℕ} → SFits w64 z → negative ≡ std.is_negative z → bit ≡ bool_byte negative → magnitude ≡ nat_abs z
+    → (negative ≡ is_negative z) × (magnitude - bit ≡ size z) × (magnitude - bit < 2 ^ 63)
+parts z {negative} {bit} {magnitude} f p q r =
+    let d : magnitude - bit ≡ size z = rw (r, q, p) (size_is z) in
+    (p ∙ same_sign z, d, rw d (small z f))
+
+-- the parts by the test of the sign
 pub record Below (z : ℤ) : Type 0 where
   pub negative : true ≡ is_negative z
   pub turned : negsuc 0 -ℤ z ≡ pos (size z)

@@ -1,9 +1,11 @@
 // The refusals and what documents 01 and 02 return for each: a number, a location and two numbers.
 #![tactic(auto)]
 
-ghost use Rattle.std.specs.Prelude.{◌≡◌, pos, ◌<◌, ◌^◌};
+ghost use Rattle.std.specs.Prelude.{◌≡◌, ◌<◌, ◌^◌};
+ghost use Rattle.std.specs.Option.{ForSome};
 ghost use Rattle.refusal.specs.Numbers.{numbered};
 ghost use Rattle.refusal.specs.Split.{is_negative, size};
+ghost use Rattle.refusal.specs.Verdicts.{layout_verdict, name_verdict};
 
 use record::Location;
 
@@ -56,13 +58,6 @@ pub enum Refusal {
     StartPastEnd,
 }
 
-// a and b, where neither is negative.
-#[derive(Clone, Copy)]
-struct Values {
-    a: u32,
-    b: u32,
-}
-
 // A refusal as it is returned.
 #[derive(Clone, Copy)]
 pub struct Numbered {
@@ -79,54 +74,65 @@ pub fn numbers(refusal: Refusal) -> Numbered
         source: 0,
         index: 0,
     };
-    let none = Values { a: 0, b: 0 };
-    match refusal {
-        Refusal::BadLayout(a, b) => with(1, zero, Values { a, b }),
-        Refusal::DuplicateName(a, b) => with(2, zero, Values { a, b }),
-        Refusal::UnknownInstruction(l) => with(3, l, none),
-        Refusal::EndOfFile(l) => with(4, l, none),
-        Refusal::ExpectedRegister(l, a) => with(5, l, Values { a: a as u32, b: 0 }),
-        Refusal::ExpectedConstant(l, a) => with(6, l, Values { a: a as u32, b: 0 }),
-        Refusal::ExpectedLabel(l, a) => with(7, l, Values { a: a as u32, b: 0 }),
-        Refusal::ExpectedRightBrace(l, a) => with(8, l, Values { a: a as u32, b: 0 }),
-        Refusal::ConstantOutOfRange(l) => Numbered {
-            number: 9,
-            location: l,
-            a: -8000,
-            b: 32767,
-        },
-        Refusal::MissingRegion(l) => with(10, l, none),
-        Refusal::OverwriteEdge(l, a, b) => with(11, l, Values { a, b }),
-        Refusal::NoSpace(l, a) => with(12, l, Values { a: a as u32, b: 0 }),
-        Refusal::UnknownEntry(l) => with(13, l, none),
-        Refusal::PatchPastEnd(l) => with(14, l, none),
-        Refusal::UnknownLabel(l) => with(15, l, none),
-        Refusal::JumpOutOfRange(l, a, b) => with(16, l, Values { a, b }),
-        Refusal::ShiftOutOfRange(l) => with(19, l, none),
-        Refusal::CodeOutOfRange(l) => with(20, l, none),
-        Refusal::DroppedInstruction(l) => with(27, l, none),
-        Refusal::BadByte(l) => with(21, l, none),
-        Refusal::BadToken(l) => with(22, l, none),
-        Refusal::NoTokenSpace(l) => with(23, l, none),
-        Refusal::WrongArguments(l) => with(24, l, none),
-        Refusal::NinthLevel(l) => with(25, l, none),
-        Refusal::NoWrittenSpace(l) => with(26, l, none),
-        Refusal::NoIndexSpace(l) => with(17, l, none),
-        Refusal::LateLine(l) => with(29, l, none),
-        Refusal::NoPageSpace => with(18, zero, none),
-        Refusal::BadStart => with(28, zero, none),
-        Refusal::StartPastEnd => with(30, zero, none),
-    }
-}
-
-fn with(number: u32, location: Location, values: Values) -> Numbered
-    ensures { result ≡ (record { number = number; location = location; a = pos values.a; b = values.b }) }
-{
+    let (number, location, a, b) = match refusal {
+        Refusal::BadLayout(a, b) => (1, zero, i64::from(a), b),
+        Refusal::DuplicateName(a, b) => (2, zero, i64::from(a), b),
+        Refusal::UnknownInstruction(l) => (3, l, 0, 0),
+        Refusal::EndOfFile(l) => (4, l, 0, 0),
+        Refusal::ExpectedRegister(l, kind) => (5, l, i64::from(kind), 0),
+        Refusal::ExpectedConstant(l, kind) => (6, l, i64::from(kind), 0),
+        Refusal::ExpectedLabel(l, kind) => (7, l, i64::from(kind), 0),
+        Refusal::ExpectedRightBrace(l, kind) => (8, l, i64::from(kind), 0),
+        Refusal::ConstantOutOfRange(l) => (9, l, -8000, 32767),
+        Refusal::MissingRegion(l) => (10, l, 0, 0),
+        Refusal::OverwriteEdge(l, a, b) => (11, l, i64::from(a), b),
+        Refusal::NoSpace(l, short) => (12, l, i64::from(short), 0),
+        Refusal::UnknownEntry(l) => (13, l, 0, 0),
+        Refusal::PatchPastEnd(l) => (14, l, 0, 0),
+        Refusal::UnknownLabel(l) => (15, l, 0, 0),
+        Refusal::JumpOutOfRange(l, a, b) => (16, l, i64::from(a), b),
+        Refusal::ShiftOutOfRange(l) => (19, l, 0, 0),
+        Refusal::CodeOutOfRange(l) => (20, l, 0, 0),
+        Refusal::DroppedInstruction(l) => (27, l, 0, 0),
+        Refusal::BadByte(l) => (21, l, 0, 0),
+        Refusal::BadToken(l) => (22, l, 0, 0),
+        Refusal::NoTokenSpace(l) => (23, l, 0, 0),
+        Refusal::WrongArguments(l) => (24, l, 0, 0),
+        Refusal::NinthLevel(l) => (25, l, 0, 0),
+        Refusal::NoWrittenSpace(l) => (26, l, 0, 0),
+        Refusal::NoIndexSpace(l) => (17, l, 0, 0),
+        Refusal::LateLine(l) => (29, l, 0, 0),
+        Refusal::NoPageSpace => (18, zero, 0, 0),
+        Refusal::BadStart => (28, zero, 0, 0),
+        Refusal::StartPastEnd => (30, zero, 0, 0),
+    };
     Numbered {
         number,
         location,
-        a: values.a as i64,
-        b: values.b,
+        a,
+        b,
+    }
+}
+
+// Refusal 1, where a list of that buffer has a bad place.
+pub fn check_layout(buffer: u32, bad: Option<usize>) -> Result<(), Refusal>
+    requires { ForSome bad (λ place. place < 2 ^ 32) }
+    ensures { result ≡ layout_verdict buffer bad }
+{
+    match bad {
+        None => Ok(()),
+        Some(place) => Err(Refusal::BadLayout(buffer, place as u32)),
+    }
+}
+
+// Refusal 2, where a name of that buffer stands again at a later place.
+pub fn check_names(buffer: u32, later: Option<usize>) -> Result<(), Refusal>
+    requires { ForSome later (λ place. place < 2 ^ 32) }
+    ensures { result ≡ name_verdict buffer later }
+{
+    match later {
+        None => Ok(()),
+        Some(place) => Err(Refusal::DuplicateName(buffer, place as u32)),
     }
 }
 
@@ -140,15 +146,9 @@ pub struct Parts {
 pub fn split(n: i64) -> Parts
     ensures { (result.negative ≡ is_negative n) × (result.size ≡ size n) × (result.size < 2 ^ 63) }
 {
-    if n < 0 {
-        Parts {
-            negative: true,
-            size: (-1 - n) as u64,
-        }
-    } else {
-        Parts {
-            negative: false,
-            size: n as u64,
-        }
+    let negative = n.is_negative();
+    Parts {
+        negative,
+        size: n.unsigned_abs() - u64::from(negative),
     }
 }

@@ -1,6 +1,6 @@
 -- The default of a list: it is no part of the answer within the list, and it is the answer past it. Assumes nothing.
-use Rattle.std.specs.Prelude.{ℕ, zero, suc, ◌≤◌, ◌<◌, List, [], ◌∷◌, ◌≡◌, refl, length, get_or}
-use Rattle.std.proofs.Common.{arith}
+use Rattle.std.specs.Prelude.{ℕ, zero, suc, ◌+◌, ◌≤◌, ◌<◌, List, [], ◌∷◌, ◌≡◌, refl, length, get_or, min, Bool, true, false, leb}
+use Rattle.std.proofs.Common.{arith, sym, ◌∙◌, ap, leb-true, leb-false}
 use Rattle.std.proofs.Math.ListN.{get_or-eq_default}
 
 pub within : {A : Type 0} (l : List A) (d e : A) (n : ℕ) → n < length l → get_or l n d ≡ get_or l n e
@@ -19,3 +19,17 @@ none_below (suc k) n h = omega (arith, none_below k n h.0, h.1)
 
 pub past_end : {A : Type 0} (l : List A) (d : A) (n : ℕ) → NoneBelow (length l) n → get_or l n d ≡ d
 past_end l d n h = get_or-eq_default l d (none_below (length l) n h)
+
+-- a place past the last one reads the last
+pub up_to_last : {A : Type 0} (l : List A) (d e : A) (n i last : ℕ) → length l ≡ last + 1 → get_or l last d ≡ e → i ≡ min n last → get_or l i d ≡ get_or l n e
+up_to_last l d e n i last k r m = go (leb n last) refl
+  where
+    go : (b : Bool) → leb n last ≡ b → get_or l i d ≡ get_or l n e
+    go true t =
+        let h : n ≤ last = leb-true n last t in
+        let s : i ≡ n = omega arith in
+        ap (λ (x : ℕ). get_or l x d) s ∙ within l d e n (omega arith)
+    go false t =
+        let h : last < n = leb-false n last t in
+        let s : i ≡ last = omega arith in
+        ap (λ (x : ℕ). get_or l x d) s ∙ r ∙ sym (get_or-eq_default l e (omega arith))

@@ -1,11 +1,11 @@
 // The general registers and the float registers (registers.rs): 32 of each, and their numbers.
 #![tactic(auto)]
 
-ghost use Rattle.std.specs.Prelude.{◌≡◌};
+ghost use Rattle.std.specs.Prelude.{◌≡◌, ℕ, ◌<◌};
 ghost use Rattle.registers.specs.Numbers.{register_number, fp_register_number};
 ghost use Rattle.registers.specs.Slots.{register_of, fp_register_of};
 
-#[derive(Clone, Copy)]
+#[derive(Clone, Copy, PartialEq, Eq)]
 pub enum RegisterSlot {
     Zero,
     AssemblerTemporary,
@@ -41,7 +41,7 @@ pub enum RegisterSlot {
     ReturnAddress,
 }
 
-#[derive(Clone, Copy)]
+#[derive(Clone, Copy, PartialEq, Eq)]
 pub enum FPRegisterSlot {
     F0,
     F1,
@@ -77,83 +77,29 @@ pub enum FPRegisterSlot {
     F31,
 }
 
-// The number of a general register, as the fields rs, rt and rd hold it.
-pub fn register_source(slot: RegisterSlot) -> u32
-    ensures { result ≡ register_number slot }
-{
-    match slot {
-        RegisterSlot::Zero => 0,
-        RegisterSlot::AssemblerTemporary => 1,
-        RegisterSlot::Value0 => 2,
-        RegisterSlot::Value1 => 3,
-        RegisterSlot::Parameter0 => 4,
-        RegisterSlot::Parameter1 => 5,
-        RegisterSlot::Parameter2 => 6,
-        RegisterSlot::Parameter3 => 7,
-        RegisterSlot::Temporary0 => 8,
-        RegisterSlot::Temporary1 => 9,
-        RegisterSlot::Temporary2 => 10,
-        RegisterSlot::Temporary3 => 11,
-        RegisterSlot::Temporary4 => 12,
-        RegisterSlot::Temporary5 => 13,
-        RegisterSlot::Temporary6 => 14,
-        RegisterSlot::Temporary7 => 15,
-        RegisterSlot::Saved0 => 16,
-        RegisterSlot::Saved1 => 17,
-        RegisterSlot::Saved2 => 18,
-        RegisterSlot::Saved3 => 19,
-        RegisterSlot::Saved4 => 20,
-        RegisterSlot::Saved5 => 21,
-        RegisterSlot::Saved6 => 22,
-        RegisterSlot::Saved7 => 23,
-        RegisterSlot::Temporary8 => 24,
-        RegisterSlot::Temporary9 => 25,
-        RegisterSlot::Kernel0 => 26,
-        RegisterSlot::Kernel1 => 27,
-        RegisterSlot::GeneralPointer => 28,
-        RegisterSlot::StackPointer => 29,
-        RegisterSlot::FramePointer => 30,
-        RegisterSlot::ReturnAddress => 31,
+// A register of a file of 32, general or float.
+pub trait Slot: Copy {
+    ghost number: { Self → ℕ };
+
+    // The number of the register, as a field of five bits holds it.
+    fn number(self) -> u32
+        ensures value { result ≡ number self }
+        ensures below { result < 32 };
+}
+
+impl Slot for RegisterSlot {
+    ghost number = { register_number };
+
+    fn number(self) -> u32 {
+        self as u32
     }
 }
 
-// The number of a float register, as the fields ft, fs and fd hold it.
-pub fn fp_register_source(slot: FPRegisterSlot) -> u32
-    ensures { result ≡ fp_register_number slot }
-{
-    match slot {
-        FPRegisterSlot::F0 => 0,
-        FPRegisterSlot::F1 => 1,
-        FPRegisterSlot::F2 => 2,
-        FPRegisterSlot::F3 => 3,
-        FPRegisterSlot::F4 => 4,
-        FPRegisterSlot::F5 => 5,
-        FPRegisterSlot::F6 => 6,
-        FPRegisterSlot::F7 => 7,
-        FPRegisterSlot::F8 => 8,
-        FPRegisterSlot::F9 => 9,
-        FPRegisterSlot::F10 => 10,
-        FPRegisterSlot::F11 => 11,
-        FPRegisterSlot::F12 => 12,
-        FPRegisterSlot::F13 => 13,
-        FPRegisterSlot::F14 => 14,
-        FPRegisterSlot::F15 => 15,
-        FPRegisterSlot::F16 => 16,
-        FPRegisterSlot::F17 => 17,
-        FPRegisterSlot::F18 => 18,
-        FPRegisterSlot::F19 => 19,
-        FPRegisterSlot::F20 => 20,
-        FPRegisterSlot::F21 => 21,
-        FPRegisterSlot::F22 => 22,
-        FPRegisterSlot::F23 => 23,
-        FPRegisterSlot::F24 => 24,
-        FPRegisterSlot::F25 => 25,
-        FPRegisterSlot::F26 => 26,
-        FPRegisterSlot::F27 => 27,
-        FPRegisterSlot::F28 => 28,
-        FPRegisterSlot::F29 => 29,
-        FPRegisterSlot::F30 => 30,
-        FPRegisterSlot::F31 => 31,
+impl Slot for FPRegisterSlot {
+    ghost number = { fp_register_number };
+
+    fn number(self) -> u32 {
+        self as u32
     }
 }
 
@@ -193,14 +139,11 @@ const SLOTS: [RegisterSlot; 32] = [
 ];
 
 // The general register of a number; a number over 31 gives the last.
-pub fn register_of(n: u8) -> RegisterSlot
-    ensures { result ≡ register_of n }
-{
-    let i = n as usize;
-    if i < 32 {
-        SLOTS[i]
-    } else {
-        RegisterSlot::ReturnAddress
+impl From<u8> for RegisterSlot {
+    ghost from_gives = { λ n slot. slot ≡ register_of n };
+
+    fn from(n: u8) -> Self {
+        SLOTS[usize::from(n.min(31))]
     }
 }
 
@@ -240,13 +183,10 @@ const FP_SLOTS: [FPRegisterSlot; 32] = [
 ];
 
 // The float register of a number; a number over 31 gives the last.
-pub fn fp_register_of(n: u8) -> FPRegisterSlot
-    ensures { result ≡ fp_register_of n }
-{
-    let i = n as usize;
-    if i < 32 {
-        FP_SLOTS[i]
-    } else {
-        FPRegisterSlot::F31
+impl From<u8> for FPRegisterSlot {
+    ghost from_gives = { λ n slot. slot ≡ fp_register_of n };
+
+    fn from(n: u8) -> Self {
+        FP_SLOTS[usize::from(n.min(31))]
     }
 }

@@ -9,7 +9,7 @@ ghost use Rattle.jobs.specs.Jobs.{size_code};
 
 use instructions::Opcode;
 use jobs::Format;
-use registers::{FPRegisterSlot, RegisterSlot};
+use registers::{FPRegisterSlot, RegisterSlot, Slot};
 
 // `width` bits of a word, from bit `offset` on.
 #[derive(Clone, Copy)]
@@ -18,9 +18,27 @@ struct Field {
     width: u32,
 }
 
+// Where the fields of five bits begin; in the float formats fmt, ft, fs and fd stand there.
+const RS: u32 = 21;
+
+const RT: u32 = 16;
+
+const RD: u32 = 11;
+
+const SA: u32 = 6;
+
 // A half-built word, distinct from a finished one: only `finish` gives the number.
 #[derive(Clone, Copy)]
 pub struct InstructionBuilder(u32);
+
+impl Field {
+    // The five bits of a register, a float format or a shift amount.
+    fn five_bits(offset: u32) -> Field
+        ensures { (result.offset ≡ offset) × (result.width ≡ 5) }
+    {
+        Field { offset, width: 5 }
+    }
+}
 
 impl InstructionBuilder {
     pub fn from_op(op: Opcode) -> InstructionBuilder
@@ -34,11 +52,8 @@ impl InstructionBuilder {
         requires { (field.offset + field.width ≤ 32) × (field.width < 32) × (field.offset < 32) × (value * 2 ^ field.offset < 2 ^ 32) }
         ensures { result.0 ≡ or_field self.0 field.offset field.width value }
     {
-        let offset = field.offset;
-        let width = field.width;
-        let mask = ((1u32 << width) - 1) << offset;
-        let kept = self.0 & !mask;
-        InstructionBuilder(kept | (value << offset))
+        let mask = ((1u32 << field.width) - 1) << field.offset;
+        InstructionBuilder((self.0 & !mask) | (value << field.offset))
     }
 
     // A number of five bits at `offset`: a register or a float format.
@@ -46,39 +61,32 @@ impl InstructionBuilder {
         requires { (offset + 5 ≤ 32) × (number < 32) }
         ensures { result.0 ≡ set_field self.0 offset 5 number }
     {
-        self.with_field(Field { offset, width: 5 }, number)
+        self.with_field(Field::five_bits(offset), number)
     }
 
-    fn with_slot_offset(self, offset: u32, slot: RegisterSlot) -> InstructionBuilder
+    fn with_slot_offset<S: Slot>(self, offset: u32, slot: S) -> InstructionBuilder
         requires { offset + 5 ≤ 32 }
-        ensures { result.0 ≡ set_field self.0 offset 5 (register_number slot) }
+        ensures { result.0 ≡ set_field self.0 offset 5 (S.number slot) }
     {
-        self.with_number_offset(offset, registers::register_source(slot))
-    }
-
-    fn with_fp_slot_offset(self, offset: u32, slot: FPRegisterSlot) -> InstructionBuilder
-        requires { offset + 5 ≤ 32 }
-        ensures { result.0 ≡ set_field self.0 offset 5 (fp_register_number slot) }
-    {
-        self.with_number_offset(offset, registers::fp_register_source(slot))
+        self.with_number_offset(offset, slot.number())
     }
 
     pub fn with_dest(self, slot: RegisterSlot) -> InstructionBuilder
         ensures { result.0 ≡ set_field self.0 11 5 (register_number slot) }
     {
-        self.with_slot_offset(11, slot)
+        self.with_slot_offset(RD, slot)
     }
 
     pub fn with_temp(self, slot: RegisterSlot) -> InstructionBuilder
         ensures { result.0 ≡ set_field self.0 16 5 (register_number slot) }
     {
-        self.with_slot_offset(16, slot)
+        self.with_slot_offset(RT, slot)
     }
 
     pub fn with_source(self, slot: RegisterSlot) -> InstructionBuilder
         ensures { result.0 ≡ set_field self.0 21 5 (register_number slot) }
     {
-        self.with_slot_offset(21, slot)
+        self.with_slot_offset(RS, slot)
     }
 
     pub fn with_immediate(self, imm: u16) -> InstructionBuilder
@@ -89,7 +97,7 @@ impl InstructionBuilder {
                 offset: 0,
                 width: 16,
             },
-            imm as u32,
+            u32::from(imm),
         )
     }
 
@@ -97,75 +105,50 @@ impl InstructionBuilder {
     pub fn with_sham(self, sham: u8) -> InstructionBuilder
         ensures { result.0 ≡ or_field self.0 6 5 sham }
     {
-        let amount = sham as u32;
-        self.with_field(
-            Field {
-                offset: 6,
-                width: 5,
-            },
-            amount,
-        )
+        self.with_field(Field::five_bits(SA), u32::from(sham))
     }
 
     pub fn with_fp_source(self, slot: FPRegisterSlot) -> InstructionBuilder
         ensures { result.0 ≡ set_field self.0 11 5 (fp_register_number slot) }
     {
-        self.with_fp_slot_offset(11, slot)
+        self.with_slot_offset(RD, slot)
     }
 
     pub fn with_fp_source_value(self, value: u8) -> InstructionBuilder
         ensures { result.0 ≡ or_field self.0 11 5 value }
     {
-        self.with_field(
-            Field {
-                offset: 11,
-                width: 5,
-            },
-            value as u32,
-        )
+        self.with_field(Field::five_bits(RD), u32::from(value))
     }
 
     pub fn with_fp_dest(self, slot: FPRegisterSlot) -> InstructionBuilder
         ensures { result.0 ≡ set_field self.0 6 5 (fp_register_number slot) }
     {
-        self.with_fp_slot_offset(6, slot)
+        self.with_slot_offset(SA, slot)
     }
 
     pub fn with_fp_dest_value(self, value: u8) -> InstructionBuilder
         ensures { result.0 ≡ or_field self.0 6 5 value }
     {
-        self.with_field(
-            Field {
-                offset: 6,
-                width: 5,
-            },
-            value as u32,
-        )
+        self.with_field(Field::five_bits(SA), u32::from(value))
     }
 
     pub fn with_fp_temp(self, slot: FPRegisterSlot) -> InstructionBuilder
         ensures { result.0 ≡ set_field self.0 16 5 (fp_register_number slot) }
     {
-        self.with_fp_slot_offset(16, slot)
+        self.with_slot_offset(RT, slot)
     }
 
     // A condition code over 7 spills into the field above.
     pub fn with_fp_temp_value(self, value: u8) -> InstructionBuilder
         ensures { result.0 ≡ or_field self.0 16 5 value }
     {
-        self.with_field(
-            Field {
-                offset: 16,
-                width: 5,
-            },
-            value as u32,
-        )
+        self.with_field(Field::five_bits(RT), u32::from(value))
     }
 
     pub fn with_fp_fmt(self, fmt: Format) -> InstructionBuilder
         ensures { result.0 ≡ set_field self.0 21 5 (size_code fmt) }
     {
-        self.with_number_offset(21, jobs::size_code(fmt))
+        self.with_number_offset(RS, jobs::size_code(fmt))
     }
 
     pub fn finish(self) -> u32

@@ -1,11 +1,13 @@
 -- The tests on the way say which words the definition has, and each word is what it has there.
-use Rattle.std.proofs.Common.{◌≡◌, ℕ, List, [], ◌∷◌, refl, ap, ap₂, ◌∙◌}
+use Rattle.std.proofs.Common.{◌≡◌, ℕ, true, List, [], ◌∷◌, refl, ap, ap₂, ◌∙◌}
 use Rattle.registers.specs.Numbers.{register_number}
 use Rattle.registers.specs.NumberLaws.{register_lt}
+use Rattle.loading.specs.Load.{is_small}
 use Rattle.loading.specs.declared.LoadForm.TheVariants.{Addiu, Ori, Lui, BothHalves}
 use Rattle.loading.proofs.LoadLaws.{small_low, small_high, not_small, form_small, form_ori, form_lui, form_both}
 use Rattle.loading.proofs.ContractLaws.{loaded_by}
 use Rattle.loading.proofs.load_immediate.Goals as goal
+use Rattle.loading.proofs.load_immediate.Goals.{then-low-lt32768-via-then-low-lt32768, then-low-lt32768-via-else-low-lt32768+then-low-ge4294934528}
 
 -- the words of a form that has one
 alone : (w v : ℕ) {words : List ℕ} → words ≡ w ∷ 0 ∷ [] → w ≡ v → words ≡ v ∷ 0 ∷ []
@@ -15,15 +17,12 @@ pub returns-then-low-lt32768 : goal.returns-then-low-lt32768
 returns-then-low-lt32768 c =
     let a = c.args in
     let o = c.one.ensures in
-    loaded_by a.constant (register_number a.into) Addiu (register_lt a.into) (form_small a.constant (small_low a.constant c.if-low-lt32768.true))
-    (alone _ _ o.0 c.from_zero.ensures) o.1 o.2
-
-pub returns-then-low-ge4294934528 : goal.returns-then-low-ge4294934528
-returns-then-low-ge4294934528 c =
-    let a = c.args in
-    let o = c.one-then-low-ge4294934528.ensures in
-    loaded_by a.constant (register_number a.into) Addiu (register_lt a.into) (form_small a.constant (small_high a.constant c.if-low-ge4294934528.true))
-    (alone _ _ o.0 c.from_zero-then-low-ge4294934528.ensures) o.1 o.2
+    let small : is_small a.constant ≡ true =
+    elim c.then-low-lt32768.branch [
+      | then-low-lt32768-via-then-low-lt32768 w ↦ small_low a.constant w.if-low-lt32768.true
+      | then-low-lt32768-via-else-low-lt32768+then-low-ge4294934528 w ↦ small_high a.constant w.if-low-ge4294934528.true
+    ] in
+    loaded_by a.constant (register_number a.into) Addiu (register_lt a.into) (form_small a.constant small) (alone _ _ o.0 c.immediate_word.ensures) o.1 o.2
 
 pub returns-then-top-eq0 : goal.returns-then-top-eq0
 returns-then-top-eq0 c =
@@ -31,7 +30,7 @@ returns-then-top-eq0 c =
     let n = not_small a.constant c.if-low-lt32768.false c.if-low-ge4294934528.false in
     let o = c.one-then-top-eq0.ensures in
     loaded_by a.constant (register_number a.into) Ori (register_lt a.into) (form_ori a.constant n c.if-top-eq0.true)
-    (alone _ _ o.0 c.from_zero-then-top-eq0.ensures) o.1 o.2
+    (alone _ _ o.0 c.immediate_word-then-top-eq0.ensures) o.1 o.2
 
 pub returns-then-bottom-eq0 : goal.returns-then-bottom-eq0
 returns-then-bottom-eq0 c =
@@ -39,11 +38,11 @@ returns-then-bottom-eq0 c =
     let n = not_small a.constant c.if-low-lt32768.false c.if-low-ge4294934528.false in
     let o = c.one-then-bottom-eq0.ensures in
     loaded_by a.constant (register_number a.into) Lui (register_lt a.into) (form_lui a.constant n c.if-top-eq0.false c.if-bottom-eq0.true)
-    (alone _ _ o.0 c.from_zero-lui.ensures) o.1 o.2
+    (alone _ _ o.0 c.immediate_word-lui.ensures) o.1 o.2
 
 pub returns : goal.returns
 returns c =
     let a = c.args in
     let n = not_small a.constant c.if-low-lt32768.false c.if-low-ge4294934528.false in
     loaded_by a.constant (register_number a.into) BothHalves (register_lt a.into) (form_both a.constant n c.if-top-eq0.false c.if-bottom-eq0.false)
-    (ap₂ (λ (x y : ℕ). x ∷ y ∷ []) c.from_zero-lui.ensures c.ori_after_lui-ori.ensures) refl refl
+    (ap₂ (λ (x y : ℕ). x ∷ y ∷ []) c.immediate_word-lui.ensures c.immediate_word-ori.ensures) refl refl

@@ -1,11 +1,13 @@
-use Rattle.std.proofs.Common.{le-ltb, lt-ltb}
-use Rattle.loading.specs.Run.{signed16}
+use Rattle.std.proofs.Common.{ap, ◌∙◌, rules, SFits, of_z}
+use Rattle.std.specs.Int.{w16, w32}
+use Rattle.std.proofs.Math.Facts.{to_z-of_z}
+use Rattle.machine.proofs.CastsLaws.{signed16_is}
 use Rattle.machine.proofs.numbers.signed16.Goals as goal
 
-pub returns-then-n-lt32768 : goal.returns-then-n-lt32768
-unfolding signed16
-returns-then-n-lt32768 c = rw (lt-ltb _ 32768 c.if-n-lt32768.true, signed16)
-
-pub returns-else-n-lt32768 : goal.returns-else-n-lt32768
-unfolding signed16
-returns-else-n-lt32768 c = rw (le-ltb _ 32768 c.if-n-lt32768.false, signed16)
+pub returns : goal.returns
+returns c =
+    let narrow : SFits w16 c.cast_signed.result = search rules in
+    let wide : SFits w32 c.from.result = search rules in
+    c.cast_unsigned.ensures
+    ∙ ap (of_z w32) (to_z-of_z wide ∙ c.from.ensures ∙ to_z-of_z narrow ∙ c.cast_signed.ensures)
+    ∙ signed16_is c.args.n c.requires
