@@ -31,13 +31,7 @@ fn named(text: Text, location: Location, offset: u64) -> AddressLabel
 fn is_met(number: u8, seen: Option<Token>) -> bool
     ensures { result ≡ is_met number seen }
 {
-    match seen {
-        None => false,
-        Some(t) => {
-            let kind = t.kind;
-            lexer::strip(kind) == number
-        }
-    }
+    seen.is_some_and(|token| lexer::strip(token.kind) == number)
 }
 
 // The Symbol `text` at `location`, with the position behind it: an optional Plus and constant follow.
@@ -48,14 +42,13 @@ fn symbol_label(text: Text, location: Location, list: &[u8], from: Cursor) -> Op
         result.answer result.cursor }
 {
     let ahead = cursor::peek_adjacent(list, from);
-    let plus = ahead.answer;
-    let found = ahead.cursor;
-    if is_met(lexer::PLUS, plus) {
-        let read = operands::get_constant(list, cursor::next(list, found));
-        let constant = read.answer;
-        let cursor = read.cursor;
-        let answer = plus_constant(text, location, constant);
-        OperandRead { answer, cursor }
+    if is_met(lexer::PLUS, ahead.answer) {
+        let read = operands::get_constant(list, cursor::next(list, ahead.cursor));
+        let answer = plus_constant(text, location, read.answer);
+        OperandRead {
+            answer,
+            cursor: read.cursor,
+        }
     } else {
         OperandRead {
             answer: Ok(Operand::Label(named(text, location, 0))),
@@ -64,16 +57,15 @@ fn symbol_label(text: Text, location: Location, list: &[u8], from: Cursor) -> Op
     }
 }
 
-fn plus_constant(text: Text, location: Location, constant: Result<Operand, Miss>) -> Result<Operand, Miss>
+fn plus_constant(
+    text: Text,
+    location: Location,
+    constant: Result<Operand, Miss>,
+) -> Result<Operand, Miss>
     ensures { result ≡ answer_of Want.Label (plus_constant text location (held_answer Want.Constant constant)) }
 {
-    match constant {
-        Ok(operand) => {
-            let offset = operand::constant_in(operand);
-            Ok(Operand::Label(named(text, location, offset)))
-        }
-        Err(miss) => Err(miss),
-    }
+    let offset = operand::constant_in(constant?);
+    Ok(Operand::Label(named(text, location, offset)))
 }
 
 // The label whose first token is `first`, with the position behind that token.
@@ -83,21 +75,17 @@ fn to_label(first: Token, list: &[u8], from: Cursor) -> OperandRead
         (given Want.Label (to_label first (tokens list.now) from.index))
         result.answer result.cursor }
 {
-    let location = first.location;
-    let kind = first.kind;
     let read = operands::get_integer(first, list, from);
-    let cursor = read.cursor;
-    let number = read.answer;
-    match number {
+    match read.answer {
         Some(n) => OperandRead {
             answer: Ok(Operand::Label(AddressLabel::Constant(n))),
-            cursor,
+            cursor: read.cursor,
         },
-        None => match lexer::as_symbol(kind) {
-            Some(text) => symbol_label(text, location, list, cursor),
+        None => match lexer::as_symbol(first.kind) {
+            Some(text) => symbol_label(text, first.location, list, read.cursor),
             None => OperandRead {
-                answer: Err(Miss::ExpectedLabel(lexer::strip(kind), location)),
-                cursor,
+                answer: Err(Miss::ExpectedLabel(lexer::strip(first.kind), first.location)),
+                cursor: read.cursor,
             },
         },
     }
@@ -108,36 +96,25 @@ pub fn get_label(list: &[u8], from: Cursor) -> OperandRead
     ensures { ReadAs list.now (given Want.Label (get_label (tokens list.now) from.index)) result.answer result.cursor }
 {
     let read = cursor::next_adjacent(list, from);
-    let seen = read.answer;
-    let cursor = read.cursor;
-    match seen {
+    match read.answer {
+        Some(token) => to_label(token, list, read.cursor),
         None => OperandRead {
             answer: Err(Miss::EndOfFile),
-            cursor,
+            cursor: read.cursor,
         },
-        Some(t) => to_label(t, list, cursor),
     }
 }
 
 fn or_zero(label: Result<Operand, Miss>) -> AddressLabel
     ensures { result ≡ or_zero (held_answer Want.Label label) }
 {
-    match label {
-        Ok(operand) => operand::label_in(operand),
-        Err(_) => AddressLabel::Constant(0),
-    }
+    label.map_or(AddressLabel::Constant(0), operand::label_in)
 }
 
 fn unbraced(label: Result<Operand, Miss>) -> Result<Operand, Miss>
     ensures { result ≡ answer_of Want.OffsetOrLabel (unbraced (held_answer Want.Label label)) }
 {
-    match label {
-        Ok(operand) => {
-            let alone = operand::label_in(operand);
-            Ok(Operand::Label(alone))
-        }
-        Err(miss) => Err(miss),
-    }
+    Ok(Operand::Label(operand::label_in(label?)))
 }
 
 // The register and the right brace behind a left brace.
@@ -148,42 +125,33 @@ fn braced(label: AddressLabel, list: &[u8], from: Cursor) -> OperandRead
         result.answer result.cursor }
 {
     let read = operands::get_register(list, from);
-    let register = read.answer;
-    let cursor = read.cursor;
-    match register {
-        Err(miss) => OperandRead {
-            answer: Err(miss),
-            cursor,
-        },
+    match read.answer {
         Ok(operand) => {
             let slot = operand::slot_in(operand);
-            let right = cursor::next_adjacent(list, cursor);
-            let seen = right.answer;
-            let behind = right.cursor;
-            let answer = closed_seen(label, slot, seen);
+            let right = cursor::next_adjacent(list, read.cursor);
+            let answer = closed_seen(label, slot, right.answer);
             OperandRead {
                 answer,
-                cursor: behind,
+                cursor: right.cursor,
             }
         }
+        Err(_) => read,
     }
 }
 
-fn closed_seen(label: AddressLabel, slot: RegisterSlot, seen: Option<Token>) -> Result<Operand, Miss>
+fn closed_seen(
+    label: AddressLabel,
+    slot: RegisterSlot,
+    seen: Option<Token>,
+) -> Result<Operand, Miss>
     ensures { result ≡ answer_of Want.OffsetOrLabel (closed_seen label slot seen) }
 {
-    match seen {
-        None => Err(Miss::EndOfFile),
-        Some(t) => {
-            let location = t.location;
-            let kind = t.kind;
-            let number = lexer::strip(kind);
-            if number == lexer::RIGHT_BRACE {
-                Ok(Operand::Offset(label, slot))
-            } else {
-                Err(Miss::ExpectedRightBrace(number, location))
-            }
-        }
+    let token = seen.ok_or(Miss::EndOfFile)?;
+    let number = lexer::strip(token.kind);
+    if number == lexer::RIGHT_BRACE {
+        Ok(Operand::Offset(label, slot))
+    } else {
+        Err(Miss::ExpectedRightBrace(number, token.location))
     }
 }
 
@@ -193,18 +161,18 @@ pub fn get_offset_or_label(list: &[u8], from: Cursor) -> OperandRead
         (given Want.OffsetOrLabel (get_offset_or_label (tokens list.now) from.index))
         result.answer result.cursor }
 {
-    let read = get_label(list, from);
-    let label = read.answer;
-    let behind = read.cursor;
-    let ahead = cursor::peek_adjacent(list, behind);
-    let brace = ahead.answer;
-    let found = ahead.cursor;
-    if is_met(lexer::LEFT_BRACE, brace) {
-        braced(or_zero(label), list, cursor::next(list, found))
+    let label = get_label(list, from);
+    let ahead = cursor::peek_adjacent(list, label.cursor);
+    if is_met(lexer::LEFT_BRACE, ahead.answer) {
+        braced(
+            or_zero(label.answer),
+            list,
+            cursor::next(list, ahead.cursor),
+        )
     } else {
         OperandRead {
-            answer: unbraced(label),
-            cursor: found,
+            answer: unbraced(label.answer),
+            cursor: ahead.cursor,
         }
     }
 }

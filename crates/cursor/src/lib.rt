@@ -9,6 +9,7 @@ ghost use Rattle.cursor.specs.Reads.{Placed, ReadAs};
 mod lexer_cursor;
 
 use lexer::{Token, TokenKind};
+use lexer_cursor::LexerCursor;
 
 // The count of tokens before the position, and its byte place.
 #[derive(Clone, Copy)]
@@ -29,16 +30,17 @@ pub fn start(list: &[u8], position: usize) -> Cursor
     requires { token_layout list.now ≡ None }
     ensures { (result ≡ cursor_at list.now (start_index (tokens list.now) position)) × Placed list.now result }
 {
-    let mut index: usize = 0;
-    let mut at: usize = 0;
-    while at < list.len() {
-        if position <= index {
+    let mut at = 0;
+    for index in 0..position {
+        if at >= list.len() {
             return Cursor { index, at };
         }
         at = record::next(list, at);
-        index = index + 1;
     }
-    Cursor { index, at }
+    Cursor {
+        index: position,
+        at,
+    }
 }
 
 // What stands at the position.
@@ -46,9 +48,8 @@ fn peek(list: &[u8], position: Cursor) -> Option<Token>
     requires { Placed list.now position }
     ensures { result ≡ peek (tokens list.now) position.index }
 {
-    let at = position.at;
-    if at < list.len() {
-        Some(lexer::token_at(list, at))
+    if position.at < list.len() {
+        Some(lexer::token_at(list, position.at))
     } else {
         None
     }
@@ -59,11 +60,10 @@ pub fn next(list: &[u8], position: Cursor) -> Cursor
     requires { Placed list.now position }
     ensures { (result ≡ cursor_at list.now (step (tokens list.now) position.index)) × Placed list.now result }
 {
-    let at = position.at;
-    if at < list.len() {
+    if position.at < list.len() {
         Cursor {
             index: position.index + 1,
-            at: record::next(list, at),
+            at: record::next(list, position.at),
         }
     } else {
         position
@@ -74,8 +74,7 @@ pub fn next(list: &[u8], position: Cursor) -> Cursor
 fn is_adjacent_kind(kind: TokenKind) -> bool
     ensures { result ≡ is_adjacent_kind kind }
 {
-    let n = lexer::strip(kind);
-    n != lexer::COMMENT && n != lexer::COMMA
+    !matches!(kind, TokenKind::Comment(_) | TokenKind::Comma)
 }
 
 // The position of the next token that is not passed over, or the list's end.
@@ -83,18 +82,11 @@ fn seek_without(list: &[u8], position: Cursor) -> Cursor
     requires { Placed list.now position }
     ensures { (result ≡ cursor_at list.now (seek (tokens list.now) position.index)) × Placed list.now result }
 {
-    let mut index = position.index;
-    let mut at = position.at;
-    while at < list.len() {
-        let t = lexer::token_at(list, at);
-        let kind = t.kind;
-        if is_adjacent_kind(kind) {
-            return Cursor { index, at };
-        }
-        at = record::next(list, at);
-        index = index + 1;
+    let mut cursor = position;
+    while cursor.at < list.len() && !is_adjacent_kind(lexer::token_at(list, cursor.at).kind) {
+        cursor = next(list, cursor);
     }
-    Cursor { index, at }
+    cursor
 }
 
 // What stands at a position, and the position behind it.
@@ -104,9 +96,10 @@ fn step_at(list: &[u8], position: Cursor) -> TokenRead
         × (result.cursor ≡ cursor_at list.now (step (tokens list.now) position.index))
         × Placed list.now result.cursor }
 {
-    let answer = peek(list, position);
-    let cursor = next(list, position);
-    TokenRead { answer, cursor }
+    TokenRead {
+        answer: peek(list, position),
+        cursor: next(list, position),
+    }
 }
 
 // The next token that is not passed over, and the position behind it. Plain parameters: its callers need no proof by hand.
@@ -114,13 +107,11 @@ pub fn next_adjacent(list: &[u8], position: Cursor) -> TokenRead
     requires { Placed list.now position }
     ensures { ReadAs list.now (next_adjacent (tokens list.now) position.index) result.answer result.cursor }
 {
-    let mut found = lexer_cursor::seek_without(lexer_cursor::new(list, position));
-    let answer = lexer_cursor::next(&mut found);
-    let cursor = Cursor {
-        index: found.index,
-        at: found.at,
-    };
-    TokenRead { answer, cursor }
+    let mut found = LexerCursor::new(list, position).seek_without();
+    TokenRead {
+        answer: found.next(),
+        cursor: found.position(),
+    }
 }
 
 // The next token that is not passed over, and its own position.
@@ -128,11 +119,9 @@ pub fn peek_adjacent(list: &[u8], position: Cursor) -> TokenRead
     requires { Placed list.now position }
     ensures { ReadAs list.now (peek_adjacent (tokens list.now) position.index) result.answer result.cursor }
 {
-    let found = lexer_cursor::seek_without(lexer_cursor::new(list, position));
-    let answer = lexer_cursor::peek(found);
-    let cursor = Cursor {
-        index: found.index,
-        at: found.at,
-    };
-    TokenRead { answer, cursor }
+    let found = LexerCursor::new(list, position).seek_without();
+    TokenRead {
+        answer: found.peek(),
+        cursor: found.position(),
+    }
 }

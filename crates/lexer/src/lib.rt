@@ -114,22 +114,11 @@ fn payload_of(kind: u8) -> Payload
     ensures { result ≡ payload_of kind }
 {
     match kind {
-        COMMENT => Payload::Text,
-        DIRECTIVE => Payload::Text,
-        PARAMETER => Payload::Text,
-        REGISTER => Payload::Slot,
-        FP_REGISTER => Payload::Slot,
-        INTEGER_LITERAL => Payload::Number,
-        FLOAT_LITERAL => Payload::Number,
-        STRING_LITERAL => Payload::Text,
+        COMMENT | DIRECTIVE | PARAMETER | STRING_LITERAL => Payload::Text,
+        REGISTER | FP_REGISTER => Payload::Slot,
+        INTEGER_LITERAL | FLOAT_LITERAL => Payload::Number,
         SYMBOL => Payload::Name,
-        PLUS => Payload::Nothing,
-        MINUS => Payload::Nothing,
-        COMMA => Payload::Nothing,
-        COLON => Payload::Nothing,
-        NEW_LINE => Payload::Nothing,
-        LEFT_BRACE => Payload::Nothing,
-        RIGHT_BRACE => Payload::Nothing,
+        PLUS..=RIGHT_BRACE => Payload::Nothing,
         _ => Payload::Unknown,
     }
 }
@@ -158,37 +147,27 @@ fn payload_ok(payload: Payload, list: &[u8], at: usize, n: usize) -> bool
     }
 }
 
-// Whether the record at `at` is a token.
-fn token_ok(list: &[u8], at: usize) -> bool
-    requires { at ≤ length list.now }
-    ensures { result ≡ token_ok list.now at }
-{
-    if !record::whole_at(list, at) {
-        return false;
+// The records that are tokens.
+struct Tokens;
+
+impl record::Layout for Tokens {
+    ghost keeps = { λ self list at. token_ok list at };
+
+    fn keeps(&self, list: &[u8], at: usize) -> bool {
+        if !record::whole_at(list, at) {
+            return false;
+        }
+        let n = record::half_at(list, at);
+        n >= 8 && payload_ok(payload_of(kind_at(list, at)), list, at, n - 8)
     }
-    let n = record::half_at(list, at);
-    if n < 8 {
-        return false;
-    }
-    let payload = payload_of(kind_at(list, at));
-    payload_ok(payload, list, at, n - 8)
 }
 
 // The place of the first record that is no token, or the limit.
+#[tactic(auto, unfolding(crate::specs::Tokens::token_layout))]
 pub fn first_bad_token(list: &[u8]) -> Option<usize>
     ensures { result ≡ token_layout list.now }
 {
-    if list.len() > record::LIMIT {
-        return Some(record::LIMIT);
-    }
-    let mut at: usize = 0;
-    while at < list.len() {
-        if !token_ok(list, at) {
-            return Some(at);
-        }
-        at = record::next(list, at);
-    }
-    None
+    record::first_bad_within(&Tokens, list)
 }
 
 // The token at `at`, of a list that keeps its layout.
@@ -205,8 +184,8 @@ pub fn token_at(list: &[u8], at: usize) -> Token
         COMMENT => TokenKind::Comment(text),
         DIRECTIVE => TokenKind::Directive(text),
         PARAMETER => TokenKind::Parameter(text),
-        REGISTER => TokenKind::Register(registers::register_of(list[at + 12])),
-        FP_REGISTER => TokenKind::FPRegister(registers::fp_register_of(list[at + 12])),
+        REGISTER => TokenKind::Register(RegisterSlot::from(list[at + 12])),
+        FP_REGISTER => TokenKind::FPRegister(FPRegisterSlot::from(list[at + 12])),
         INTEGER_LITERAL => TokenKind::IntegerLiteral(record::long_at(list, at + 12)),
         FLOAT_LITERAL => TokenKind::FloatLiteral(float_of(record::long_at(list, at + 12))),
         STRING_LITERAL => TokenKind::StringLiteral(text),
@@ -251,22 +230,8 @@ pub fn as_register(kind: TokenKind) -> Option<RegisterSlot>
     ensures { result ≡ as_register kind }
 {
     match kind {
-        TokenKind::Comment(_) => None,
-        TokenKind::Directive(_) => None,
-        TokenKind::Parameter(_) => None,
         TokenKind::Register(x) => Some(x),
-        TokenKind::FPRegister(_) => None,
-        TokenKind::IntegerLiteral(_) => None,
-        TokenKind::FloatLiteral(_) => None,
-        TokenKind::StringLiteral(_) => None,
-        TokenKind::Symbol(_) => None,
-        TokenKind::Plus => None,
-        TokenKind::Minus => None,
-        TokenKind::Comma => None,
-        TokenKind::Colon => None,
-        TokenKind::NewLine => None,
-        TokenKind::LeftBrace => None,
-        TokenKind::RightBrace => None,
+        _ => None,
     }
 }
 
@@ -274,22 +239,8 @@ pub fn as_fp_register(kind: TokenKind) -> Option<FPRegisterSlot>
     ensures { result ≡ as_fp_register kind }
 {
     match kind {
-        TokenKind::Comment(_) => None,
-        TokenKind::Directive(_) => None,
-        TokenKind::Parameter(_) => None,
-        TokenKind::Register(_) => None,
         TokenKind::FPRegister(x) => Some(x),
-        TokenKind::IntegerLiteral(_) => None,
-        TokenKind::FloatLiteral(_) => None,
-        TokenKind::StringLiteral(_) => None,
-        TokenKind::Symbol(_) => None,
-        TokenKind::Plus => None,
-        TokenKind::Minus => None,
-        TokenKind::Comma => None,
-        TokenKind::Colon => None,
-        TokenKind::NewLine => None,
-        TokenKind::LeftBrace => None,
-        TokenKind::RightBrace => None,
+        _ => None,
     }
 }
 
@@ -297,22 +248,8 @@ pub fn as_integer(kind: TokenKind) -> Option<u64>
     ensures { result ≡ as_integer kind }
 {
     match kind {
-        TokenKind::Comment(_) => None,
-        TokenKind::Directive(_) => None,
-        TokenKind::Parameter(_) => None,
-        TokenKind::Register(_) => None,
-        TokenKind::FPRegister(_) => None,
         TokenKind::IntegerLiteral(x) => Some(x),
-        TokenKind::FloatLiteral(_) => None,
-        TokenKind::StringLiteral(_) => None,
-        TokenKind::Symbol(_) => None,
-        TokenKind::Plus => None,
-        TokenKind::Minus => None,
-        TokenKind::Comma => None,
-        TokenKind::Colon => None,
-        TokenKind::NewLine => None,
-        TokenKind::LeftBrace => None,
-        TokenKind::RightBrace => None,
+        _ => None,
     }
 }
 
@@ -320,21 +257,7 @@ pub fn as_symbol(kind: TokenKind) -> Option<Text>
     ensures { result ≡ as_symbol kind }
 {
     match kind {
-        TokenKind::Comment(_) => None,
-        TokenKind::Directive(_) => None,
-        TokenKind::Parameter(_) => None,
-        TokenKind::Register(_) => None,
-        TokenKind::FPRegister(_) => None,
-        TokenKind::IntegerLiteral(_) => None,
-        TokenKind::FloatLiteral(_) => None,
-        TokenKind::StringLiteral(_) => None,
         TokenKind::Symbol(x) => Some(x),
-        TokenKind::Plus => None,
-        TokenKind::Minus => None,
-        TokenKind::Comma => None,
-        TokenKind::Colon => None,
-        TokenKind::NewLine => None,
-        TokenKind::LeftBrace => None,
-        TokenKind::RightBrace => None,
+        _ => None,
     }
 }

@@ -71,13 +71,7 @@ pub fn slot_in(operand: Operand) -> RegisterSlot
 {
     match operand {
         Operand::Register(x) => x,
-        Operand::FPRegister(_) => RegisterSlot::Zero,
-        Operand::Code(_) => RegisterSlot::Zero,
-        Operand::Value(_) => RegisterSlot::Zero,
-        Operand::Constant(_) => RegisterSlot::Zero,
-        Operand::Label(_) => RegisterSlot::Zero,
-        Operand::Offset(_, _) => RegisterSlot::Zero,
-        Operand::Absent => RegisterSlot::Zero,
+        _ => RegisterSlot::Zero,
     }
 }
 
@@ -85,14 +79,8 @@ pub fn fp_slot_in(operand: Operand) -> FPRegisterSlot
     ensures { result ≡ fp_slot_in operand }
 {
     match operand {
-        Operand::Register(_) => FPRegisterSlot::F0,
         Operand::FPRegister(x) => x,
-        Operand::Code(_) => FPRegisterSlot::F0,
-        Operand::Value(_) => FPRegisterSlot::F0,
-        Operand::Constant(_) => FPRegisterSlot::F0,
-        Operand::Label(_) => FPRegisterSlot::F0,
-        Operand::Offset(_, _) => FPRegisterSlot::F0,
-        Operand::Absent => FPRegisterSlot::F0,
+        _ => FPRegisterSlot::F0,
     }
 }
 
@@ -100,14 +88,8 @@ pub fn code_in(operand: Operand) -> u64
     ensures { result ≡ code_in operand }
 {
     match operand {
-        Operand::Register(_) => 0,
-        Operand::FPRegister(_) => 0,
         Operand::Code(x) => x,
-        Operand::Value(_) => 0,
-        Operand::Constant(_) => 0,
-        Operand::Label(_) => 0,
-        Operand::Offset(_, _) => 0,
-        Operand::Absent => 0,
+        _ => 0,
     }
 }
 
@@ -115,14 +97,8 @@ pub fn value_in(operand: Operand) -> InstructionValue
     ensures { result ≡ value_in operand }
 {
     match operand {
-        Operand::Register(_) => InstructionValue::Slot(RegisterSlot::Zero),
-        Operand::FPRegister(_) => InstructionValue::Slot(RegisterSlot::Zero),
-        Operand::Code(_) => InstructionValue::Slot(RegisterSlot::Zero),
         Operand::Value(x) => x,
-        Operand::Constant(_) => InstructionValue::Slot(RegisterSlot::Zero),
-        Operand::Label(_) => InstructionValue::Slot(RegisterSlot::Zero),
-        Operand::Offset(_, _) => InstructionValue::Slot(RegisterSlot::Zero),
-        Operand::Absent => InstructionValue::Slot(RegisterSlot::Zero),
+        _ => InstructionValue::Slot(RegisterSlot::Zero),
     }
 }
 
@@ -130,14 +106,8 @@ pub fn constant_in(operand: Operand) -> u64
     ensures { result ≡ constant_in operand }
 {
     match operand {
-        Operand::Register(_) => 0,
-        Operand::FPRegister(_) => 0,
-        Operand::Code(_) => 0,
-        Operand::Value(_) => 0,
         Operand::Constant(x) => x,
-        Operand::Label(_) => 0,
-        Operand::Offset(_, _) => 0,
-        Operand::Absent => 0,
+        _ => 0,
     }
 }
 
@@ -145,14 +115,8 @@ pub fn label_in(operand: Operand) -> AddressLabel
     ensures { result ≡ label_in operand }
 {
     match operand {
-        Operand::Register(_) => AddressLabel::Constant(0),
-        Operand::FPRegister(_) => AddressLabel::Constant(0),
-        Operand::Code(_) => AddressLabel::Constant(0),
-        Operand::Value(_) => AddressLabel::Constant(0),
-        Operand::Constant(_) => AddressLabel::Constant(0),
         Operand::Label(x) => x,
-        Operand::Offset(_, _) => AddressLabel::Constant(0),
-        Operand::Absent => AddressLabel::Constant(0),
+        _ => AddressLabel::Constant(0),
     }
 }
 
@@ -160,13 +124,7 @@ pub fn offset_in(operand: Operand) -> OffsetOrLabel
     ensures { result ≡ offset_in operand }
 {
     match operand {
-        Operand::Register(_) => OffsetOrLabel::Label(AddressLabel::Constant(0)),
-        Operand::FPRegister(_) => OffsetOrLabel::Label(AddressLabel::Constant(0)),
-        Operand::Code(_) => OffsetOrLabel::Label(AddressLabel::Constant(0)),
-        Operand::Value(_) => OffsetOrLabel::Label(AddressLabel::Constant(0)),
-        Operand::Constant(_) => OffsetOrLabel::Label(AddressLabel::Constant(0)),
-        Operand::Label(x) => OffsetOrLabel::Label(x),
         Operand::Offset(label, base) => OffsetOrLabel::Offset(label, base),
-        Operand::Absent => OffsetOrLabel::Label(AddressLabel::Constant(0)),
+        _ => OffsetOrLabel::Label(label_in(operand)),
     }
 }

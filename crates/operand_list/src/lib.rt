@@ -52,51 +52,37 @@ fn read_operand(want: Want, list: &[u8], from: Cursor) -> OperandRead
     }
 }
 
-fn missed(miss: Miss, cursor: Cursor) -> OperandsRead
-    ensures { (result.answer ≡ Err miss) × (result.cursor ≡ cursor) }
+// The next operand, after which the cursor stands behind what was read.
+fn next_operand(want: Want, list: &[u8], cursor: &mut Cursor) -> Result<Operand, Miss>
+    requires { Placed list.now cursor.old }
+    ensures { ReadAs list.now (given want (read_operand want (tokens list.now) cursor.old.index)) result cursor.new }
 {
-    OperandsRead {
-        answer: Err(miss),
-        cursor,
-    }
+    let read = read_operand(want, list, *cursor);
+    *cursor = read.cursor;
+    read.answer
 }
 
 // Up to three operands in order; the first that is missed ends the reading.
+fn next_operands(wants: Wants, list: &[u8], cursor: &mut Cursor) -> Result<Operands, Miss>
+    requires { Placed list.now cursor.old }
+    ensures { ReadAs list.now (given_all wants (read_operands wants (tokens list.now) cursor.old.index)) result cursor.new }
+{
+    let first = next_operand(wants.first, list, &mut *cursor)?;
+    let second = next_operand(wants.second, list, &mut *cursor)?;
+    let third = next_operand(wants.third, list, &mut *cursor)?;
+    Ok(Operands {
+        first,
+        second,
+        third,
+    })
+}
+
+// The operands of a line, and the position behind what was read.
 pub fn read_operands(wants: Wants, list: &[u8], from: Cursor) -> OperandsRead
     requires { Placed list.now from }
     ensures { ReadAs list.now (given_all wants (read_operands wants (tokens list.now) from.index)) result.answer result.cursor }
 {
-    let first_want = wants.first;
-    let second_want = wants.second;
-    let third_want = wants.third;
-    let one = read_operand(first_want, list, from);
-    let behind_one = one.cursor;
-    let one_answer = one.answer;
-    match one_answer {
-        Err(miss) => missed(miss, behind_one),
-        Ok(first) => {
-            let two = read_operand(second_want, list, behind_one);
-            let behind_two = two.cursor;
-            let two_answer = two.answer;
-            match two_answer {
-                Err(miss) => missed(miss, behind_two),
-                Ok(second) => {
-                    let three = read_operand(third_want, list, behind_two);
-                    let behind_three = three.cursor;
-                    let three_answer = three.answer;
-                    match three_answer {
-                        Err(miss) => missed(miss, behind_three),
-                        Ok(third) => OperandsRead {
-                            answer: Ok(Operands {
-                                first,
-                                second,
-                                third,
-                            }),
-                            cursor: behind_three,
-                        },
-                    }
-                }
-            }
-        }
-    }
+    let mut cursor = from;
+    let answer = next_operands(wants, list, &mut cursor);
+    OperandsRead { answer, cursor }
 }

@@ -1,1 +1,2 @@
 pub mod OperandsLaws
+pub mod MadeLaws

@@ -1,9 +1,11 @@
 -- Laws of the operand readers: a reading as an equation, and what each reader answers, case by case. Assumes nothing.
-use Rattle.std.specs.Prelude.{◌≡◌, ℕ, Bool, true, false, List, ◌≢◌, refl, Err, Ok, Option, Result, None}
+use Rattle.std.specs.Prelude.{◌≡◌, ℕ, Bool, true, false, List, ◌≢◌, refl, Err, Ok, Option, Result, None, Some, MatchOption, is_ok}
 use Rattle.std.proofs.Common.{arith, sym, ◌∙◌}
 use Rattle.std.proofs.Math.Path.{ap}
 use borrow.Author.Tests.{eq-eqb, ne_eqb}
 use Rattle.lexer.specs.declared.Token.{Token}
+use Rattle.lexer.specs.declared.TokenKind.{TokenKind}
+use Rattle.lexer.specs.declared.TokenKind.TheVariants.{Plus, Minus}
 use Rattle.lexer.specs.Tokens.{strip}
 use Rattle.lexer.specs.Views.{as_integer}
 use Rattle.cursor.specs.declared.Cursor.{Cursor}
@@ -18,7 +20,7 @@ use Rattle.operand.specs.declared.Operand.{Operand}
 use Rattle.operand.specs.Answers.{Answer, Got, Missed, Asked, answer_of, here, given}
 use Rattle.operand.specs.Held.{held_answer}
 use Rattle.operand.proofs.HeldLaws.{answer_held}
-use Rattle.operands.specs.Operands.{signed, literal_seen, get_integer, number_seen, constant_met, get_constant, value_met, get_value, maybe_met, maybe_get_value}
+use Rattle.operands.specs.Operands.{signed, literal_met, literal_seen, get_integer, number_seen, constant_met, get_constant, value_met, get_value, maybe_met, maybe_get_value}
 
 -- ---- readings
 
@@ -50,6 +52,18 @@ pub held_made : (w : Want) {B : Type 0} {s : List ℕ} {x : At (Answer (Asked w)
 held_made w r f b e = record { answer_is = e ∙ ap f (sym (answer_held w r.answer_is)); cursor_is = r.cursor_is; placed = r.placed }
 
 -- ---- by what is met
+
+pub plus_of : (k : TokenKind) → strip k ≡ 9 → k ≡ Plus
+plus_of k e = grind arith
+
+pub minus_of : (k : TokenKind) → strip k ≡ 10 → k ≡ Minus
+minus_of k e = grind arith
+
+-- what a literal is made of, by what the token that is met gives
+pub literal_of : (minus : Bool) (back next : ℕ) (seen : Option Token) (n : Option ℕ) {post : Token → Type 0} → MatchOption seen (n ≡ None) post → ((t : Token) → post t → n ≡ as_integer t.kind)
+    → literal_seen minus back next seen ≡ literal_met minus back next n
+literal_of minus back next None n h each = ap (literal_met minus back next) (sym h)
+literal_of minus back next (Some t) n h each = ap (literal_met minus back next) (sym (each t h))
 
 module _ (ts : List Token) (i : ℕ) where
   module _ {seen : (Option Token)} {j : ℕ} (e : next_adjacent ts i ≡ here seen j) where
@@ -96,3 +110,11 @@ module _ (ts : List Token) (i : ℕ) where
   pub maybe_none : {m : Miss} → Err m ≡ answer_of Value (get_value ts i).answer → maybe_get_value ts i ≡ here (Got None) (peek_adjacent ts i).index
   unfolding maybe_get_value
   maybe_none e = none_made (peek_adjacent ts i).index (get_value ts i).index (get_value ts i).answer e
+
+  pub maybe_read : (r : Result Operand Miss) → r ≡ answer_of Value (get_value ts i).answer → is_ok r ≡ true → given MaybeValue (maybe_get_value ts i) ≡ given Value (get_value ts i)
+  maybe_read (Ok o) e t = maybe_some e
+  maybe_read (Err m) e t = cc
+
+  pub maybe_absent : (r : Result Operand Miss) → r ≡ answer_of Value (get_value ts i).answer → is_ok r ≡ false → maybe_get_value ts i ≡ here (Got None) (peek_adjacent ts i).index
+  maybe_absent (Ok o) e t = cc
+  maybe_absent (Err m) e t = maybe_none e

@@ -3,12 +3,14 @@
 
 ghost use Rattle.std.specs.Prelude.{◌≡◌};
 ghost use Rattle.lexer.specs.Tokens.{tokens};
+ghost use Rattle.lexer.specs.Views.{as_register, as_fp_register, as_integer};
 ghost use Rattle.cursor.specs.Reads.{Placed, ReadAs};
 ghost use Rattle.operand.specs.Answers.{answer_of, given};
-ghost use Rattle.operands.specs.Operands.{no_register, no_constant, register_seen, fp_register_seen, code_seen, constant_met, value_met, get_register, get_fp_register, get_cc, with_sign, signed, get_integer, get_constant, get_value, maybe_get_value};
+ghost use Rattle.operands.specs.Operands.{no_register, no_constant, register_met, fp_register_met, code_met, constant_met, value_met, get_register, get_fp_register, get_cc, with_sign, signed, get_integer, get_constant, get_value, maybe_get_value};
+ghost use Rattle.operands.specs.Made.{TokenMade, NumberMade};
 
 use cursor::Cursor;
-use lexer::Token;
+use lexer::{Token, TokenKind};
 use operand::{InstructionValue, Miss, Operand, OperandRead, Want};
 
 #[derive(Clone, Copy)]
@@ -17,72 +19,67 @@ pub struct IntegerRead {
     pub cursor: Cursor,
 }
 
-fn expected_register(t: Token) -> Miss
-    ensures { result ≡ no_register t }
+fn expected_register(token: Token) -> Miss
+    ensures { result ≡ no_register token }
 {
-    let location = t.location;
-    let kind = t.kind;
-    Miss::ExpectedRegister(lexer::strip(kind), location)
+    Miss::ExpectedRegister(lexer::strip(token.kind), token.location)
 }
 
-fn expected_constant(t: Token) -> Miss
-    ensures { result ≡ no_constant t }
+fn expected_constant(token: Token) -> Miss
+    ensures { result ≡ no_constant token }
 {
-    let location = t.location;
-    let kind = t.kind;
-    Miss::ExpectedConstant(lexer::strip(kind), location)
+    Miss::ExpectedConstant(lexer::strip(token.kind), token.location)
+}
+
+// What `make` makes of the next token that is not passed over.
+fn read_token<F: FnOnce(Token) -> Result<Operand, Miss>>(
+    list: &[u8],
+    from: Cursor,
+    make: F,
+) -> OperandRead
+    requires placed { Placed list.now from }
+    requires callable { F.IsAlwaysCallable make }
+    ensures { TokenMade (F.post make) list.now from.index result.answer result.cursor }
+{
+    let read = cursor::next_adjacent(list, from);
+    let answer = match read.answer {
+        Some(token) => make(token),
+        None => Err(Miss::EndOfFile),
+    };
+    OperandRead {
+        answer,
+        cursor: read.cursor,
+    }
 }
 
 pub fn get_register(list: &[u8], from: Cursor) -> OperandRead
     requires { Placed list.now from }
     ensures { ReadAs list.now (given Want.Register (get_register (tokens list.now) from.index)) result.answer result.cursor }
 {
-    let read = cursor::next_adjacent(list, from);
-    let seen = read.answer;
-    let cursor = read.cursor;
-    let answer = register_seen(seen);
-    OperandRead { answer, cursor }
+    read_token(list, from, register_met)
 }
 
-fn register_seen(seen: Option<Token>) -> Result<Operand, Miss>
-    ensures { result ≡ answer_of Want.Register (register_seen seen) }
+fn register_met(token: Token) -> Result<Operand, Miss>
+    ensures { result ≡ answer_of Want.Register (register_met token (as_register token.kind)) }
 {
-    match seen {
-        None => Err(Miss::EndOfFile),
-        Some(t) => {
-            let kind = t.kind;
-            match lexer::as_register(kind) {
-                Some(slot) => Ok(Operand::Register(slot)),
-                None => Err(expected_register(t)),
-            }
-        }
-    }
+    lexer::as_register(token.kind)
+        .map(Operand::Register)
+        .ok_or_else(|| expected_register(token))
 }
 
 pub fn get_fp_register(list: &[u8], from: Cursor) -> OperandRead
     requires { Placed list.now from }
     ensures { ReadAs list.now (given Want.FPRegister (get_fp_register (tokens list.now) from.index)) result.answer result.cursor }
 {
-    let read = cursor::next_adjacent(list, from);
-    let seen = read.answer;
-    let cursor = read.cursor;
-    let answer = fp_register_seen(seen);
-    OperandRead { answer, cursor }
+    read_token(list, from, fp_register_met)
 }
 
-fn fp_register_seen(seen: Option<Token>) -> Result<Operand, Miss>
-    ensures { result ≡ answer_of Want.FPRegister (fp_register_seen seen) }
+fn fp_register_met(token: Token) -> Result<Operand, Miss>
+    ensures { result ≡ answer_of Want.FPRegister (fp_register_met token (as_fp_register token.kind)) }
 {
-    match seen {
-        None => Err(Miss::EndOfFile),
-        Some(t) => {
-            let kind = t.kind;
-            match lexer::as_fp_register(kind) {
-                Some(slot) => Ok(Operand::FPRegister(slot)),
-                None => Err(expected_register(t)),
-            }
-        }
-    }
+    lexer::as_fp_register(token.kind)
+        .map(Operand::FPRegister)
+        .ok_or_else(|| expected_register(token))
 }
 
 // A condition code takes no sign, and its low byte.
@@ -90,37 +87,22 @@ pub fn get_cc(list: &[u8], from: Cursor) -> OperandRead
     requires { Placed list.now from }
     ensures { ReadAs list.now (given Want.Code (get_cc (tokens list.now) from.index)) result.answer result.cursor }
 {
-    let read = cursor::next_adjacent(list, from);
-    let seen = read.answer;
-    let cursor = read.cursor;
-    let answer = code_seen(seen);
-    OperandRead { answer, cursor }
+    read_token(list, from, code_met)
 }
 
-fn code_seen(seen: Option<Token>) -> Result<Operand, Miss>
-    ensures { result ≡ answer_of Want.Code (code_seen seen) }
+fn code_met(token: Token) -> Result<Operand, Miss>
+    ensures { result ≡ answer_of Want.Code (code_met token (as_integer token.kind)) }
 {
-    match seen {
-        None => Err(Miss::EndOfFile),
-        Some(t) => {
-            let kind = t.kind;
-            match lexer::as_integer(kind) {
-                Some(n) => Ok(Operand::Code(n)),
-                None => Err(expected_constant(t)),
-            }
-        }
-    }
+    lexer::as_integer(token.kind)
+        .map(Operand::Code)
+        .ok_or_else(|| expected_constant(token))
 }
 
 // A number with its sign; negation wraps at 64 bits.
 pub fn with_sign(minus: bool, n: u64) -> u64
     ensures { result ≡ with_sign minus n }
 {
-    if minus {
-        std::num::wrapping_sub_u64(0, n)
-    } else {
-        n
-    }
+    if minus { n.wrapping_neg() } else { n }
 }
 
 // The literal behind a sign; where there is none, reading stands behind the sign.
@@ -128,25 +110,17 @@ fn signed(minus: bool, list: &[u8], from: Cursor) -> IntegerRead
     requires { Placed list.now from }
     ensures { ReadAs list.now (signed minus (tokens list.now) from.index) result.answer result.cursor }
 {
-    let read = cursor::next_adjacent(list, from);
-    let seen = read.answer;
-    let next = read.cursor;
     let nothing = IntegerRead {
         answer: None,
         cursor: from,
     };
-    match seen {
+    let read = cursor::next_adjacent(list, from);
+    match read.answer.and_then(|token| lexer::as_integer(token.kind)) {
+        Some(n) => IntegerRead {
+            answer: Some(with_sign(minus, n)),
+            cursor: read.cursor,
+        },
         None => nothing,
-        Some(t) => {
-            let kind = t.kind;
-            match lexer::as_integer(kind) {
-                None => nothing,
-                Some(n) => IntegerRead {
-                    answer: Some(with_sign(minus, n)),
-                    cursor: next,
-                },
-            }
-        }
     }
 }
 
@@ -155,18 +129,39 @@ pub fn get_integer(first: Token, list: &[u8], from: Cursor) -> IntegerRead
     requires { Placed list.now from }
     ensures { ReadAs list.now (get_integer first (tokens list.now) from.index) result.answer result.cursor }
 {
-    let kind = first.kind;
-    let number = lexer::strip(kind);
-    if number == lexer::PLUS {
-        return signed(false, list, from);
+    match first.kind {
+        TokenKind::Plus => signed(false, list, from),
+        TokenKind::Minus => signed(true, list, from),
+        kind => IntegerRead {
+            answer: lexer::as_integer(kind),
+            cursor: from,
+        },
     }
-    if number == lexer::MINUS {
-        return signed(true, list, from);
-    }
-    let answer = lexer::as_integer(kind);
-    IntegerRead {
-        answer,
-        cursor: from,
+}
+
+// What `make` makes of the next token that is not passed over and of the number that begins with it.
+fn read_number<F: FnOnce(Token, Option<u64>) -> Result<Operand, Miss>>(
+    list: &[u8],
+    from: Cursor,
+    make: F,
+) -> OperandRead
+    requires placed { Placed list.now from }
+    requires callable { F.IsAlwaysCallable make }
+    ensures { NumberMade (F.post make) list.now from.index result.answer result.cursor }
+{
+    let read = cursor::next_adjacent(list, from);
+    match read.answer {
+        Some(token) => {
+            let number = get_integer(token, list, read.cursor);
+            OperandRead {
+                answer: make(token, number.answer),
+                cursor: number.cursor,
+            }
+        }
+        None => OperandRead {
+            answer: Err(Miss::EndOfFile),
+            cursor: read.cursor,
+        },
     }
 }
 
@@ -174,69 +169,31 @@ pub fn get_constant(list: &[u8], from: Cursor) -> OperandRead
     requires { Placed list.now from }
     ensures { ReadAs list.now (given Want.Constant (get_constant (tokens list.now) from.index)) result.answer result.cursor }
 {
-    let read = cursor::next_adjacent(list, from);
-    let seen = read.answer;
-    let cursor = read.cursor;
-    match seen {
-        None => OperandRead {
-            answer: Err(Miss::EndOfFile),
-            cursor,
-        },
-        Some(t) => {
-            let read = get_integer(t, list, cursor);
-            let number = read.answer;
-            let cursor = read.cursor;
-            let answer = constant_met(t, number);
-            OperandRead { answer, cursor }
-        }
-    }
+    read_number(list, from, constant_met)
 }
 
-fn constant_met(t: Token, number: Option<u64>) -> Result<Operand, Miss>
-    ensures { result ≡ answer_of Want.Constant (constant_met t number) }
+fn constant_met(token: Token, number: Option<u64>) -> Result<Operand, Miss>
+    ensures { result ≡ answer_of Want.Constant (constant_met token number) }
 {
-    match number {
-        Some(n) => Ok(Operand::Constant(n)),
-        None => Err(expected_constant(t)),
-    }
+    number
+        .map(Operand::Constant)
+        .ok_or_else(|| expected_constant(token))
 }
 
 pub fn get_value(list: &[u8], from: Cursor) -> OperandRead
     requires { Placed list.now from }
     ensures { ReadAs list.now (given Want.Value (get_value (tokens list.now) from.index)) result.answer result.cursor }
 {
-    let read = cursor::next_adjacent(list, from);
-    let seen = read.answer;
-    let cursor = read.cursor;
-    match seen {
-        None => OperandRead {
-            answer: Err(Miss::EndOfFile),
-            cursor,
-        },
-        Some(t) => {
-            let read = get_integer(t, list, cursor);
-            let number = read.answer;
-            let cursor = read.cursor;
-            let answer = value_met(t, number);
-            OperandRead { answer, cursor }
-        }
-    }
+    read_number(list, from, value_met)
 }
 
-fn value_met(t: Token, number: Option<u64>) -> Result<Operand, Miss>
-    ensures { result ≡ answer_of Want.Value (value_met t number) }
+fn value_met(token: Token, number: Option<u64>) -> Result<Operand, Miss>
+    ensures { result ≡ answer_of Want.Value (value_met token number) }
 {
-    match number {
-        Some(n) => Ok(Operand::Value(InstructionValue::Literal(n))),
-        None => {
-            let kind = t.kind;
-            match lexer::as_register(kind) {
-                Some(slot) => Ok(Operand::Value(
-                    InstructionValue::Slot(slot),
-                )),
-                None => Err(expected_register(t)),
-            }
-        }
+    match (number, lexer::as_register(token.kind)) {
+        (Some(n), _) => Ok(Operand::Value(InstructionValue::Literal(n))),
+        (None, Some(slot)) => Ok(Operand::Value(InstructionValue::Slot(slot))),
+        (None, None) => Err(expected_register(token)),
     }
 }
 
@@ -246,16 +203,12 @@ pub fn maybe_get_value(list: &[u8], from: Cursor) -> OperandRead
     ensures { ReadAs list.now (given Want.MaybeValue (maybe_get_value (tokens list.now) from.index)) result.answer result.cursor }
 {
     let read = get_value(list, from);
-    let value = read.answer;
-    match value {
-        Ok(_) => read,
-        Err(_) => {
-            let ahead = cursor::peek_adjacent(list, from);
-            let cursor = ahead.cursor;
-            OperandRead {
-                answer: Ok(Operand::Absent),
-                cursor,
-            }
-        }
+    if read.answer.is_ok() {
+        return read;
+    }
+    let ahead = cursor::peek_adjacent(list, from);
+    OperandRead {
+        answer: Ok(Operand::Absent),
+        cursor: ahead.cursor,
     }
 }

@@ -12,7 +12,7 @@ use Rattle.lexer.specs.declared.Token.{Token}
 pub returns-in-Err : goal.returns-in-Err
 returns-in-Err c =
     let r = c.get_register-read.ensures in
-    read_at _ _ _ _ r.placed (ap (given OffsetOrLabel) (braced_is _ _ c.args.label (reader_is Register r _ c.in-Err.is)))
+    rw c.in-Err.is (read_at _ _ _ _ r.placed (ap (given OffsetOrLabel) (braced_is _ _ c.args.label (reader_is Register r _ c.in-Err.is))))
 
 pub returns-in-Ok : goal.returns-in-Ok
 returns-in-Ok c =

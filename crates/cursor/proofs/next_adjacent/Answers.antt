@@ -20,6 +20,6 @@ returns c =
     let found = c.seek_without-found.ensures.0 ∙ c.new.ensures.0 in
     joined _ _ _ _ _
     (rw (c.new.ensures.0, ap (λ (x : Cursor). x.index) c.new.ensures.1) at c.seek_without-found.ensures.1)
-    (rw found at c.next-answer.ensures.0)
-    (rw found at c.next-answer.ensures.2)
-    (rw found at c.next-answer.ensures.3)
+    (rw found at c.next.ensures.0)
+    (c.position.ensures ∙ (rw found at c.next.ensures.2))
+    (rw c.position.ensures (rw found at c.next.ensures.3))

@@ -14,7 +14,8 @@ joined s i c₁ t e f p = record { answer_is = f ∙ ap (λ (x : Cursor). peek (
 
 pub returns : goal.returns
 returns c =
-    joined _ _ _ _
+    rw c.position.ensures
+    (joined _ _ _ _
     (rw (c.new.ensures.0, ap (λ (x : Cursor). x.index) c.new.ensures.1) at c.seek_without-found.ensures.1)
-    (rw (c.seek_without-found.ensures.0 ∙ c.new.ensures.0) at c.peek-answer.ensures)
-    (rw c.new.ensures.0 at c.seek_without-found.ensures.2)
+    (rw (c.seek_without-found.ensures.0 ∙ c.new.ensures.0) at c.peek.ensures)
+    (rw c.new.ensures.0 at c.seek_without-found.ensures.2))

@@ -1,22 +1,21 @@
--- Each turn stands at a token, whose number is at most the position asked for.
+-- Each turn before the list's end stands at a token.
 use Rattle.std.proofs.Common.{arith}
 use Rattle.lexer.specs.Tokens.{tokens}
 use Rattle.cursor.specs.Cursors.{start_index}
 use Rattle.cursor.proofs.CursorsLaws.{stands, ended, placed_is, placed_first}
 use Rattle.cursor.proofs.start.Goals as goal
 
-pub loop-at-init : goal.loop-at-init
-loop-at-init c = (placed_first _ c.requires, omega arith)
+pub loop-index-init : goal.loop-index-init
+loop-index-init c = placed_first _ c.requires
+
+pub returns-then-at-list : goal.returns-then-at-list
+returns-then-at-list c =
+    let s = c.args.list.now in
+    let e = ended _ _ c.loop-index.invariant c.if-at-list.true in
+    placed_is s _ (start_index (tokens s) c.args.position) c.loop-index.invariant (omega arith)
 
 pub next-at-requires : goal.next-at-requires
-next-at-requires c = omega (arith, (stands _ _ c.loop-at.invariant.0 c.loop-at-test.true).token)
+next-at-requires c = omega (arith, (stands _ _ c.loop-index.invariant c.if-at-list.false).token)
 
-pub loop-at-preserved : goal.loop-at-preserved
-loop-at-preserved c =
-    (rw c.next-at.ensures.0 (stands _ _ c.loop-at.invariant.0 c.loop-at-test.true).behind, omega arith)
-
-pub returns : goal.returns
-returns c =
-    let s = c.args.list.now in
-    let e = ended _ _ c.loop-at.invariant.0 c.loop-at-test.false in
-    placed_is s _ (start_index (tokens s) c.args.position) c.loop-at.invariant.0 (omega arith)
+pub loop-index-preserved : goal.loop-index-preserved
+loop-index-preserved c = rw c.next-at.ensures.0 (stands _ _ c.loop-index.invariant c.if-at-list.false).behind

@@ -1,12 +1,10 @@
--- The register is made of the token that was read.
-use Rattle.std.specs.Prelude.{Option}
+use Rattle.std.specs.Prelude.{refl}
+use Rattle.std.proofs.Common.{rules}
 use Rattle.operand.specs.declared.Want.TheVariants.{FPRegister}
-use Rattle.operand.specs.Answers.{answer_of}
 use Rattle.operands.specs.Operands.{fp_register_seen, get_fp_register}
-use Rattle.operands.proofs.OperandsLaws.{read_made}
+use Rattle.operands.proofs.MadeLaws.{token_made}
 use Rattle.operands.proofs.get_fp_register.Goals as goal
-use Rattle.lexer.specs.declared.Token.{Token}
 
 pub returns : goal.returns
 unfolding get_fp_register
-returns c = read_made c.next_adjacent-read.ensures (λ (s : Option Token). answer_of FPRegister (fp_register_seen s)) _ c.fp_register_seen-answer.ensures
+returns c = token_made FPRegister fp_register_seen c.read_token.ensures refl (λ t b p. search rules)
