@@ -139,7 +139,7 @@ abs_same c h = go (read_operands (pseudo_wants Abs) (tokens c.token_list) (start
     i = (read_operands (pseudo_wants Abs) (tokens c.token_list) (start_of c)).index
 
     made : Job → Answer (AskedAll (pseudo_wants Abs)) → Line
-    made job a = line_by a i (λ x. (Ok tt)) (pseudo_pairs job Abs) (pseudo_form Abs)
+    made job a = line_by a i (λ x. Ok tt) (pseudo_pairs job Abs) (pseudo_form Abs)
 
     stopped : (x : AskedAll (pseudo_wants Abs)) (v : Verdict) → IsRefused (accept_or c.token_list (mnemonic_location c.mnemonic) c.numbers c.lent (made Commit (Got x)) v).answer
         → accept_or c.token_list (mnemonic_location c.mnemonic) c.numbers c.lent (made Manual (Got x)) v

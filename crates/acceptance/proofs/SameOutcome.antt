@@ -81,8 +81,8 @@ module _ (j k : Job) where
   builtin_same p ts i h = go (read_operands (pseudo_wants p) ts i).answer
     where
       go : (a : Answer (AskedAll (pseudo_wants p)))
-          → line_by a (read_operands (pseudo_wants p) ts i).index (λ x. (Ok tt)) (pseudo_pairs j p) (pseudo_form p)
-          ≡ line_by a (read_operands (pseudo_wants p) ts i).index (λ x. (Ok tt)) (pseudo_pairs k p) (pseudo_form p)
+          → line_by a (read_operands (pseudo_wants p) ts i).index (λ x. Ok tt) (pseudo_pairs j p) (pseudo_form p)
+          ≡ line_by a (read_operands (pseudo_wants p) ts i).index (λ x. Ok tt) (pseudo_pairs k p) (pseudo_form p)
       go (Got x) = rw (h x)
       go (Missed m) = refl
 

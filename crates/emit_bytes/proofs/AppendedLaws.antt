@@ -46,7 +46,7 @@ words_next ps i h = rw add-one (words_suc ps i h)
 
 -- ---- pending records
 
-pair_length : (tokens : List ℕ) (origin : Origin) (waits : Option InstructionLabel) → length (pair_bytes tokens origin waits) ≡ pair_len tokens waits
+pub pair_length : (tokens : List ℕ) (origin : Origin) (waits : Option InstructionLabel) → length (pair_bytes tokens origin waits) ≡ pair_len tokens waits
 pair_length tokens origin None = refl
 pair_length tokens origin (Some waits) = pending_length tokens origin waits
 

@@ -15,7 +15,7 @@ use Rattle.emit_outcome.specs.Checks.{layout_stop, list_stop}
 use Rattle.emit_checks.specs.Made.{ListsGood}
 
 module _ (token_list mnemonic descriptors : List ℕ) (lent : Lent) (region : ℕ) (counts : FillCounts) where
-  pub layouts_are : {t m d r p b : (Option ℕ)} → token_layout token_list ≡ t → mnemonic_layout mnemonic ≡ m → descriptor_layout descriptors ≡ d
+  pub layouts_are : {t m d r p b : Option ℕ} → token_layout token_list ≡ t → mnemonic_layout mnemonic ≡ m → descriptor_layout descriptors ≡ d
       → data_buffer_layout region counts.data_len lent.region_data ≡ r → pending_buffer_layout counts.pending lent.pending ≡ p
       → breakpoint_buffer_layout counts.breakpoints lent.breakpoints ≡ b
       → layout_stop token_list mnemonic descriptors lent region counts
@@ -23,7 +23,15 @@ module _ (token_list mnemonic descriptors : List ℕ) (lent : Lent) (region : �
   unfolding layout_stop
   layouts_are ht hm hd hr hp hb = rw (ht, hm, hd, hr, hp, hb)
 
-  pub lists_are : {v : Verdict} {r : (Option ℕ)} → layout_stop token_list mnemonic descriptors lent region counts ≡ v → descriptor_repeat descriptors ≡ r
+  -- the same of the verdicts
+  pub verdicts_are : {t m d r p b : Verdict} → layout_verdict 0 (token_layout token_list) ≡ t → layout_verdict 1 (mnemonic_layout mnemonic) ≡ m
+      → layout_verdict 2 (descriptor_layout descriptors) ≡ d → layout_verdict 3 (data_buffer_layout region counts.data_len lent.region_data) ≡ r
+      → layout_verdict 4 (pending_buffer_layout counts.pending lent.pending) ≡ p → layout_verdict 5 (breakpoint_buffer_layout counts.breakpoints lent.breakpoints) ≡ b
+      → layout_stop token_list mnemonic descriptors lent region counts ≡ and_then t (and_then m (and_then d (and_then r (and_then p b))))
+  unfolding layout_stop
+  verdicts_are ht hm hd hr hp hb = rw (ht, hm, hd, hr, hp, hb)
+
+  pub lists_are : {v : Verdict} {r : Option ℕ} → layout_stop token_list mnemonic descriptors lent region counts ≡ v → descriptor_repeat descriptors ≡ r
       → list_stop token_list mnemonic descriptors lent region counts ≡ and_then v (name_verdict 2 r)
   unfolding list_stop
   lists_are hv hr = rw (hv, hr)

@@ -29,33 +29,15 @@ pub fn check_layouts(
     ensures { result ≡ layout_stop tokens.now mnemonic.now descriptors.now
         (lent_of «data».now pending.now breakpoints.now) region counts }
 {
-    if let Some(place) = lexer::first_bad_token(tokens) {
-        return Err(Refusal::BadLayout(0, place as u32));
-    }
-    if let Some(place) = descriptors::first_bad_mnemonic(mnemonic) {
-        return Err(Refusal::BadLayout(1, place as u32));
-    }
-    if let Some(place) = descriptors::first_bad_descriptor(descriptors) {
-        return Err(Refusal::BadLayout(2, place as u32));
-    }
-    if let Some(place) = breakpoints::check_data_buffer(
-        data,
-        counts.data_len as usize,
-        region,
-    ) {
-        return Err(Refusal::BadLayout(3, place as u32));
-    }
+    refusal::check_layout(0, lexer::first_bad_token(tokens))?;
+    refusal::check_layout(1, descriptors::first_bad_mnemonic(mnemonic))?;
+    refusal::check_layout(2, descriptors::first_bad_descriptor(descriptors))?;
+    let bytes = counts.data_len as usize;
+    refusal::check_layout(3, breakpoints::check_data_buffer(data, bytes, region))?;
     let kept = counts.pending as usize;
-    if let Some(place) = breakpoints::check_pending_buffer(pending, kept) {
-        return Err(Refusal::BadLayout(4, place as u32));
-    }
-    if let Some(place) = breakpoints::check_breakpoint_buffer(
-        breakpoints,
-        counts.breakpoints as usize,
-    ) {
-        return Err(Refusal::BadLayout(5, place as u32));
-    }
-    Ok(())
+    refusal::check_layout(4, breakpoints::check_pending_buffer(pending, kept))?;
+    let filled = counts.breakpoints as usize;
+    refusal::check_layout(5, breakpoints::check_breakpoint_buffer(breakpoints, filled))
 }
 
 // Refusals 1 and 2.
@@ -72,7 +54,7 @@ pub fn check_lists(
     ensures { result ≡ list_stop tokens.now mnemonic.now descriptors.now
         (lent_of «data».now pending.now breakpoints.now) region counts }
 {
-    match check_layouts(
+    check_layouts(
         tokens,
         mnemonic,
         descriptors,
@@ -81,13 +63,8 @@ pub fn check_lists(
         breakpoints,
         region,
         counts,
-    ) {
-        Err(refusal) => Err(refusal),
-        Ok(()) => match descriptors::first_repeat(descriptors) {
-            None => Ok(()),
-            Some(place) => Err(Refusal::DuplicateName(2, place as u32)),
-        },
-    }
+    )?;
+    refusal::check_names(2, descriptors::first_repeat(descriptors))
 }
 
 // The refusal of an operand that was missed, on a line whose mnemonic stands at `line`.
@@ -140,14 +117,11 @@ fn check_edge(numbers: LineNumbers, line: Location, n: usize) -> Result<(), Refu
     ensures { result ≡ edge_stop line numbers.place.address n numbers.counts.data_len }
 {
     let address = numbers.place.address;
-    let mut left = n;
-    let mut at = numbers.counts.data_len;
-    while 0 < left {
-        if address > 0xFFFF_FFFF - at {
+    for i in 0..n {
+        let at = numbers.counts.data_len + 4 * i as u32;
+        if address > u32::MAX - at {
             return Err(Refusal::OverwriteEdge(line, address, at));
         }
-        at = at + 4;
-        left = left - 1;
     }
     Ok(())
 }
@@ -172,25 +146,21 @@ fn check_room(
     if numbers.place.region == emit_outcome::NO_REGION {
         return Err(Refusal::MissingRegion(line));
     }
-    match check_edge(numbers, line, n) {
-        Err(refusal) => Err(refusal),
-        Ok(()) => {
-            let filled = counts.data_len as usize + 4 * n;
-            if filled > data.len() {
-                return Err(Refusal::NoSpace(line, 0));
-            }
-            if filled > emit_outcome::MOST_DATA {
-                return Err(Refusal::NoSpace(line, 0));
-            }
-            if counts.pending as usize + size > pending.len() {
-                return Err(Refusal::NoSpace(line, 1));
-            }
-            if counts.breakpoints as usize + (12 + 4 * n) > breakpoints.len() {
-                return Err(Refusal::NoSpace(line, 2));
-            }
-            Ok(())
-        }
+    check_edge(numbers, line, n)?;
+    let filled = counts.data_len as usize + 4 * n;
+    if filled > data.len() {
+        return Err(Refusal::NoSpace(line, 0));
     }
+    if filled > emit_outcome::MOST_DATA {
+        return Err(Refusal::NoSpace(line, 0));
+    }
+    if counts.pending as usize + size > pending.len() {
+        return Err(Refusal::NoSpace(line, 1));
+    }
+    if counts.breakpoints as usize + (12 + 4 * n) > breakpoints.len() {
+        return Err(Refusal::NoSpace(line, 2));
+    }
+    Ok(())
 }
 
 // Refusals 4 to 12, 19, 20 and 27 of a line whose mnemonic stands at `line`.
@@ -207,11 +177,17 @@ pub fn check_line(
     ensures { result ≡ line_stop tokens.now line numbers
         (lent_of «data».now pending.now breakpoints.now) (made_line made) }
 {
-    let answer = made.answer;
-    let e = made.emit;
-    match answer {
+    match made.answer {
         LineAnswer::Missed(miss) => Err(miss_refusal(line, miss)),
         LineAnswer::OutOfRange(fault) => Err(fault_refusal(line, fault)),
-        LineAnswer::Made => check_room(tokens, data, pending, breakpoints, numbers, line, e),
+        LineAnswer::Made => check_room(
+            tokens,
+            data,
+            pending,
+            breakpoints,
+            numbers,
+            line,
+            made.emit,
+        ),
     }
 }

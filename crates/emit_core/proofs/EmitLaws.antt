@@ -35,11 +35,11 @@ use Rattle.refusal.specs.Verdicts.{Verdict}
 
 -- what a name is, by what the table and the pseudo-instructions say
 module _ (descriptors name : List ℕ) where
-  pub by_table : {found : (Option ℕ)} → find_descriptor descriptors name ≡ found → meaning descriptors name ≡ or_pseudo found name
+  pub by_table : {found : Option ℕ} → find_descriptor descriptors name ≡ found → meaning descriptors name ≡ or_pseudo found name
   unfolding meaning
   by_table e = ap (λ (n : Option ℕ). or_pseudo n name) e
 
-  pub by_pseudo : {p : (Option Pseudo)} → find_descriptor descriptors name ≡ None → pseudo_of name ≡ p → meaning descriptors name ≡ or_neither p
+  pub by_pseudo : {p : Option Pseudo} → find_descriptor descriptors name ≡ None → pseudo_of name ≡ p → meaning descriptors name ≡ or_neither p
   by_pseudo e f = by_table e ∙ ap or_neither f
 
   -- a descriptor that was found stands in the table whole

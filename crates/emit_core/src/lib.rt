@@ -1,4 +1,4 @@
-// The core of an emit call in each sort of job, with the counts by value: emits one line, or refuses it and leaves every lent byte (emit.rs).
+// The core of an emit call of each job, with the counts by value: emits one line, or refuses it and leaves every lent byte (emit.rs).
 #![tactic(auto)]
 
 ghost use Rattle.std.specs.Prelude.{◌≡◌, ◌+◌, ◌≤◌, length};
@@ -11,7 +11,7 @@ ghost use Rattle.emit_outcome.specs.Dispatch.{meaning, table_line};
 ghost use Rattle.emit_outcome.specs.Call.{lent_of, call_of, outcome_of};
 ghost use Rattle.emit_outcome.specs.Checks.{list_stop};
 ghost use Rattle.emit_outcome.specs.Emit.{emit_outcome};
-ghost use Rattle.emit_outcome.specs.Contract.{EmittedIs, EmittedBy};
+ghost use Rattle.emit_outcome.specs.Contract.{EmittedBy};
 ghost use Rattle.emit_core.specs.Read.{ReadIs};
 
 use cursor::Cursor;
@@ -22,6 +22,7 @@ use record::Location;
 use refusal::Refusal;
 
 // A line that was read: whether its mnemonic is known, where that stands, and what was made of the operands. Nothing is made of one that is unknown.
+// kept: an Option of what was made is no plainer, since `ReadIs` and its laws, which the indexed line cites too, take the flag and the line apart.
 #[derive(Clone, Copy)]
 pub struct LineRead {
     pub known: bool,
@@ -30,6 +31,7 @@ pub struct LineRead {
 }
 
 // A descriptor goes before a pseudo-instruction of its name.
+// kept: Meaning has the three cases of the definition that the whole outcome is written from; an Option of the first two is no plainer.
 fn find_meaning(descriptors: &[u8], name: &[u8]) -> Meaning
     requires { descriptor_layout descriptors.now ≡ None }
     ensures { result ≡ meaning descriptors.now name.now }
@@ -57,9 +59,7 @@ fn dispatch_instruction(
         result.answer result.emit result.cursor }
 {
     let instruction = descriptors::instruction_at(descriptors, place);
-    let encoding = instruction.encoding;
-    let opcode = instruction.opcode;
-    emit_dispatch::dispatch_encoding(job, encoding, opcode, tokens, at)
+    emit_dispatch::dispatch_encoding(job, instruction.encoding, instruction.opcode, tokens, at)
 }
 
 // Refusal 3, or the line that is made of the operands from the position on.
@@ -74,11 +74,9 @@ pub fn read_line(
     ensures { ReadIs job tokens.now mnemonic.now descriptors.now position result.known result.line result.made }
 {
     let named = descriptors::read_mnemonic(mnemonic);
-    let bytes = named.bytes;
-    let len = named.len;
     let line = named.location;
     let start = cursor::start(tokens, position as usize);
-    match find_meaning(descriptors, &bytes[..len]) {
+    match find_meaning(descriptors, &named.bytes[..named.len]) {
         Meaning::Neither => LineRead {
             known: false,
             line,
@@ -125,17 +123,22 @@ fn emit_named(
         ≡ outcome_of result.answer result.counts (lent_of «data».new pending.new breakpoints.new) }
 {
     let read = read_line(job, tokens, mnemonic, descriptors, numbers.place.position);
-    let line = read.line;
     if !read.known {
-        let counts = numbers.counts;
         return emit_made::refused(
-            Refusal::UnknownInstruction(line),
+            Refusal::UnknownInstruction(read.line),
             numbers.place.position,
-            counts,
+            numbers.counts,
         );
     }
-    let made = read.made;
-    emit_made::append_or_refuse(tokens, data, pending, breakpoints, numbers, line, made)
+    emit_made::append_or_refuse(
+        tokens,
+        data,
+        pending,
+        breakpoints,
+        numbers,
+        read.line,
+        read.made,
+    )
 }
 
 // Emits the line of one mnemonic, or refuses it and leaves every lent byte and count as it was.
@@ -176,32 +179,4 @@ pub fn do_job(
             LineNumbers { counts, place },
         ),
     }
-}
-
-// The line of the commit.
-pub fn do_instruction(
-    counts: FillCounts,
-    tokens: &[u8],
-    mnemonic: &[u8],
-    descriptors: &[u8],
-    data: &mut [u8],
-    pending: &mut [u8],
-    breakpoints: &mut [u8],
-    place: LinePlace,
-) -> Emitted
-    ensures { EmittedIs (call_of tokens.now mnemonic.now descriptors.now
-        (lent_of «data».old pending.old breakpoints.old) counts place)
-        result.answer result.counts (lent_of «data».new pending.new breakpoints.new) }
-{
-    do_job(
-        Job::Commit,
-        counts,
-        tokens,
-        mnemonic,
-        descriptors,
-        data,
-        pending,
-        breakpoints,
-        place,
-    )
 }

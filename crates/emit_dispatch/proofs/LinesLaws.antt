@@ -1,5 +1,6 @@
 -- Laws of a line: the words of an encoding by its case, and the line by what was read. Assumes nothing.
 use Rattle.std.specs.Prelude.{ℕ, ◌≡◌, refl, List, [], Bool, true, false, Err, Ok, Result}
+use Rattle.std.specs.Result.{result_and}
 use Rattle.std.proofs.Common.{sym, subst, arith}
 use Rattle.instructions.specs.declared.Opcode.{Opcode}
 use Rattle.instructions.specs.declared.Encoding.{Encoding}
@@ -40,7 +41,7 @@ pub pseudo_as : {r : EmitInstruction} (job : Job) {p is : Pseudo} (o : Operands)
     → EmitIs r (pseudo_pairs job p (held_values (pseudo_wants p) o)) (pseudo_form p (held_values (pseudo_wants p) o))
 pseudo_as {r} job o e i = subst (λ (x : Pseudo). EmitIs r (pseudo_pairs job x (held_values (pseudo_wants x) o)) (pseudo_form x (held_values (pseudo_wants x) o))) (sym e) i
 
-pub range_as : {r : (Result (Unit {0}) Fault)} (job : Job) {e is : Encoding} (op : Opcode) (o : Operands) → e ≡ is → r ≡ encoding_range job is op (held_values (encoding_wants is) o)
+pub range_as : {r : Result (Unit {0}) Fault} (job : Job) {e is : Encoding} (op : Opcode) (o : Operands) → e ≡ is → r ≡ encoding_range job is op (held_values (encoding_wants is) o)
     → r ≡ encoding_range job e op (held_values (encoding_wants e) o)
 range_as {r} job op o e i = subst (λ (x : Encoding). r ≡ encoding_range job x op (held_values (encoding_wants x) o)) (sym e) i
 
@@ -51,6 +52,11 @@ pub within_made : (r : Result (Unit {0}) Fault) → range_answer r ≡ Made → 
 within_made (Ok tt) e = refl
 within_made (Err fault) e = cc
 
+-- std's test of one and then the other
+pub and_then_is : (first next : Result (Unit {0}) Fault) → result_and first next ≡ range_then first next
+and_then_is (Ok tt) next = refl
+and_then_is (Err fault) next = refl
+
 -- and so does each part of a test of two
 pub then_within : (first next : Result (Unit {0}) Fault) → range_then first next ≡ Ok tt → (first ≡ Ok tt) × (next ≡ Ok tt)
 then_within (Ok tt) next e = (refl, e)
@@ -60,11 +66,11 @@ then_within (Err fault) next e = let z : ◌≡◌ {A = ℕ} 0 1 = cc in absurd 
 pub kept_within : (job : Job) (third : Bool) (op : Opcode) → kept_range job third op ≡ Ok tt → is_dropped job third op ≡ false
 kept_within job third op e = go (is_dropped job third op) e
   where
-    go : (b : Bool) → elim b [ true ↦ Err Dropped | false ↦ Ok tt ] ≡ Ok tt → b ≡ false
+    go : (b : Bool) → ◌≡◌ {A = Result (Unit {0}) Fault} (elim b [ true ↦ Err Dropped | false ↦ Ok tt ]) (Ok tt) → b ≡ false
     go true h = cc
     go false h = refl
 
-module _ (w : Wants) {s : List ℕ} (x : At (Answer (AskedAll w))) {given : (Result Operands Miss)} {cursor : Cursor} (r : ReadAs s (given_all w x) given cursor)
+module _ (w : Wants) {s : List ℕ} (x : At (Answer (AskedAll w))) {given : Result Operands Miss} {cursor : Cursor} (r : ReadAs s (given_all w x) given cursor)
     (range : AskedAll w → Result (Unit {0}) Fault) (pairs : AskedAll w → List InstructionPair) (form : AskedAll w → LoadForm) {answer : LineAnswer} {emit : EmitInstruction} where
   pub line_missed : (m : Miss) → given ≡ Err m → answer ≡ MissedOperand m → EmitIs emit [] Unloaded → LineAs s (line_by x.answer x.index range pairs form) answer emit cursor
   line_missed m e a i =

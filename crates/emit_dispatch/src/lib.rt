@@ -9,7 +9,7 @@ ghost use Rattle.operand.specs.Held.{constant_in, code_in, maybe_value_in};
 ghost use Rattle.operand_list.specs.HeldOperands.{held_values};
 ghost use Rattle.emit_pairs.specs.Pairs.{EmitIs};
 ghost use Rattle.emit_dispatch.specs.Wants.{encoding_wants, pseudo_wants};
-ghost use Rattle.emit_dispatch.specs.Lines.{within_or, range_then, is_given, kept_range, encoding_range, encoding_pairs, encoding_form, pseudo_pairs, pseudo_form, range_answer, encoding_line, pseudo_line};
+ghost use Rattle.emit_dispatch.specs.Lines.{within_or, is_given, kept_range, encoding_range, encoding_pairs, encoding_form, pseudo_pairs, pseudo_form, range_answer, encoding_line, pseudo_line};
 ghost use Rattle.emit_dispatch.specs.Contract.{LineAs};
 
 use cursor::Cursor;
@@ -75,13 +75,16 @@ fn encoding_wants(encoding: Encoding) -> Wants
             Want::Code,
         ),
         Encoding::FPCond(_) => three(Want::Code, Want::FPRegister, Want::FPRegister),
-        Encoding::FPCrossMove { flag } => {
-            if flag {
-                three(Want::FPRegister, Want::Register, Want::Nothing)
-            } else {
-                three(Want::Register, Want::FPRegister, Want::Nothing)
-            }
-        }
+        Encoding::FPCrossMove { flag: true } => three(
+            Want::FPRegister,
+            Want::Register,
+            Want::Nothing,
+        ),
+        Encoding::FPCrossMove { flag: false } => three(
+            Want::Register,
+            Want::FPRegister,
+            Want::Nothing,
+        ),
         Encoding::FPBranch { flag: _ } => three(Want::Code, Want::Label, Want::Nothing),
     }
 }
@@ -160,12 +163,11 @@ fn encoding_pairs(job: Job, encoding: Encoding, op: Opcode, operands: Operands) 
             Format { job, size },
             operands,
         ),
-        Encoding::FPCrossMove { flag } => {
-            if flag {
-                emit_float::do_fp_first_move_instruction(op, operands)
-            } else {
-                emit_float::do_fp_last_move_instruction(op, operands)
-            }
+        Encoding::FPCrossMove { flag: true } => {
+            emit_float::do_fp_first_move_instruction(op, operands)
+        }
+        Encoding::FPCrossMove { flag: false } => {
+            emit_float::do_fp_last_move_instruction(op, operands)
         }
         Encoding::FPBranch { flag } => emit_float::do_fp_branch_instruction(op, flag, operands),
     }
@@ -174,50 +176,32 @@ fn encoding_pairs(job: Job, encoding: Encoding, op: Opcode, operands: Operands) 
 fn within_or(fault: Fault, within: bool) -> Result<(), Fault>
     ensures { result ≡ within_or fault within }
 {
-    if within {
-        Ok(())
-    } else {
-        Err(fault)
-    }
+    if within { Ok(()) } else { Err(fault) }
 }
 
 fn shift_range(job: Job, operand: Operand) -> Result<(), Fault>
     ensures { result ≡ within_or Fault.ShiftAmount (shift_within job (constant_in operand)) }
 {
-    let within = jobs::shift_within(job, operand::constant_in(operand));
-    within_or(Fault::ShiftAmount, within)
+    within_or(
+        Fault::ShiftAmount,
+        jobs::shift_within(job, operand::constant_in(operand)),
+    )
 }
 
 fn code_range(job: Job, operand: Operand) -> Result<(), Fault>
     ensures { result ≡ within_or Fault.ConditionCode (code_within job (code_in operand)) }
 {
-    let within = jobs::code_within(job, operand::code_in(operand));
-    within_or(Fault::ConditionCode, within)
-}
-
-fn range_then(first: Result<(), Fault>, next: Result<(), Fault>) -> Result<(), Fault>
-    ensures { result ≡ range_then first next }
-{
-    match first {
-        Ok(()) => next,
-        Err(fault) => Err(fault),
-    }
+    within_or(
+        Fault::ConditionCode,
+        jobs::code_within(job, operand::code_in(operand)),
+    )
 }
 
 // Whether the optional operand of Inputs was read.
 fn is_given(operand: Operand) -> bool
     ensures { result ≡ is_given (maybe_value_in operand) }
 {
-    match operand {
-        Operand::Register(_) => false,
-        Operand::FPRegister(_) => false,
-        Operand::Code(_) => false,
-        Operand::Value(_) => true,
-        Operand::Constant(_) => false,
-        Operand::Label(_) => false,
-        Operand::Offset(_, _) => false,
-        Operand::Absent => false,
-    }
+    matches!(operand, Operand::Value(_))
 }
 
 fn kept_range(job: Job, third: bool, op: Opcode) -> Result<(), Fault>
@@ -231,39 +215,21 @@ fn kept_range(job: Job, third: bool, op: Opcode) -> Result<(), Fault>
 }
 
 // Whether the job takes the line: 19 and 20, then 27, then 9.
+#[tactic(auto, using(crate::proofs::LinesLaws::and_then_is))]
 fn encoding_range(job: Job, encoding: Encoding, op: Opcode, operands: Operands) -> Result<(), Fault>
     ensures { result ≡ encoding_range job encoding op (held_values (encoding_wants encoding) operands) }
 {
-    let first = operands.first;
-    let third = operands.third;
     let kept = kept_range(job, false, op);
     match encoding {
-        Encoding::Register => kept,
-        Encoding::RegisterShift => kept,
-        Encoding::Source => kept,
-        Encoding::Destination => kept,
-        Encoding::Inputs => kept_range(job, is_given(third), op),
-        Encoding::Sham => range_then(shift_range(job, third), kept),
-        Encoding::SpecialBranch => kept,
+        Encoding::Inputs => kept_range(job, is_given(operands.third), op),
+        Encoding::Sham => shift_range(job, operands.third).and(kept),
         Encoding::Immediate(alt) => {
-            range_then(
-                kept,
-                emit_pairs::immediate_range(alt, operand::constant_in(third)),
-            )
+            kept.and(emit_pairs::immediate_range(alt, operand::constant_in(operands.third)))
         }
-        Encoding::LoadImmediate => kept,
-        Encoding::Jump => kept,
-        Encoding::Branch => kept,
-        Encoding::BranchZero => kept,
-        Encoding::Parameterless => kept,
-        Encoding::Offset => kept,
-        Encoding::FPOffset => kept,
-        Encoding::FP3Register(_) => kept,
-        Encoding::FP2Register(_) => kept,
-        Encoding::FPMove { size: _, flag: _ } => range_then(code_range(job, third), kept),
-        Encoding::FPCond(_) => range_then(code_range(job, first), kept),
-        Encoding::FPCrossMove { flag: _ } => kept,
-        Encoding::FPBranch { flag: _ } => range_then(code_range(job, first), kept),
+        Encoding::FPMove { size: _, flag: _ } => code_range(job, operands.third).and(kept),
+        Encoding::FPCond(_) => code_range(job, operands.first).and(kept),
+        Encoding::FPBranch { flag: _ } => code_range(job, operands.first).and(kept),
+        _ => kept,
     }
 }
 
@@ -344,13 +310,11 @@ pub fn dispatch_encoding(
     ensures { LineAs list.now (encoding_line job encoding op (tokens list.now) from.index) result.answer result.emit result.cursor }
 {
     let read = operand_list::read_operands(encoding_wants(encoding), list, from);
-    let given = read.answer;
-    let cursor = read.cursor;
-    match given {
+    match read.answer {
         Err(miss) => LineEmit {
             answer: LineAnswer::Missed(miss),
             emit: emit_pairs::none(),
-            cursor,
+            cursor: read.cursor,
         },
         Ok(operands) => {
             let answer = range_answer(encoding_range(job, encoding, op, operands));
@@ -358,7 +322,7 @@ pub fn dispatch_encoding(
             LineEmit {
                 answer,
                 emit,
-                cursor,
+                cursor: read.cursor,
             }
         }
     }
@@ -370,20 +334,18 @@ pub fn dispatch_pseudo(job: Job, pseudo: Pseudo, list: &[u8], from: Cursor) -> L
     ensures { LineAs list.now (pseudo_line job pseudo (tokens list.now) from.index) result.answer result.emit result.cursor }
 {
     let read = operand_list::read_operands(pseudo_wants(pseudo), list, from);
-    let given = read.answer;
-    let cursor = read.cursor;
-    match given {
+    match read.answer {
         Err(miss) => LineEmit {
             answer: LineAnswer::Missed(miss),
             emit: emit_pairs::none(),
-            cursor,
+            cursor: read.cursor,
         },
         Ok(operands) => {
             let emit = pseudo_pairs(job, pseudo, operands);
             LineEmit {
                 answer: LineAnswer::Made,
                 emit,
-                cursor,
+                cursor: read.cursor,
             }
         }
     }

@@ -1,7 +1,6 @@
 // One function for each encoding of float registers (emit.rs): the words that it makes of its operands.
 #![tactic(auto)]
 
-ghost use Rattle.std.specs.Prelude.{◌≡◌, ◌<◌};
 ghost use Rattle.registers.specs.Numbers.{register_number, fp_register_number};
 ghost use Rattle.operand.specs.Held.{slot_in, fp_slot_in, code_in, label_in, offset_in};
 ghost use Rattle.emit_pairs.specs.Pairs.{EmitIs};
@@ -16,7 +15,7 @@ use jobs::Format;
 use loading::LoadForm;
 use operand_list::Operands;
 use pending::InstructionLabelKind;
-use registers::{FPRegisterSlot, RegisterSlot};
+use registers::Slot;
 
 // The format and tf of a conditional move.
 #[derive(Clone, Copy)]
@@ -25,25 +24,19 @@ pub struct MoveForm {
     pub flag: bool,
 }
 
+// kept beside emit_integer's do_offset_instruction: the two words are made by the builder's methods for the two files of registers.
 pub fn do_fp_offset_instruction(op: Opcode, operands: Operands) -> EmitInstruction
     ensures { EmitIs result (offset_line_pairs op (fp_register_number (fp_slot_in operands.first)) (offset_in operands.second))
         (offset_form (offset_in operands.second)) }
 {
-    let first = operands.first;
-    let second = operands.second;
-    let offset = operand::offset_in(second);
-    let parts = emit_pairs::make_offset_or_label(offset);
-    let source = parts.register;
-    let temp = operand::fp_slot_in(first);
-    let immediate = parts.immediate;
+    let parts = emit_pairs::make_offset_or_label(operand::offset_in(operands.second));
     let fields = FPImmediateFields {
-        source,
-        temp,
-        immediate,
+        source: parts.register,
+        temp: operand::fp_slot_in(operands.first),
+        immediate: parts.immediate,
     };
     let word = emit_words::fp_immediate_word(op, fields);
-    let emit = parts.emit;
-    emit.push(word, None)
+    parts.emit.push(word, None)
 }
 
 pub fn do_fp_three_register_instruction(
@@ -53,66 +46,53 @@ pub fn do_fp_three_register_instruction(
 ) -> EmitInstruction
     ensures { EmitIs result (fp3_pairs op fmt (fp_slot_in operands.first) (fp_slot_in operands.second) (fp_slot_in operands.third)) LoadForm.Nothing }
 {
-    let first = operands.first;
-    let second = operands.second;
-    let third = operands.third;
-    let dest = operand::fp_slot_in(first);
-    let source = operand::fp_slot_in(second);
-    let temp = operand::fp_slot_in(third);
-    let fields = FP3Fields { dest, source, temp };
-    let word = emit_words::fp_3_register_word(op, fmt, fields);
-    emit_pairs::with(word)
+    let fields = FP3Fields {
+        dest: operand::fp_slot_in(operands.first),
+        source: operand::fp_slot_in(operands.second),
+        temp: operand::fp_slot_in(operands.third),
+    };
+    emit_pairs::with(emit_words::fp_3_register_word(op, fmt, fields))
 }
 
 pub fn do_fp_2register_instruction(op: Opcode, fmt: Format, operands: Operands) -> EmitInstruction
     ensures { EmitIs result (fp2_pairs op fmt (fp_slot_in operands.first) (fp_slot_in operands.second)) LoadForm.Nothing }
 {
-    let first = operands.first;
-    let second = operands.second;
-    let dest = operand::fp_slot_in(first);
-    let source = operand::fp_slot_in(second);
-    let fields = FP2Fields { dest, source };
-    let word = emit_words::fp_2_register_word(op, fmt, fields);
-    emit_pairs::with(word)
+    let fields = FP2Fields {
+        dest: operand::fp_slot_in(operands.first),
+        source: operand::fp_slot_in(operands.second),
+    };
+    emit_pairs::with(emit_words::fp_2_register_word(op, fmt, fields))
 }
 
 pub fn do_fp_move_instruction(op: Opcode, form: MoveForm, operands: Operands) -> EmitInstruction
     ensures { EmitIs result (fp_move_pairs op form.fmt form.flag
         (fp_slot_in operands.first) (fp_slot_in operands.second) (code_in operands.third)) LoadForm.Nothing }
 {
-    let first = operands.first;
-    let second = operands.second;
-    let third = operands.third;
-    let dest = operand::fp_slot_in(first);
-    let source = operand::fp_slot_in(second);
-    let code = operand::code_in(third);
-    let fmt = form.fmt;
-    let flag = form.flag;
     let fields = FPMoveFields {
-        dest,
-        source,
-        code,
-        flag,
+        dest: operand::fp_slot_in(operands.first),
+        source: operand::fp_slot_in(operands.second),
+        code: operand::code_in(operands.third),
+        flag: form.flag,
     };
-    let word = emit_words::fp_move_word(op, fmt, fields);
-    emit_pairs::with(word)
+    emit_pairs::with(emit_words::fp_move_word(op, form.fmt, fields))
 }
 
 pub fn do_fp_cond_instruction(op: Opcode, fmt: Format, operands: Operands) -> EmitInstruction
     ensures { EmitIs result (fp_cond_pairs op fmt (code_in operands.first) (fp_slot_in operands.second) (fp_slot_in operands.third)) LoadForm.Nothing }
 {
-    let first = operands.first;
-    let second = operands.second;
-    let third = operands.third;
-    let code = operand::code_in(first);
-    let source = operand::fp_slot_in(second);
-    let target = operand::fp_slot_in(third);
     let fields = FPCondFields {
-        code,
-        source,
-        target,
+        code: operand::code_in(operands.first),
+        source: operand::fp_slot_in(operands.second),
+        target: operand::fp_slot_in(operands.third),
     };
-    let word = emit_words::fp_cond_word(op, fmt, fields);
+    emit_pairs::with(emit_words::fp_cond_word(op, fmt, fields))
+}
+
+// A move between the two files of registers, in the line's order.
+fn cross_move<A: Slot, B: Slot>(op: Opcode, first: A, second: B) -> EmitInstruction
+    ensures { EmitIs result (fp_cross_move_pairs op (A.number first) (B.number second)) LoadForm.Nothing }
+{
+    let word = emit_words::fp_cross_move_word(op, first.number() as u8, second.number() as u8);
     emit_pairs::with(word)
 }
 
@@ -121,14 +101,11 @@ pub fn do_fp_first_move_instruction(op: Opcode, operands: Operands) -> EmitInstr
     ensures { EmitIs result (fp_cross_move_pairs op (fp_register_number (fp_slot_in operands.first)) (register_number (slot_in operands.second)))
         LoadForm.Nothing }
 {
-    let first = operands.first;
-    let second = operands.second;
-    let float = operand::fp_slot_in(first);
-    let general = operand::slot_in(second);
-    let temp = fp_number(float);
-    let source = number(general);
-    let word = emit_words::fp_cross_move_word(op, temp, source);
-    emit_pairs::with(word)
+    cross_move(
+        op,
+        operand::fp_slot_in(operands.first),
+        operand::slot_in(operands.second),
+    )
 }
 
 // A general register first, then a float one.
@@ -136,35 +113,17 @@ pub fn do_fp_last_move_instruction(op: Opcode, operands: Operands) -> EmitInstru
     ensures { EmitIs result (fp_cross_move_pairs op (register_number (slot_in operands.first)) (fp_register_number (fp_slot_in operands.second)))
         LoadForm.Nothing }
 {
-    let first = operands.first;
-    let second = operands.second;
-    let general = operand::slot_in(first);
-    let float = operand::fp_slot_in(second);
-    let temp = number(general);
-    let source = fp_number(float);
-    let word = emit_words::fp_cross_move_word(op, temp, source);
-    emit_pairs::with(word)
+    cross_move(
+        op,
+        operand::slot_in(operands.first),
+        operand::fp_slot_in(operands.second),
+    )
 }
 
 pub fn do_fp_branch_instruction(op: Opcode, flag: bool, operands: Operands) -> EmitInstruction
     ensures { EmitIs result (fp_branch_pairs op flag (code_in operands.first) (label_in operands.second)) LoadForm.Nothing }
 {
-    let first = operands.first;
-    let second = operands.second;
-    let code = operand::code_in(first);
-    let word = emit_words::fp_branch_word(op, code, flag);
-    let label = operand::label_in(second);
+    let word = emit_words::fp_branch_word(op, operand::code_in(operands.first), flag);
+    let label = operand::label_in(operands.second);
     emit_pairs::with_label(word, InstructionLabelKind::Branch, label)
-}
-
-fn number(slot: RegisterSlot) -> u8
-    ensures { (result ≡ register_number slot) × (result < 32) }
-{
-    (registers::register_source(slot) % 256) as u8
-}
-
-fn fp_number(slot: FPRegisterSlot) -> u8
-    ensures { (result ≡ fp_register_number slot) × (result < 32) }
-{
-    (registers::fp_register_source(slot) % 256) as u8
 }

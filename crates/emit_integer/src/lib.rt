@@ -21,134 +21,97 @@ pub fn do_register_instruction(op: Opcode, operands: Operands) -> EmitInstructio
     ensures { EmitIs result (register_pairs op (slot_in operands.first) (slot_in operands.second) (value_in operands.third))
         (value_form (value_in operands.third)) }
 {
-    let first = operands.first;
-    let second = operands.second;
-    let third = operands.third;
-    let value = operand::value_in(third);
-    let unpacked = emit_pairs::unpack_value(value);
-    let dest = operand::slot_in(first);
-    let source = operand::slot_in(second);
-    let temp = unpacked.slot;
-    let fields = RegisterFields { dest, source, temp };
+    let unpacked = emit_pairs::unpack_value(operand::value_in(operands.third));
+    let fields = RegisterFields {
+        dest: operand::slot_in(operands.first),
+        source: operand::slot_in(operands.second),
+        temp: unpacked.slot,
+    };
     let word = emit_words::register_word(op, fields);
-    let emit = unpacked.emit;
-    emit.push(word, None)
+    unpacked.emit.push(word, None)
 }
 
 // The register with the shift amount comes last.
 pub fn do_register_shift_instruction(op: Opcode, operands: Operands) -> EmitInstruction
     ensures { EmitIs result (register_shift_pairs op (slot_in operands.first) (slot_in operands.second) (slot_in operands.third)) LoadForm.Nothing }
 {
-    let first = operands.first;
-    let second = operands.second;
-    let third = operands.third;
-    let dest = operand::slot_in(first);
-    let temp = operand::slot_in(second);
-    let source = operand::slot_in(third);
-    let fields = RegisterFields { dest, source, temp };
-    let word = emit_words::register_word(op, fields);
-    emit_pairs::with(word)
+    let fields = RegisterFields {
+        dest: operand::slot_in(operands.first),
+        source: operand::slot_in(operands.third),
+        temp: operand::slot_in(operands.second),
+    };
+    emit_pairs::with(emit_words::register_word(op, fields))
 }
 
 pub fn do_source_instruction(op: Opcode, operands: Operands) -> EmitInstruction
     ensures { EmitIs result (source_pairs op (slot_in operands.first)) LoadForm.Nothing }
 {
-    let first = operands.first;
-    let source = operand::slot_in(first);
-    let word = emit_words::source_word(op, source);
-    emit_pairs::with(word)
+    let source = operand::slot_in(operands.first);
+    emit_pairs::with(emit_words::source_word(op, source))
 }
 
 pub fn do_destination_instruction(op: Opcode, operands: Operands) -> EmitInstruction
     ensures { EmitIs result (destination_pairs op (slot_in operands.first)) LoadForm.Nothing }
 {
-    let first = operands.first;
-    let dest = operand::slot_in(first);
-    let word = emit_words::destination_word(op, dest);
-    emit_pairs::with(word)
+    let dest = operand::slot_in(operands.first);
+    emit_pairs::with(emit_words::destination_word(op, dest))
 }
 
 // The operation on the last two operands, and mflo into the first.
 fn inputs_into(op: Opcode, operands: Operands, value: InstructionValue) -> EmitInstruction
     ensures { EmitIs result (inputs_pairs op (slot_in operands.first) (slot_in operands.second) (Some value)) (value_form value) }
 {
-    let first = operands.first;
-    let second = operands.second;
     let unpacked = emit_pairs::unpack_value(value);
-    let source = operand::slot_in(second);
-    let temp = unpacked.slot;
-    let word = emit_words::inputs_word(op, source, temp);
-    let dest = operand::slot_in(first);
+    let word = emit_words::inputs_word(op, operand::slot_in(operands.second), unpacked.slot);
+    let dest = operand::slot_in(operands.first);
     let mflo = emit_words::destination_word(Opcode::Func(18), dest);
-    let emit = unpacked.emit;
-    emit.push(word, None)
-        .push(mflo, None)
+    unpacked.emit.push(word, None).push(mflo, None)
 }
 
 pub fn do_inputs_instruction(op: Opcode, operands: Operands) -> EmitInstruction
     ensures { EmitIs result (inputs_pairs op (slot_in operands.first) (slot_in operands.second) (maybe_value_in operands.third))
         (maybe_form (maybe_value_in operands.third)) }
 {
-    let first = operands.first;
-    let second = operands.second;
-    let third = operands.third;
-    let source = operand::slot_in(first);
-    let temp = operand::slot_in(second);
-    let word = emit_words::inputs_word(op, source, temp);
-    let alone = emit_pairs::with(word);
-    match third {
-        Operand::Value(value) => inputs_into(op, operands, value),
-        Operand::Register(_) => alone,
-        Operand::FPRegister(_) => alone,
-        Operand::Code(_) => alone,
-        Operand::Constant(_) => alone,
-        Operand::Label(_) => alone,
-        Operand::Offset(_, _) => alone,
-        Operand::Absent => alone,
+    if let Operand::Value(value) = operands.third {
+        return inputs_into(op, operands, value);
     }
+    let source = operand::slot_in(operands.first);
+    let temp = operand::slot_in(operands.second);
+    emit_pairs::with(emit_words::inputs_word(op, source, temp))
 }
 
 pub fn do_sham_instruction(op: Opcode, operands: Operands) -> EmitInstruction
     ensures { EmitIs result (sham_pairs op (slot_in operands.first) (slot_in operands.second) (constant_in operands.third)) LoadForm.Nothing }
 {
-    let first = operands.first;
-    let second = operands.second;
-    let third = operands.third;
-    let dest = operand::slot_in(first);
-    let temp = operand::slot_in(second);
-    let constant = operand::constant_in(third);
-    let sham = (constant % 256) as u8;
-    let fields = ShamFields { dest, temp, sham };
-    let word = emit_words::sham_word(op, fields);
-    emit_pairs::with(word)
+    let fields = ShamFields {
+        dest: operand::slot_in(operands.first),
+        temp: operand::slot_in(operands.second),
+        sham: (operand::constant_in(operands.third) % 256) as u8,
+    };
+    emit_pairs::with(emit_words::sham_word(op, fields))
 }
 
 // SpecialBranch and BranchZero.
 pub fn do_branch_zero_instruction(op: Opcode, operands: Operands) -> EmitInstruction
     ensures { EmitIs result (branch_zero_pairs op (slot_in operands.first) (label_in operands.second)) LoadForm.Nothing }
 {
-    let first = operands.first;
-    let second = operands.second;
-    let source = operand::slot_in(first);
-    let word = emit_words::source_word(op, source);
-    let label = operand::label_in(second);
+    let word = emit_words::source_word(op, operand::slot_in(operands.first));
+    let label = operand::label_in(operands.second);
     emit_pairs::with_label(word, InstructionLabelKind::Branch, label)
 }
 
-pub fn do_immediate_instruction(op: Opcode, alt: Option<Opcode>, operands: Operands) -> EmitInstruction
+pub fn do_immediate_instruction(
+    op: Opcode,
+    alt: Option<Opcode>,
+    operands: Operands,
+) -> EmitInstruction
     ensures { EmitIs result (immediate_line_pairs op alt (slot_in operands.first) (slot_in operands.second) (constant_in operands.third))
         (immediate_form alt (constant_in operands.third)) }
 {
-    let first = operands.first;
-    let second = operands.second;
-    let third = operands.third;
-    let temp = operand::slot_in(first);
-    let source = operand::slot_in(second);
-    let constant = operand::constant_in(third);
     let read = ImmediateOperands {
-        temp,
-        source,
-        constant,
+        temp: operand::slot_in(operands.first),
+        source: operand::slot_in(operands.second),
+        constant: operand::constant_in(operands.third),
     };
     emit_pairs::emit_immediate_instruction(op, alt, read)
 }
@@ -156,66 +119,44 @@ pub fn do_immediate_instruction(op: Opcode, alt: Option<Opcode>, operands: Opera
 pub fn do_load_immediate_instruction(op: Opcode, operands: Operands) -> EmitInstruction
     ensures { EmitIs result (load_immediate_pairs op (slot_in operands.first) (constant_in operands.second)) LoadForm.Nothing }
 {
-    let first = operands.first;
-    let second = operands.second;
-    let temp = operand::slot_in(first);
-    let constant = operand::constant_in(second);
-    let immediate = (constant % 0x1_0000) as u16;
-    let word = emit_words::load_immediate_word(op, temp, immediate);
-    emit_pairs::with(word)
+    let temp = operand::slot_in(operands.first);
+    let immediate = (operand::constant_in(operands.second) % 0x1_0000) as u16;
+    emit_pairs::with(emit_words::load_immediate_word(op, temp, immediate))
 }
 
 pub fn do_jump_instruction(op: Opcode, operands: Operands) -> EmitInstruction
     ensures { EmitIs result (jump_pairs op (label_in operands.first)) LoadForm.Nothing }
 {
-    let first = operands.first;
-    let word = emit_words::base_word(op);
-    let label = operand::label_in(first);
-    emit_pairs::with_label(word, InstructionLabelKind::Jump, label)
+    let label = operand::label_in(operands.first);
+    emit_pairs::with_label(emit_words::base_word(op), InstructionLabelKind::Jump, label)
 }
 
 pub fn do_branch_instruction(op: Opcode, operands: Operands) -> EmitInstruction
     ensures { EmitIs result (branch_pairs op (slot_in operands.first) (value_in operands.second) (label_in operands.third))
         (value_form (value_in operands.second)) }
 {
-    let first = operands.first;
-    let second = operands.second;
-    let third = operands.third;
-    let value = operand::value_in(second);
-    let unpacked = emit_pairs::unpack_value(value);
-    let source = operand::slot_in(first);
-    let temp = unpacked.slot;
-    let word = emit_words::inputs_word(op, source, temp);
-    let label = operand::label_in(third);
-    let to = emit_pairs::branch_to(label);
-    let emit = unpacked.emit;
-    emit.push(word, to)
+    let unpacked = emit_pairs::unpack_value(operand::value_in(operands.second));
+    let word = emit_words::inputs_word(op, operand::slot_in(operands.first), unpacked.slot);
+    let to = emit_pairs::branch_to(operand::label_in(operands.third));
+    unpacked.emit.push(word, to)
 }
 
 pub fn do_parameterless_instruction(op: Opcode) -> EmitInstruction
     ensures { EmitIs result (parameterless_pairs op) LoadForm.Nothing }
 {
-    let word = emit_words::base_word(op);
-    emit_pairs::with(word)
+    emit_pairs::with(emit_words::base_word(op))
 }
 
 pub fn do_offset_instruction(op: Opcode, operands: Operands) -> EmitInstruction
     ensures { EmitIs result (offset_line_pairs op (register_number (slot_in operands.first)) (offset_in operands.second))
         (offset_form (offset_in operands.second)) }
 {
-    let first = operands.first;
-    let second = operands.second;
-    let offset = operand::offset_in(second);
-    let parts = emit_pairs::make_offset_or_label(offset);
-    let source = parts.register;
-    let temp = operand::slot_in(first);
-    let immediate = parts.immediate;
+    let parts = emit_pairs::make_offset_or_label(operand::offset_in(operands.second));
     let fields = ImmediateFields {
-        source,
-        temp,
-        immediate,
+        source: parts.register,
+        temp: operand::slot_in(operands.first),
+        immediate: parts.immediate,
     };
     let word = emit_words::immediate_word(op, fields);
-    let emit = parts.emit;
-    emit.push(word, None)
+    parts.emit.push(word, None)
 }

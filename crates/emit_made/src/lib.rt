@@ -40,19 +40,17 @@ pub fn append_line(
         ≡ outcome_of result.answer result.counts (lent_of «data».new pending.new breakpoints.new) }
 {
     let counts = numbers.counts;
-    let e = made.emit;
-    let loaded = e.loaded;
-    let n = emit_bytes::count_of(e);
-    let size = emit_bytes::pendings_size(tokens, e) as u32;
-    let pc = std::num::wrapping_add_u32(numbers.place.address, counts.data_len);
+    let n = emit_bytes::count_of(made.emit);
+    let size = emit_bytes::pendings_size(tokens, made.emit) as u32;
+    let pc = numbers.place.address.wrapping_add(counts.data_len);
     let bytes = 4 * n as u32;
-    emit_bytes::put_words(data, counts.data_len as usize, e);
+    emit_bytes::put_words(data, counts.data_len as usize, made.emit);
     let origin = Origin {
         region: numbers.place.region,
         offset: counts.data_len,
         location: line,
     };
-    emit_bytes::put_pendings(pending, tokens, counts.pending as usize, origin, e);
+    emit_bytes::put_pendings(pending, tokens, counts.pending as usize, origin, made.emit);
     let pcs = Pcs {
         first: pc,
         count: n,
@@ -66,7 +64,7 @@ pub fn append_line(
     Emitted {
         answer: EmitAnswer::Done {
             position: made.cursor.index as u32,
-            loaded,
+            loaded: made.emit.loaded,
         },
         counts: grown,
     }
@@ -96,10 +94,7 @@ pub fn append_or_refuse(
         line,
         made,
     ) {
-        Err(refusal) => {
-            let counts = numbers.counts;
-            refused(refusal, made.cursor.index as u32, counts)
-        }
+        Err(refusal) => refused(refusal, made.cursor.index as u32, numbers.counts),
         Ok(()) => append_line(tokens, data, pending, breakpoints, numbers, line, made),
     }
 }

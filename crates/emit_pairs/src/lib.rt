@@ -65,12 +65,12 @@ pub struct OffsetParts {
 fn starting(form: LoadForm) -> EmitInstruction
     ensures { EmitIs result [] form }
 {
-    let pair = InstructionPair {
+    let nothing = InstructionPair {
         word: 0,
         label: None,
     };
     EmitInstruction {
-        instructions: [pair; 5],
+        instructions: [nothing; 5],
         count: 0,
         loaded: form,
     }
@@ -89,10 +89,9 @@ impl EmitInstruction {
         requires { self.count < 5 }
         ensures { EmitIs result (take self.count self.instructions ++ (record { word = word; label = label }) ∷ []) self.loaded }
     {
-        let n = self.count;
         let mut out = self;
-        out.instructions[n] = InstructionPair { word, label };
-        out.count = n + 1;
+        out.instructions[self.count] = InstructionPair { word, label };
+        out.count += 1;
         out
     }
 }
@@ -116,13 +115,12 @@ pub fn load_pairs(constant: u64, into: RegisterSlot) -> EmitInstruction
     ensures { EmitIs result (load_pairs constant (register_number into)) (form_of constant) }
 {
     let loaded = loading::load_immediate(constant, into);
-    let words = loaded.words;
-    let form = loaded.form;
-    let one = starting(form).push(words[0], None);
+    let one = starting(loaded.form).push(loaded.words[0], None);
     if loaded.count < 2 {
-        return one;
+        one
+    } else {
+        one.push(loaded.words[1], None)
     }
-    one.push(words[1], None)
 }
 
 // A constant's words, or lui and ori that wait for a name's halves.
@@ -152,9 +150,7 @@ pub fn make_label(label: AddressLabel, dest: RegisterSlot) -> EmitInstruction
                 kind: InstructionLabelKind::Lower,
                 label,
             };
-            none()
-                .push(lui, Some(upper))
-                .push(ori, Some(lower))
+            none().push(lui, Some(upper)).push(ori, Some(lower))
         }
     }
 }
@@ -163,25 +159,17 @@ pub fn make_label(label: AddressLabel, dest: RegisterSlot) -> EmitInstruction
 pub fn is_immediate(constant: u64) -> bool
     ensures { result ≡ is_immediate constant }
 {
-    if constant < 0x8000 {
-        return true;
-    }
-    0xFFFF_FFFF_FFFF_8000 <= constant
+    constant < 0x8000 || 0xFFFF_FFFF_FFFF_8000 <= constant
 }
 
 // Refusal 9: an immediate out of range without an alternative.
 pub fn immediate_range(alt: Option<Opcode>, constant: u64) -> Result<(), Fault>
     ensures { result ≡ immediate_range alt constant }
 {
-    match alt {
-        Some(_) => Ok(()),
-        None => {
-            if is_immediate(constant) {
-                Ok(())
-            } else {
-                Err(Fault::Immediate)
-            }
-        }
+    if alt.is_some() || is_immediate(constant) {
+        Ok(())
+    } else {
+        Err(Fault::Immediate)
     }
 }
 
@@ -194,15 +182,11 @@ pub fn emit_immediate_instruction(
     ensures { EmitIs result (immediate_pairs op alt (register_number operands.temp) (register_number operands.source) operands.constant)
         (immediate_form alt operands.constant) }
 {
-    let temp = operands.temp;
-    let source = operands.source;
-    let constant = operands.constant;
-    if is_immediate(constant) {
-        let immediate = (constant % 0x1_0000) as u16;
+    if is_immediate(operands.constant) {
         let fields = ImmediateFields {
-            source,
-            temp,
-            immediate,
+            source: operands.source,
+            temp: operands.temp,
+            immediate: (operands.constant % 0x1_0000) as u16,
         };
         return with(emit_words::immediate_word(op, fields));
     }
@@ -211,12 +195,12 @@ pub fn emit_immediate_instruction(
         Some(other) => {
             let at = RegisterSlot::AssemblerTemporary;
             let fields = RegisterFields {
-                dest: temp,
-                source,
+                dest: operands.temp,
+                source: operands.source,
                 temp: at,
             };
             let word = emit_words::register_word(other, fields);
-            load_pairs(constant, at).push(word, None)
+            load_pairs(operands.constant, at).push(word, None)
         }
     }
 }
@@ -260,20 +244,15 @@ pub fn make_offset_or_label(offset: OffsetOrLabel) -> OffsetParts
         × EmitIs result.emit (offset_pairs offset) (offset_form offset) }
 {
     match offset {
-        OffsetOrLabel::Offset(label, register) => match label {
-            AddressLabel::Constant(constant) => {
-                if is_immediate(constant) {
-                    OffsetParts {
-                        immediate: (constant % 0x1_0000) as u16,
-                        register,
-                        emit: none(),
-                    }
-                } else {
-                    added(label, register)
-                }
+        OffsetOrLabel::Offset(AddressLabel::Constant(constant), register)
+            if is_immediate(constant) => {
+            OffsetParts {
+                immediate: (constant % 0x1_0000) as u16,
+                register,
+                emit: none(),
             }
-            AddressLabel::Label(_) => added(label, register),
-        },
+        }
+        OffsetOrLabel::Offset(label, register) => added(label, register),
         OffsetOrLabel::Label(label) => {
             let at = RegisterSlot::AssemblerTemporary;
             OffsetParts {

@@ -37,10 +37,8 @@ pub struct ImmediateOpcodes {
 pub fn do_abs_instruction(job: Job, operands: Operands) -> EmitInstruction
     ensures { EmitIs result (abs_pairs job (slot_in operands.first) (slot_in operands.second)) LoadForm.Nothing }
 {
-    let first = operands.first;
-    let second = operands.second;
-    let dest = operand::slot_in(first);
-    let source = operand::slot_in(second);
+    let dest = operand::slot_in(operands.first);
+    let source = operand::slot_in(operands.second);
     let temp = RegisterSlot::AssemblerTemporary;
     let xor_fields = RegisterFields { dest, source, temp };
     let sub_fields = RegisterFields {
@@ -51,19 +49,13 @@ pub fn do_abs_instruction(job: Job, operands: Operands) -> EmitInstruction
     let shift = emit_words::abs_first_word(job, source);
     let xor = emit_words::register_word(Opcode::Func(38), xor_fields);
     let sub = emit_words::register_word(Opcode::Func(35), sub_fields);
-    emit_pairs::with(shift)
-        .push(xor, None)
-        .push(sub, None)
+    emit_pairs::with(shift).push(xor, None).push(sub, None)
 }
 
 fn set_opcode(unsigned: bool) -> Opcode
     ensures { result ≡ set_opcode unsigned }
 {
-    if unsigned {
-        Opcode::Func(41)
-    } else {
-        Opcode::Func(42)
-    }
+    Opcode::Func(if unsigned { 41 } else { 42 })
 }
 
 // slt or sltu into dest, its operands exchanged for greater than.
@@ -73,10 +65,11 @@ fn compare_word(how: Comparison, fields: RegisterFields) -> u32
 {
     let op = set_opcode(how.unsigned);
     if how.greater_than {
-        let dest = fields.dest;
-        let source = fields.temp;
-        let temp = fields.source;
-        let exchanged = RegisterFields { dest, source, temp };
+        let exchanged = RegisterFields {
+            dest: fields.dest,
+            source: fields.temp,
+            temp: fields.source,
+        };
         emit_words::register_word(op, exchanged)
     } else {
         emit_words::register_word(op, fields)
@@ -86,33 +79,25 @@ fn compare_word(how: Comparison, fields: RegisterFields) -> u32
 fn branch_opcode(result_true: bool) -> Opcode
     ensures { result ≡ branch_opcode result_true }
 {
-    if result_true {
-        Opcode::Op(5)
-    } else {
-        Opcode::Op(4)
-    }
+    Opcode::Op(if result_true { 5 } else { 4 })
 }
 
 pub fn do_branch_custom_instruction(how: Comparison, operands: Operands) -> EmitInstruction
     ensures { EmitIs result (branch_custom_pairs how.greater_than how.result_true how.unsigned
         (slot_in operands.first) (value_in operands.second) (label_in operands.third)) (value_form (value_in operands.second)) }
 {
-    let first = operands.first;
-    let second = operands.second;
-    let third = operands.third;
-    let value = operand::value_in(second);
-    let unpacked = emit_pairs::unpack_value(value);
+    let unpacked = emit_pairs::unpack_value(operand::value_in(operands.second));
     let dest = RegisterSlot::AssemblerTemporary;
-    let source = operand::slot_in(first);
-    let temp = unpacked.slot;
-    let fields = RegisterFields { dest, source, temp };
+    let fields = RegisterFields {
+        dest,
+        source: operand::slot_in(operands.first),
+        temp: unpacked.slot,
+    };
     let compare = compare_word(how, fields);
     let op = branch_opcode(how.result_true);
     let branch = emit_words::inputs_word(op, dest, RegisterSlot::Zero);
-    let label = operand::label_in(third);
-    let to = emit_pairs::branch_to(label);
-    let emit = unpacked.emit;
-    emit.push(compare, None).push(branch, to)
+    let to = emit_pairs::branch_to(operand::label_in(operands.third));
+    unpacked.emit.push(compare, None).push(branch, to)
 }
 
 // xori with 1, which turns a comparison's result over.
@@ -131,23 +116,19 @@ pub fn do_set_custom_instruction(how: Comparison, operands: Operands) -> EmitIns
     ensures { EmitIs result (set_custom_pairs how.greater_than how.result_true how.unsigned
         (slot_in operands.first) (slot_in operands.second) (value_in operands.third)) (value_form (value_in operands.third)) }
 {
-    let first = operands.first;
-    let second = operands.second;
-    let third = operands.third;
-    let value = operand::value_in(third);
-    let unpacked = emit_pairs::unpack_value(value);
-    let dest = operand::slot_in(first);
-    let source = operand::slot_in(second);
-    let temp = unpacked.slot;
-    let fields = RegisterFields { dest, source, temp };
+    let unpacked = emit_pairs::unpack_value(operand::value_in(operands.third));
+    let dest = operand::slot_in(operands.first);
+    let fields = RegisterFields {
+        dest,
+        source: operand::slot_in(operands.second),
+        temp: unpacked.slot,
+    };
     let set = compare_word(how, fields);
-    let emit = unpacked.emit;
-    let with_set = emit.push(set, None);
+    let with_set = unpacked.emit.push(set, None);
     if how.result_true {
         with_set
     } else {
-        let turn = turn_word(dest);
-        with_set.push(turn, None)
+        with_set.push(turn_word(dest), None)
     }
 }
 
@@ -156,15 +137,13 @@ pub fn do_sne_instruction(operands: Operands) -> EmitInstruction
     ensures { EmitIs result (sne_pairs (slot_in operands.first) (slot_in operands.second) (value_in operands.third))
         (value_form (value_in operands.third)) }
 {
-    let first = operands.first;
-    let second = operands.second;
-    let third = operands.third;
-    let value = operand::value_in(third);
-    let unpacked = emit_pairs::unpack_value(value);
-    let dest = operand::slot_in(first);
-    let source = operand::slot_in(second);
-    let temp = unpacked.slot;
-    let difference = RegisterFields { dest, source, temp };
+    let unpacked = emit_pairs::unpack_value(operand::value_in(operands.third));
+    let dest = operand::slot_in(operands.first);
+    let difference = RegisterFields {
+        dest,
+        source: operand::slot_in(operands.second),
+        temp: unpacked.slot,
+    };
     let above_zero = RegisterFields {
         dest,
         source: RegisterSlot::Zero,
@@ -172,18 +151,14 @@ pub fn do_sne_instruction(operands: Operands) -> EmitInstruction
     };
     let subu = emit_words::register_word(Opcode::Func(35), difference);
     let sltu = emit_words::register_word(Opcode::Func(41), above_zero);
-    let emit = unpacked.emit;
-    emit.push(subu, None)
-        .push(sltu, None)
+    unpacked.emit.push(subu, None).push(sltu, None)
 }
 
 pub fn do_seq_instruction(operands: Operands) -> EmitInstruction
     ensures { EmitIs result (seq_pairs (slot_in operands.first) (slot_in operands.second) (value_in operands.third))
         (value_form (value_in operands.third)) }
 {
-    let first = operands.first;
-    let dest = operand::slot_in(first);
-    let turn = turn_word(dest);
+    let turn = turn_word(operand::slot_in(operands.first));
     do_sne_instruction(operands).push(turn, None)
 }
 
@@ -191,70 +166,52 @@ pub fn do_seq_instruction(operands: Operands) -> EmitInstruction
 pub fn do_neg_instruction(op: Opcode, operands: Operands) -> EmitInstruction
     ensures { EmitIs result (neg_pairs op (slot_in operands.first) (slot_in operands.second)) LoadForm.Nothing }
 {
-    let first = operands.first;
-    let second = operands.second;
-    let dest = operand::slot_in(first);
-    let temp = operand::slot_in(second);
     let fields = RegisterFields {
-        dest,
+        dest: operand::slot_in(operands.first),
         source: RegisterSlot::Zero,
-        temp,
+        temp: operand::slot_in(operands.second),
     };
-    let word = emit_words::register_word(op, fields);
-    emit_pairs::with(word)
+    emit_pairs::with(emit_words::register_word(op, fields))
 }
 
 // not and move.
 pub fn do_move_instruction(op: Opcode, operands: Operands) -> EmitInstruction
     ensures { EmitIs result (move_pairs op (slot_in operands.first) (slot_in operands.second)) LoadForm.Nothing }
 {
-    let first = operands.first;
-    let second = operands.second;
-    let dest = operand::slot_in(first);
-    let source = operand::slot_in(second);
     let fields = RegisterFields {
-        dest,
-        source,
+        dest: operand::slot_in(operands.first),
+        source: operand::slot_in(operands.second),
         temp: RegisterSlot::Zero,
     };
-    let word = emit_words::register_word(op, fields);
-    emit_pairs::with(word)
+    emit_pairs::with(emit_words::register_word(op, fields))
 }
 
 pub fn do_li_instruction(operands: Operands) -> EmitInstruction
     ensures { EmitIs result (li_pairs (slot_in operands.first) (constant_in operands.second)) (form_of (constant_in operands.second)) }
 {
-    let first = operands.first;
-    let second = operands.second;
-    let dest = operand::slot_in(first);
-    let constant = operand::constant_in(second);
-    emit_pairs::load_pairs(constant, dest)
+    let constant = operand::constant_in(operands.second);
+    emit_pairs::load_pairs(constant, operand::slot_in(operands.first))
 }
 
 pub fn do_la_instruction(operands: Operands) -> EmitInstruction
     ensures { EmitIs result (la_pairs (slot_in operands.first) (label_in operands.second)) (label_form (label_in operands.second)) }
 {
-    let first = operands.first;
-    let second = operands.second;
-    let dest = operand::slot_in(first);
-    let label = operand::label_in(second);
-    emit_pairs::make_label(label, dest)
+    let label = operand::label_in(operands.second);
+    emit_pairs::make_label(label, operand::slot_in(operands.first))
 }
 
 pub fn do_b_instruction(operands: Operands) -> EmitInstruction
     ensures { EmitIs result (b_pairs (label_in operands.first)) LoadForm.Nothing }
 {
-    let first = operands.first;
     let word = emit_words::inputs_word(Opcode::Op(4), RegisterSlot::Zero, RegisterSlot::Zero);
-    let label = operand::label_in(first);
+    let label = operand::label_in(operands.first);
     emit_pairs::with_label(word, InstructionLabelKind::Branch, label)
 }
 
 pub fn do_nop_instruction() -> EmitInstruction
     ensures { EmitIs result nop_pairs LoadForm.Nothing }
 {
-    let word = emit_words::base_word(Opcode::Func(0));
-    emit_pairs::with(word)
+    emit_pairs::with(emit_words::base_word(Opcode::Func(0)))
 }
 
 // subi and subiu: the constant is negated first.
@@ -262,19 +219,10 @@ pub fn do_subi_instruction(opcodes: ImmediateOpcodes, operands: Operands) -> Emi
     ensures { EmitIs result (subi_pairs opcodes.op opcodes.alternative
         (slot_in operands.first) (slot_in operands.second) (constant_in operands.third)) (subi_form (constant_in operands.third)) }
 {
-    let first = operands.first;
-    let second = operands.second;
-    let third = operands.third;
-    let temp = operand::slot_in(first);
-    let source = operand::slot_in(second);
-    let given = operand::constant_in(third);
-    let constant = operands::with_sign(true, given);
     let read = ImmediateOperands {
-        temp,
-        source,
-        constant,
+        temp: operand::slot_in(operands.first),
+        source: operand::slot_in(operands.second),
+        constant: operands::with_sign(true, operand::constant_in(operands.third)),
     };
-    let op = opcodes.op;
-    let alternative = opcodes.alternative;
-    emit_pairs::emit_immediate_instruction(op, Some(alternative), read)
+    emit_pairs::emit_immediate_instruction(opcodes.op, Some(opcodes.alternative), read)
 }

@@ -44,7 +44,7 @@ every_word job (encoded e op) ts i h =
     made_words job (encoded e op) read.index (encoding_range job e op) (encoding_pairs job e op) (encoding_form e) (encoding_words job e op) read.answer h
 every_word job (pseudo p) ts i h =
     let read = read_operands (pseudo_wants p) ts i in
-    made_words job (pseudo p) read.index (λ x. (Ok tt)) (pseudo_pairs job p) (pseudo_form p) (λ x w. pseudo_words job p x) read.answer h
+    made_words job (pseudo p) read.index (λ x. Ok tt) (pseudo_pairs job p) (pseudo_form p) (λ x w. pseudo_words job p x) read.answer h
 
 -- the formats of a line whose operands are known
 known : {job : Job} {o : Operation} {x : AskedAll (wants_of o)} {ws : List ℕ} → LineWords job o (Got x) ws → InFormats ws (line_formats job o x)

@@ -67,7 +67,7 @@ immediate_form_lem : (alt : Option Opcode) (c : ℕ) → immediate_range alt c �
 immediate_form_lem (Some alt) c h = tested (is_immediate c) c
 immediate_form_lem None c h = go (is_immediate c) h
   where
-    go : (b : Bool) → elim b [ true ↦ Ok tt | false ↦ Err ImmediateFault ] ≡ Ok tt → elim b [ true ↦ Unloaded | false ↦ Unloaded ] ≡ form_from (elim b [ true ↦ None | false ↦ into_at c ])
+    go : (b : Bool) → ◌≡◌ {A = Result (Unit {0}) Fault} (elim b [ true ↦ Ok tt | false ↦ Err ImmediateFault ]) (Ok tt) → elim b [ true ↦ Unloaded | false ↦ Unloaded ] ≡ form_from (elim b [ true ↦ None | false ↦ into_at c ])
     go true h = refl
     go false h = let z : ◌≡◌ {A = ℕ} 0 1 = cc in absurd (omega arith)
 
@@ -128,7 +128,7 @@ line_form job (encoded e op) ts i h =
     made_form (encoded e op) read.index (encoding_range job e op) (encoding_pairs job e op) (encoding_form e) (encoding_form_lem job e op) read.answer h
 line_form job (pseudo p) ts i h =
     let read = read_operands (pseudo_wants p) ts i in
-    made_form (pseudo p) read.index (λ x. (Ok tt)) (pseudo_pairs job p) (pseudo_form p) (λ x w. pseudo_form_lem p x) read.answer h
+    made_form (pseudo p) read.index (λ x. Ok tt) (pseudo_pairs job p) (pseudo_form p) (λ x w. pseudo_form_lem p x) read.answer h
 
 -- ---- the words of a form
 

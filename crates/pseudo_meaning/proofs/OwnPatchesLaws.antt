@@ -34,7 +34,7 @@ unfolding call_pairs pseudo_line
 pairs_are job c p x e =
     let i = (read_operands (pseudo_wants p) (tokens c.token_list) (start_of c)).index in
     ap (meaning_pairs job c) e.means
-    ∙ ap (λ (a : Answer (AskedAll (pseudo_wants p))). (line_by a i (λ y. (Ok tt)) (pseudo_pairs job p) (pseudo_form p)).pairs) e.operands_are
+    ∙ ap (λ (a : Answer (AskedAll (pseudo_wants p))). (line_by a i (λ y. Ok tt) (pseudo_pairs job p) (pseudo_form p)).pairs) e.operands_are
 
 -- words in formats have 32 bits
 pub formats_32 : {ws : List ℕ} {fs : List Format} → InFormats ws fs → Words32 ws

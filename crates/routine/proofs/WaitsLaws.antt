@@ -204,7 +204,7 @@ module _ (job : Job) (c : Call) where
       (encoding_waits job x.encoding x.opcode)
   meaning_waits (Builtin p) =
       let read = read_operands (pseudo_wants p) (tokens c.token_list) (start_of c) in
-      line_waits read.answer read.index (λ x. (Ok tt)) (pseudo_pairs job p) (pseudo_form p) (pseudo_waits job p)
+      line_waits read.answer read.index (λ x. Ok tt) (pseudo_pairs job p) (pseudo_form p) (pseudo_waits job p)
   meaning_waits Neither = omega arith
 
   pub call_waits : waits (call_pairs job c) ≤ 2

@@ -197,5 +197,5 @@ module _ (names : List ℕ) (ts : List Token) (fit : (i : ℕ) → TokenFits nam
   pub pseudo_made : (job : Job) (p : Pseudo) (i : ℕ) → (pseudo_line job p ts i).answer ≡ Made → Words names 1 5 (pseudo_line job p ts i).pairs
   unfolding pseudo_line
   pseudo_made job p i =
-      line_words names (AllFit names (pseudo_wants p)) (λ x. (Ok tt)) (pseudo_pairs job p) (pseudo_form p) (λ x h r. pseudo_words names job p x h)
+      line_words names (AllFit names (pseudo_wants p)) (λ x. Ok tt) (pseudo_pairs job p) (pseudo_form p) (λ x h r. pseudo_words names job p x h)
       (read_operands (pseudo_wants p) ts i).answer (read_operands (pseudo_wants p) ts i).index (operands_fit names ts fit (pseudo_wants p) i)

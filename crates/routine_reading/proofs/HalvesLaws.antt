@@ -183,7 +183,7 @@ module _ (job : Job) (c : Call) where
       (encoding_halves job x.encoding x.opcode)
   meaning_halves (Builtin p) =
       let read = read_operands (pseudo_wants p) (tokens c.token_list) (start_of c) in
-      line_halves read.answer read.index (λ x. (Ok tt)) (pseudo_pairs job p) (pseudo_form p) (pseudo_halves job p)
+      line_halves read.answer read.index (λ x. Ok tt) (pseudo_pairs job p) (pseudo_form p) (pseudo_halves job p)
   meaning_halves Neither = done
 
   pub call_halves : Halves (call_pairs job c)

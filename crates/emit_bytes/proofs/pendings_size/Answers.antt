@@ -13,4 +13,4 @@ loop-i-preserved c =
     let l = c.loop-i in
     let h : length c.args.e.instructions ≡ 5 = search rules in
     let e = sizes_next c.args.tokens.now (plain 0) _ c.args.e.instructions l.i (omega arith) refl in
-    (omega arith, omega (arith, e), omega arith)
+    (omega (arith, e), omega arith)

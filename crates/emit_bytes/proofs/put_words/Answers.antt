@@ -16,7 +16,7 @@ module _ (words : List (List ℕ)) (ps : List InstructionPair) (i : ℕ) (e : wo
 
 pub loop-i-init : goal.loop-i-init
 unfolding word_bytes
-loop-i-init c = (search rules, append_none _ _)
+loop-i-init c = append_none _ _
 
 pub slice_bounds-put_all-end : goal.slice_bounds-put_all-end
 slice_bounds-put_all-end c =
@@ -35,9 +35,7 @@ loop-i-preserved c =
     let ps = a.e.instructions in
     let w = c.words_of-words in
     let h : length ps ≡ 5 = search rules in
-    let k = four w.result ps l.i w.ensures (omega arith) in (
-      omega arith,
-      append_then a.d.now a.at (word_bytes (take l.i ps)) (a.at + 4 * l.i) (get_or w.result l.i []) l.invariant.1 c.put_all.ensures
-          (omega (arith, words_upto ps l.i (omega arith))) (omega arith)
-          ∙ ap (append a.d.now a.at) (sym (next w.result ps l.i w.ensures (omega arith))),
-    )
+    let k = four w.result ps l.i w.ensures (omega arith) in
+    append_then a.d.now a.at (word_bytes (take l.i ps)) (a.at + 4 * l.i) (get_or w.result l.i []) l.invariant c.put_all.ensures
+    (omega (arith, words_upto ps l.i (omega arith))) (omega arith)
+    ∙ ap (append a.d.now a.at) (sym (next w.result ps l.i w.ensures (omega arith)))

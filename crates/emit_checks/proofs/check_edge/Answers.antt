@@ -1,19 +1,32 @@
 -- No word is left, the first that is fits, or it does not.
-use Rattle.std.proofs.Common.{sym, ◌∙◌, arith}
+use Rattle.std.proofs.Common.{◌≡◌, ◌+◌, ◌-◌, ◌*◌, refl, sym, ◌∙◌, arith}
 use Rattle.emit_checks.proofs.RoomLaws.{edge_end, edge_next, edge_stop_lem}
 use Rattle.emit_checks.proofs.check_edge.Goals as goal
 
+pub loop-i-init : goal.loop-i-init
+loop-i-init c =
+    let size = c.args.numbers.counts.data_len in
+    let n : c.args.n - 0 ≡ c.args.n = omega arith in
+    let at : size + 4 * 0 ≡ size = omega arith in
+    rw (n, at) refl
+
 pub returns-then-address-at : goal.returns-then-address-at
 returns-then-address-at c =
-    let l = c.loop-left in
-    sym (l.invariant.1 ∙ edge_stop_lem c.args.line c.args.numbers.place.address l.left l.at (omega arith) (omega arith))
+    let a = c.args in
+    let i = c.loop-i.i in
+    sym (c.loop-i.invariant ∙ edge_stop_lem a.line a.numbers.place.address (a.n - i) (a.numbers.counts.data_len + 4 * i) (omega arith) (omega arith))
 
-pub loop-left-preserved : goal.loop-left-preserved
-loop-left-preserved c =
-    let l = c.loop-left in
-    (omega arith, l.invariant.1 ∙ edge_next c.args.line c.args.numbers.place.address l.left l.at (omega arith) (omega arith))
+pub loop-i-preserved : goal.loop-i-preserved
+loop-i-preserved c =
+    let a = c.args in
+    let i = c.loop-i.i in
+    let size = a.numbers.counts.data_len in
+    let n : a.n - (i + 1) ≡ a.n - i - 1 = omega arith in
+    let at : size + 4 * (i + 1) ≡ size + 4 * i + 4 = omega arith in
+    rw (n, at) (c.loop-i.invariant ∙ edge_next a.line a.numbers.place.address (a.n - i) (size + 4 * i) (omega arith) (omega arith))
 
 pub returns : goal.returns
 returns c =
-    let l = c.loop-left in
-    sym (l.invariant.1 ∙ edge_end c.args.line c.args.numbers.place.address l.left l.at (omega arith))
+    let a = c.args in
+    let i = c.loop-i.i in
+    sym (c.loop-i.invariant ∙ edge_end a.line a.numbers.place.address (a.n - i) (a.numbers.counts.data_len + 4 * i) (omega arith))

@@ -1,4 +1,4 @@
-use Rattle.std.proofs.Common.{◌≡◌, ℕ, ◌+◌, ◌<◌, ◌≤◌, length, sym, ap, ◌∙◌, arith, length-take-le}
+use Rattle.std.proofs.Common.{◌≡◌, ℕ, ◌+◌, ◌^◌, ◌%◌, ◌<◌, ◌≤◌, length, sym, ap, ◌∙◌, arith, length-take-le}
 use Rattle.record.specs.Stores.{append}
 use Rattle.breakpoints.specs.BreakpointBytes.{breakpoint_bytes}
 use Rattle.breakpoints.proofs.BreakpointBytesLaws.{breakpoint_length}
@@ -9,17 +9,17 @@ use Rattle.emit_checks.specs.Made.{pairs_of, RoomFor}
 use Rattle.emit_checks.proofs.RoomLaws.{room_fits}
 use Rattle.emit_made.proofs.MadeLaws.{index_most, same_pcs, pcs_within, outcome_same}
 use Rattle.emit_made.proofs.append_line.Goals as goal
-use Rattle.emit_made.proofs.append_line.Goals.{After-wrapping_add_u32-pc}
+use Rattle.emit_made.proofs.append_line.Goals.{After-pendings_size-size}
 
-record Known (c : After-wrapping_add_u32-pc) : Type 0 where
+record Known (c : After-pendings_size-size) : Type 0 where
   count_is : c.count_of-n.result ≡ c.args.made.emit.count
   words : c.count_of-n.result ≡ length (pairs_of c.args.made.emit)
   few : c.count_of-n.result ≤ 5
   waits : c.pendings_size-size.result ≡ pendings_len c.args.tokens.now (pairs_of c.args.made.emit)
   fits : RoomFor c.args.numbers (lent_of c.args.«data».now c.args.pending.now c.args.breakpoints.now) c.count_of-n.result c.pendings_size-size.result
-  first_pc_lem : 0 < c.count_of-n.result → c.wrapping_add_u32-pc.result ≡ c.args.numbers.place.address + c.args.numbers.counts.data_len
+  first_pc_lem : 0 < c.count_of-n.result → (c.args.numbers.place.address + c.args.numbers.counts.data_len) % 2 ^ 32 ≡ c.args.numbers.place.address + c.args.numbers.counts.data_len
 
-known : (c : After-wrapping_add_u32-pc) → Known c
+known : (c : After-pendings_size-size) → Known c
 known c =
     let e = c.args.made.emit in
     let n = c.count_of-n.result in
@@ -28,17 +28,17 @@ known c =
     let w : n ≡ length (pairs_of e) = k ∙ sym (length-take-le e.count e.instructions (omega (arith, few))) in
     let z : c.pendings_size-size.result ≡ pendings_len c.args.tokens.now (pairs_of e) = c.pendings_size-size.ensures.0 in
     let f = room_fits _ _ _ _ _ w z c.requires.emit_value in
-    record { count_is = k; words = w; few = omega (arith, k, few); waits = z; fits = f; first_pc_lem = λ h. c.wrapping_add_u32-pc.ensures.value ∙ omega (arith, f.last_pc h) }
+    record { count_is = k; words = w; few = omega (arith, k, few); waits = z; fits = f; first_pc_lem = λ h. omega (arith, f.last_pc h) }
 
 pub put_words-requires : goal.put_words-requires
-put_words-requires c = let k = known (goal.at.put_words-requires c).After-wrapping_add_u32-pc in (omega (arith, k.count_is, k.few), omega (arith, k.count_is, k.fits.data_fits))
+put_words-requires c = let k = known (goal.at.put_words-requires c).After-pendings_size-size in (omega (arith, k.count_is, k.few), omega (arith, k.count_is, k.fits.data_fits))
 
 pub put_pendings-requires-clause-instructions_in_bounds : goal.put_pendings-requires-clause-instructions_in_bounds
-put_pendings-requires-clause-instructions_in_bounds c = let k = known (goal.at.put_pendings-requires-clause-instructions_in_bounds c).After-wrapping_add_u32-pc in omega (arith, k.waits, k.fits.pending_fits)
+put_pendings-requires-clause-instructions_in_bounds c = let k = known (goal.at.put_pendings-requires-clause-instructions_in_bounds c).After-pendings_size-size in omega (arith, k.waits, k.fits.pending_fits)
 
 pub put_breakpoint-requires : goal.put_breakpoint-requires
 put_breakpoint-requires c =
-    let k = known (goal.at.put_breakpoint-requires c).After-wrapping_add_u32-pc in
+    let k = known (goal.at.put_breakpoint-requires c).After-pendings_size-size in
     (k.few, omega (arith, k.fits.breakpoint_fits), pcs_within _ _ _ (omega arith) k.first_pc_lem k.fits.last_pc)
 
 pub overflow_cast-result : goal.overflow_cast-result
@@ -50,7 +50,7 @@ returns c =
     let counts = a.numbers.counts in
     let at = a.numbers.place.address + counts.data_len in
     let pairs = pairs_of a.made.emit in
-    let k = known (goal.at.returns c).After-wrapping_add_u32-pc in
+    let k = known (goal.at.returns c).After-pendings_size-size in
     outcome_same a.made.cursor.index a.made.emit.loaded (omega (arith, k.words)) (ap (λ (x : ℕ). counts.pending + x) (pendings_length a.tokens.now (record { region = a.numbers.place.region; offset = counts.data_len; location = a.line }) pairs ∙ sym k.waits))
     (omega (arith, k.words, breakpoint_length a.line at (length pairs))) (sym c.put_words.ensures) (sym c.put_pendings.ensures)
     (sym (c.put_breakpoint.ensures ∙ ap (append a.breakpoints.now counts.breakpoints) (same_pcs a.line _ at c.count_of-n.result k.first_pc_lem ∙ ap (breakpoint_bytes a.line at) k.words)))

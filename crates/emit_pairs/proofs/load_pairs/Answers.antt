@@ -13,8 +13,8 @@ returns-then-loaded-lt2 c =
     (load_one c.args.constant (register_number c.args.into) l.ensures (omega arith))
     l.ensures.form_is
 
-pub returns : goal.returns
-returns c =
+pub returns-else-loaded-lt2 : goal.returns-else-loaded-lt2
+returns-else-loaded-lt2 c =
     let l = c.load_immediate-loaded in
     emit_by
     (emit_push (plain (get_or l.result.words 1 0)) (emit_push (plain (get_or l.result.words 0 0)) c.starting.ensures c.push-one.ensures) c.push.ensures)

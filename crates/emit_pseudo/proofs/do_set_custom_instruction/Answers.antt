@@ -5,8 +5,8 @@ use Rattle.emit_pairs.proofs.ValuesLaws.{value_length, count_one}
 use Rattle.emit_pseudo.proofs.do_set_custom_instruction.Goals as goal
 
 pub push-with_set-requires : goal.push-with_set-requires
-push-with_set-requires c = omega (arith, c.unpack_value-unpacked.ensures.1.count_is, value_length c.value_in-value.result)
+push-with_set-requires c = omega (arith, c.unpack_value-unpacked.ensures.1.count_is, value_length c.value_in.result)
 
 pub push-requires : goal.push-requires
 push-requires c =
-    omega (arith, count_one (plain c.compare_word-set.result) c.unpack_value-unpacked.ensures.1 c.push-with_set.ensures, value_length c.value_in-value.result)
+    omega (arith, count_one (plain c.compare_word-set.result) c.unpack_value-unpacked.ensures.1 c.push-with_set.ensures, value_length c.value_in.result)
