@@ -1,5 +1,2 @@
-// What a build returns, and the definition of its whole outcome. This crate has a type and definitions, and no functions.
+// The definition of the whole outcome of a build (document 01). This crate has definitions and no code.
 #![tactic(auto)]
-
-use refusal::Refusal;
-

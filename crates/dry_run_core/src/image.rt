@@ -5,8 +5,6 @@ ghost use Rattle.regions.specs.Regions.{region_layout};
 ghost use Rattle.reading.specs.Reading.{image_of};
 ghost use Rattle.dry_run_outcome.specs.Fetch.{fetch};
 
-use std::num;
-
 // Where the region records stand in their list.
 #[derive(Clone, Copy)]
 pub(crate) struct Places {
@@ -35,14 +33,12 @@ pub(crate) fn fetch(regions: &[u8], found: &[usize], pc: u32) -> Option<u32>
     requires found_value { found.now ≡ places regions.now }
     ensures { result ≡ fetch (image_of regions.now) pc }
 {
-    let mut i: usize = 0;
-    while i < found.len() {
+    for i in 0..found.len() {
         let at = found[i];
-        let offset = num::wrapping_sub_u32(pc, record::word_at(regions, at + 4)) as usize;
+        let offset = pc.wrapping_sub(record::word_at(regions, at + 4)) as usize;
         if offset + 8 <= record::half_at(regions, at) {
             return Some(record::word_at(regions, at + 8 + offset));
         }
-        i += 1;
     }
     None
 }

@@ -46,11 +46,9 @@ fn run_good(regions: &[u8], machine: Machine, allowance: u32) -> DryRun
         return refused(machine, Refusal::BadStart);
     }
     let ran = steps::run(regions, &at[..count], start(machine), allowance);
-    let ended = ran.machine;
-    let reason = ran.reason;
     DryRun {
-        machine: ended,
-        answer: RunAnswer::Stopped(reason, ran.steps),
+        machine: ran.machine,
+        answer: RunAnswer::Stopped(ran.reason, ran.steps),
     }
 }
 
@@ -59,13 +57,7 @@ fn can_start(regions: &[u8], found: &[usize], pc: u32) -> bool
     requires found_value { found.now ≡ places regions.now }
     ensures { result ≡ can_start (image_of regions.now) pc }
 {
-    if pc % 4 != 0 {
-        return false;
-    }
-    match image::fetch(regions, found, pc) {
-        Some(_) => true,
-        None => false,
-    }
+    pc % 4 == 0 && image::fetch(regions, found, pc).is_some()
 }
 
 // $zero is 0, whatever was given for it.

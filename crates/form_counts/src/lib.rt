@@ -15,28 +15,15 @@ pub struct FormCounts {
     pub both: u64,
 }
 
-fn least(a: u64, b: u64) -> u64
-    ensures { result ≡ min a b }
-{
-    if a < b { a } else { b }
-}
-
-// How far a is past b.
-fn past(a: u64, b: u64) -> u64
-    ensures { result ≡ a - b }
-{
-    if a < b { 0 } else { a - b }
-}
-
 // The constants below n, by their forms.
 fn count_below(n: u64) -> FormCounts
     requires { n ≤ 2 ^ 32 }
     ensures { result ≡ below n }
 {
-    let addiu = least(n, 0x8000) + past(n, 0xFFFF_8000);
-    let ori = past(least(n, 0x1_0000), 0x8000);
-    let lui = past((n + 0xFFFF) / 0x1_0000, 1);
-    let both = past(n, addiu + ori + lui);
+    let addiu = n.min(0x8000) + n.saturating_sub(0xFFFF_8000);
+    let ori = n.min(0x1_0000).saturating_sub(0x8000);
+    let lui = ((n + 0xFFFF) / 0x1_0000).saturating_sub(1);
+    let both = n.saturating_sub(addiu + ori + lui);
     FormCounts {
         addiu,
         ori,
@@ -50,10 +37,10 @@ fn less(to: FormCounts, from: FormCounts) -> FormCounts
     ensures { result ≡ between from to }
 {
     FormCounts {
-        addiu: past(to.addiu, from.addiu),
-        ori: past(to.ori, from.ori),
-        lui: past(to.lui, from.lui),
-        both: past(to.both, from.both),
+        addiu: to.addiu.saturating_sub(from.addiu),
+        ori: to.ori.saturating_sub(from.ori),
+        lui: to.lui.saturating_sub(from.lui),
+        both: to.both.saturating_sub(from.both),
     }
 }
 
@@ -64,7 +51,7 @@ pub fn count_forms(start: u32, end: u32) -> Result<FormCounts, Refusal>
     if end < start {
         return Err(Refusal::StartPastEnd);
     }
-    let from = count_below(start as u64);
-    let to = count_below(end as u64 + 1);
+    let from = count_below(u64::from(start));
+    let to = count_below(u64::from(end) + 1);
     Ok(less(to, from))
 }

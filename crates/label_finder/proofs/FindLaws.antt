@@ -25,6 +25,9 @@ module _ (labels name : List ℕ) where
   pub labels_bad : (place : ℕ) → label_layout labels ≡ Some place → Err (BadLayout 0 place) ≡ layout_verdicts labels name
   labels_bad place e = sym (layouts_are (Some place) (within_limit name None) e refl)
 
+  pub labels_stop : (r : Refusal) → Err r ≡ layout_verdict 0 (label_layout labels) → Err r ≡ layout_verdicts labels name
+  labels_stop r e = ap (λ (v : Verdict). and_then v (layout_verdict 1 (within_limit name None))) e ∙ sym (layouts_are (label_layout labels) (within_limit name None) refl refl)
+
   pub name_long : label_layout labels ≡ None → limit < length name → Err (BadLayout 1 limit) ≡ layout_verdicts labels name
   name_long e h = sym (layouts_are None (Some limit) e (limit_passed name None h))
 
@@ -48,6 +51,9 @@ module _ (labels name : List ℕ) where
     module _ (p : layout_verdicts labels name ≡ Ok tt) where
       pub repeated : (place : ℕ) → label_repeat labels ≡ Some place → FindIs labels name source (Err (DuplicateName 0 place))
       repeated place e = record { answer_is = sym (answer_by_lem (Ok tt) p (Some place) e); few = tt }
+
+      pub names_stop : (r : Refusal) → Err r ≡ name_verdict 0 (label_repeat labels) → FindIs labels name source (Err r)
+      names_stop r e = record { answer_is = ap (λ (v : Verdict). answer_by v (found_in labels name source)) e ∙ sym (answer_by_lem (Ok tt) p (label_repeat labels) refl); few = tt }
 
       pub looked : (found : Found) (index : List ℕ) → label_repeat labels ≡ None → IndexOf 4 labels index → found.address ≡ resolve labels source name
           → found.compared ≡ (looked_up labels index source name).compared → found.compared ≤ 32 → FindIs labels name source (Ok found)

@@ -14,9 +14,7 @@ use refusal::Refusal;
 fn check_layouts(labels: &[u8], name: &[u8]) -> Result<(), Refusal>
     ensures { result ≡ layout_verdicts labels.now name.now }
 {
-    if let Some(place) = labels::first_bad_label(labels) {
-        return Err(Refusal::BadLayout(0, place as u32));
-    }
+    refusal::check_layout(0, labels::first_bad_label(labels))?;
     if name.len() > record::LIMIT {
         return Err(Refusal::BadLayout(1, record::LIMIT as u32));
     }
@@ -29,9 +27,7 @@ fn find_indexed(labels: &[u8], index: &[u16], name: &[u8], source: u32) -> Resul
     requires index_of { IndexOf 4 labels.now index.now × (length index.now ≤ most_labels) }
     ensures { FindIs labels.now name.now source result }
 {
-    if let Some(place) = labels::first_repeat(labels, index) {
-        return Err(Refusal::DuplicateName(0, place as u32));
-    }
+    refusal::check_names(0, labels::first_repeat(labels, index))?;
     Ok(labels::get(labels, index, source, name))
 }
 
@@ -39,9 +35,7 @@ fn find_indexed(labels: &[u8], index: &[u16], name: &[u8], source: u32) -> Resul
 pub fn find_label(labels: &[u8], name: &[u8], source: u32) -> Result<Found, Refusal>
     ensures { FindIs labels.now name.now source result }
 {
-    if let Err(refusal) = check_layouts(labels, name) {
-        return Err(refusal);
-    }
+    check_layouts(labels, name)?;
     let mut index = [0u16; labels::MOST];
     let mut spare = [0u16; labels::MOST];
     let n = labels::make_index(labels, &mut index, &mut spare);

@@ -1,6 +1,6 @@
 -- The outcome of a page by its checks. Assumes nothing.
 use Rattle.std.specs.Prelude.{◌≡◌, ℕ, ◌*◌, ◌<◌, ◌≤◌, List, length, Err, None, Ok, Some}
-use Rattle.std.proofs.Common.{arith, ◌∙◌, le-leb}
+use Rattle.std.proofs.Common.{arith, sym, ◌∙◌, le-leb}
 use Rattle.std.proofs.Math.Path.{ap}
 use Rattle.std.proofs.lemmas.Bool.{lt-leb}
 use Rattle.record.specs.Stores.{append}
@@ -46,6 +46,10 @@ module _ (labels regions page : List ℕ) where
   module _ (p : layout_verdicts labels regions (length page) ≡ Ok tt) where
     pub name_stops : (place : ℕ) → label_repeat labels ≡ Some place → page_outcome labels regions page ≡ refused (DuplicateName 0 place)
     name_stops place e = outcome_is (Err (DuplicateName 0 place)) (verdict_is (Ok tt) p ∙ rw e)
+
+    pub repeat_stops : (r : Refusal) → Err r ≡ name_verdict 0 (label_repeat labels) → page_outcome labels regions page ≡ refused r
+    repeat_stops r e =
+        outcome_is (Err r) (verdict_is (Ok tt) p ∙ ap (λ (v : Verdict). and_then v (room_verdict (page_of labels regions) (length page))) (sym e))
 
     pub room_stops : label_repeat labels ≡ None → length page < 73 * line_count (image_of regions) → page_outcome labels regions page ≡ refused NoPageSpace
     room_stops e h =

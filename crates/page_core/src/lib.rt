@@ -37,9 +37,10 @@ fn put_data(
     ensures { Put out.old at (data_text (label_at labels.now) address 0 «data».now) out.new result }
 {
     let mut end = at;
+    // kept: the part word goes on from where the loop has ended, which a loop over chunks would have to work out again
     let mut i = 0;
     while i + 4 <= data.len() {
-        let pc = std::num::wrapping_add_u32(address, i as u32);
+        let pc = address.wrapping_add(i as u32);
         let name = page_labels::name_in(labels, slots[i / 4]);
         end = page_lines::put_word(&mut *out, end, pc, record::word_at(data, i), name);
         i += 4;
@@ -47,7 +48,7 @@ fn put_data(
     if i == data.len() {
         return end;
     }
-    let pc = std::num::wrapping_add_u32(address, i as u32);
+    let pc = address.wrapping_add(i as u32);
     let name = page_labels::name_in(labels, slots[i / 4]);
     page_lines::put_part(out, end, pc, &data[i..], name)
 }
@@ -100,10 +101,8 @@ fn put_page(
 {
     let count = regions::region_count(regions);
     let mut end = 0;
-    let mut number = 0;
-    while number < count {
+    for number in 0..count {
         end = put_region(&mut *out, end, labels, index, regions, number, &mut *slots);
-        number += 1;
     }
     end
 }
@@ -114,10 +113,8 @@ fn count_lines(regions: &[u8]) -> usize
     ensures { (result ≡ line_count (image_of regions.now)) × (result < 16384) }
 {
     let mut count: usize = 0;
-    let mut at: usize = 0;
-    while at < regions.len() {
-        count = count + (record::half_at(regions, at) + 3) / 4;
-        at = record::next(regions, at);
+    for at in record::places(regions) {
+        count += (record::half_at(regions, at) + 3) / 4;
     }
     count
 }
@@ -126,12 +123,8 @@ fn count_lines(regions: &[u8]) -> usize
 fn check_layouts(labels: &[u8], regions: &[u8], page: &[u8]) -> Result<(), Refusal>
     ensures { result ≡ layout_verdicts labels.now regions.now (length page.now) }
 {
-    if let Some(place) = labels::first_bad_label(labels) {
-        return Err(Refusal::BadLayout(0, place as u32));
-    }
-    if let Some(place) = regions::first_bad_region(regions) {
-        return Err(Refusal::BadLayout(1, place as u32));
-    }
+    refusal::check_layout(0, labels::first_bad_label(labels))?;
+    refusal::check_layout(1, regions::first_bad_region(regions))?;
     if page.len() > LIMIT {
         return Err(Refusal::BadLayout(2, LIMIT as u32));
     }
@@ -151,9 +144,7 @@ fn lay_out_in(
     ensures { page_outcome labels.now regions.now page.old ≡ (record { answer = result; page = page.new }) }
 {
     let n = name_index::make(labels, 4, &mut *index, &mut *slots);
-    if let Some(place) = labels::first_repeat(labels, &index[..n]) {
-        return Err(Refusal::DuplicateName(0, place as u32));
-    }
+    refusal::check_names(0, labels::first_repeat(labels, &index[..n]))?;
     if page.len() < 73 * count_lines(regions) {
         return Err(Refusal::NoPageSpace);
     }
@@ -164,9 +155,7 @@ fn lay_out_in(
 pub fn lay_out(labels: &[u8], regions: &[u8], page: &mut [u8]) -> Result<u32, Refusal>
     ensures { page_outcome labels.now regions.now page.old ≡ (record { answer = result; page = page.new }) }
 {
-    if let Err(refusal) = check_layouts(labels, regions, &*page) {
-        return Err(refusal);
-    }
+    check_layouts(labels, regions, &*page)?;
     if labels.len() + regions.len() <= SHORT {
         let mut index = [0u16; SHORT / 9];
         let mut slots = [0u16; SHORT / 4];

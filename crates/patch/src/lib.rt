@@ -29,8 +29,7 @@ pub fn get_address(label: AddressLabel, list: &[u8], labels: &[u8], index: &[u16
             let end = at + name.name_len;
             let offset = (name.offset % 0x1_0000_0000) as u32;
             let found = labels::get(labels, index, name.location.source, &list[at..end]);
-            let address = found.address;
-            plus_offset(address, offset)
+            plus_offset(found.address, offset)
         }
     }
 }
@@ -47,8 +46,8 @@ pub fn label_place(label: AddressLabel, list: &[u8], labels: &[u8], index: &[u16
             let at = name.name_at;
             let end = at + name.name_len;
             let looked = labels::look_up(labels, index, name.location.source, &list[at..end]);
-            let named = looked.named;
-            match named {
+            // kept: the cast is proved by what the match says of the place, which a closure would not know
+            match looked.named {
                 Some(place) => place as u16,
                 None => NO_PLACE,
             }
@@ -69,7 +68,7 @@ pub fn address_at(label: AddressLabel, labels: &[u8], place: u16) -> Option<u32>
             }
             let offset = (name.offset % 0x1_0000_0000) as u32;
             let address = record::word_at(labels, place as usize + 4);
-            Some(std::num::wrapping_add_u32(address, offset))
+            Some(address.wrapping_add(offset))
         }
     }
 }
@@ -78,10 +77,7 @@ pub fn address_at(label: AddressLabel, labels: &[u8], place: u16) -> Option<u32>
 fn plus_offset(address: Option<u32>, offset: u32) -> Option<u32>
     ensures { result ≡ plus_offset address offset }
 {
-    match address {
-        Some(value) => Some(std::num::wrapping_add_u32(value, offset)),
-        None => None,
-    }
+    address.map(|value| value.wrapping_add(offset))
 }
 
 pub fn name_location(label: AddressLabel) -> Location
@@ -96,7 +92,7 @@ pub fn name_location(label: AddressLabel) -> Location
     }
 }
 
-// No label stands there.
+// No label stands there. Kept a number in place of an Option: an array of places has two bytes for each, and its memory is fixed.
 const NO_PLACE: u16 = 0xFFFF;
 
 // Where a patch stands, and where it goes.
@@ -110,13 +106,11 @@ struct Span {
 fn in_range(job: Job, kind: InstructionLabelKind, pc: u32, destination: u32) -> bool
     ensures { result ≡ in_range job kind pc destination }
 {
-    let after = std::num::wrapping_add_u32(pc, 4);
+    let after = pc.wrapping_add(4);
     match kind {
         InstructionLabelKind::Branch => branch_in_range(job, after / 4, destination / 4),
         InstructionLabelKind::Jump => destination / 0x1000_0000 == after / 0x1000_0000,
-        InstructionLabelKind::Lower => true,
-        InstructionLabelKind::Upper => true,
-        InstructionLabelKind::Full => true,
+        _ => true,
     }
 }
 
@@ -125,11 +119,7 @@ fn branch_in_range(job: Job, from: u32, to: u32) -> bool
     requires { (from < 2 ^ 30) × (to < 2 ^ 30) }
     ensures { result ≡ (nat_le from (to + most_back job) && nat_le to (from + most_ahead job)) }
 {
-    if from <= to + jobs::most_back(job) {
-        to <= from + jobs::most_ahead(job)
-    } else {
-        false
-    }
+    from <= to + jobs::most_back(job) && to <= from + jobs::most_ahead(job)
 }
 
 // The word with the patch's field written.
@@ -137,7 +127,7 @@ fn add_label(instruction: u32, kind: InstructionLabelKind, span: Span) -> u32
     ensures { result ≡ patched_word kind span.pc span.destination instruction }
 {
     let destination = span.destination;
-    let after = std::num::wrapping_add_u32(span.pc, 4);
+    let after = span.pc.wrapping_add(4);
     match kind {
         InstructionLabelKind::Branch => {
             instruction / 0x1_0000 * 0x1_0000
@@ -152,36 +142,23 @@ fn add_label(instruction: u32, kind: InstructionLabelKind, span: Span) -> u32
 }
 
 // The checks of one patch, of which the destination is given: 14, 15, 16.
-pub fn check_pending(job: Job, region: Region, patch: Pending, address: Option<u32>) -> Result<(), Refusal>
+pub fn check_pending(
+    job: Job,
+    region: Region,
+    patch: Pending,
+    address: Option<u32>,
+) -> Result<(), Refusal>
     ensures { result ≡ patch_stop job region patch address }
 {
-    let location = patch.location;
-    let label = patch.label;
-    let kind = patch.kind;
-    let end = patch.offset as usize + 4;
-    if end > region.size {
-        return Err(Refusal::PatchPastEnd(location));
+    if patch.offset as usize + 4 > region.size {
+        return Err(Refusal::PatchPastEnd(patch.location));
     }
-    let pc = std::num::wrapping_add_u32(region.address, patch.offset);
-    match address {
-        None => Err(Refusal::UnknownLabel(name_location(label))),
-        Some(destination) => {
-            if in_range(job, kind, pc, destination) {
-                Ok(())
-            } else {
-                Err(Refusal::JumpOutOfRange(location, destination, pc))
-            }
-        }
+    let pc = region.address.wrapping_add(patch.offset);
+    let destination = address.ok_or(Refusal::UnknownLabel(name_location(patch.label)))?;
+    if !in_range(job, patch.kind, pc, destination) {
+        return Err(Refusal::JumpOutOfRange(patch.location, destination, pc));
     }
-}
-
-fn address_or_zero(address: Option<u32>) -> u32
-    ensures { result ≡ address_or 0 address }
-{
-    match address {
-        Some(value) => value,
-        None => 0,
-    }
+    Ok(())
 }
 
 // Writes one patch, of which the destination is given, into the region list.
@@ -189,11 +166,10 @@ pub fn write_pending(regions: &mut [u8], region: Region, patch: Pending, address
     requires { region.start + patch.offset + 4 ≤ length regions.old }
     ensures { regions.new ≡ write_word region patch address regions.old }
 {
-    let kind = patch.kind;
     let slot = region.start + patch.offset as usize;
-    let pc = std::num::wrapping_add_u32(region.address, patch.offset);
-    let destination = address_or_zero(address);
+    let pc = region.address.wrapping_add(patch.offset);
+    let destination = address.unwrap_or(0);
     let span = Span { pc, destination };
-    let word = add_label(record::word_at(regions, slot), kind, span);
+    let word = add_label(record::word_at(regions, slot), patch.kind, span);
     record::put32(regions, slot, word);
 }

@@ -3,4 +3,4 @@ use Rattle.form_counts.proofs.count_below.Goals as goal
 
 pub returns : goal.returns
 unfolding below addiu_below ori_below lui_below
-returns c = rw (c.past-both.ensures, c.past-lui.ensures, c.past-ori.ensures, c.least-2.ensures, c.past.ensures, c.least.ensures)
+returns c = cc

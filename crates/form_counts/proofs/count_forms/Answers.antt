@@ -7,4 +7,4 @@ returns-then-end-start c = sym (count_refused c.args.start c.args.end c.if-end-s
 
 pub returns : goal.returns
 returns c =
-    rw (c.less.ensures, c.count_below-to.ensures, c.count_below-from.ensures) (sym (count_is c.args.start c.args.end (omega arith) (omega arith)))
+    rw (c.less.ensures, c.count_below-to.ensures, c.count_below-from.ensures, c.from-2.ensures, c.from.ensures) (sym (count_is c.args.start c.args.end (omega arith) (omega arith)))

@@ -1,16 +1,21 @@
-use Rattle.std.proofs.Common.{sym, ◌∙◌, arith}
+use Rattle.std.proofs.Common.{sym, ap, ◌∙◌, arith}
+use Rattle.std.proofs.lemmas.Result.{err_from_is_err_and}
+use Rattle.refusal.specs.Verdicts.{layout_verdict}
+use Rattle.refusal.proofs.VerdictsLaws.{layout_pass}
 use Rattle.labels.proofs.LabelsLaws.{label_place_lem}
-use Rattle.label_finder.proofs.FindLaws.{labels_bad, name_long, both_good}
+use Rattle.label_finder.proofs.FindLaws.{labels_stop, name_long, both_good}
 use Rattle.label_finder.proofs.check_layouts.Goals as goal
 
-pub overflow_cast-result : goal.overflow_cast-result
-overflow_cast-result c = omega (arith, label_place_lem _ _ (sym c.first_bad_label.ensures ∙ c.in-Some.is))
+pub check_layout-requires : goal.check_layout-requires
+check_layout-requires c = λ place e. omega (arith, label_place_lem c.args.labels.now place (sym c.first_bad_label.ensures ∙ e))
 
-pub returns-in-Some : goal.returns-in-Some
-returns-in-Some c = labels_bad _ _ _ (sym c.first_bad_label.ensures ∙ c.in-Some.is)
+pub returns-in_err-check_layout : goal.returns-in_err-check_layout
+returns-in_err-check_layout c =
+    let p = err_from_is_err_and c.from_residual.result c.from_residual.ensures.1 in
+    rw (p.1, p.2) (labels_stop _ _ _ (c.in_err-check_layout.ensures ∙ ap (layout_verdict 0) c.first_bad_label.ensures))
 
 pub returns-then-name-gt-LIMIT : goal.returns-then-name-gt-LIMIT
-returns-then-name-gt-LIMIT c = name_long _ _ (sym c.first_bad_label.ensures ∙ c.in_default.is) (omega arith)
+returns-then-name-gt-LIMIT c = name_long _ _ (sym c.first_bad_label.ensures ∙ layout_pass 0 _ (sym c.in_ok-check_layout.ensures)) (omega arith)
 
 pub returns : goal.returns
-returns c = both_good _ _ (sym c.first_bad_label.ensures ∙ c.in_default.is) (omega arith)
+returns c = both_good _ _ (sym c.first_bad_label.ensures ∙ layout_pass 0 _ (sym c.in_ok-check_layout.ensures)) (omega arith)

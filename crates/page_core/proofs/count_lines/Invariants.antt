@@ -1,15 +1,9 @@
-use Rattle.std.specs.Prelude.{None}
-use Rattle.std.proofs.Common.{◌≡◌, ◌+◌, ◌-◌, ◌≤◌, length}
-use Rattle.record.proofs.RecordsLaws.{layout_from}
-use Rattle.regions.specs.Regions.{region_ok}
-use Rattle.reading.specs.Reading.{image_of}
-use Rattle.page_outcome.specs.Page.{line_count}
-use Rattle.page_core.proofs.ChecksLaws.{lines_from}
+use Rattle.std.proofs.Common.{◌≡◌, ◌+◌}
+use Rattle.record.specs.Records.{places}
+use Rattle.record.specs.Left.{places_left}
+use Rattle.page_core.proofs.ChecksLaws.{lines_left}
 use Rattle.page_core.proofs.count_lines.Given as goal
 
+-- the lines so far and those of the regions that are left are all lines
 abbrev pub invariant-loop-at : goal.invariant-loop-at
-invariant-loop-at l =
-    (l.at ≤ length l.regions) × (layout_from (region_ok l.regions) l.regions l.at ≡ None) × (l.count + lines_from l.regions l.at ≡ line_count (image_of l.regions))
-
-abbrev pub decreases-loop-at : goal.decreases-loop-at
-decreases-loop-at l = length l.regions - l.at
+invariant-loop-at l = l.count + lines_left l.regions (places_left l.at-iterator) ≡ lines_left l.regions (places l.regions)

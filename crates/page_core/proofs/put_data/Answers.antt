@@ -1,5 +1,6 @@
 use Rattle.std.proofs.Common.{◌+◌, ◌-◌, ◌≤◌, ◌++◌, length, take, drop, ◌∙◌, arith, length-drop, length-take, take_all}
 use Rattle.io.specs.Digits.{last_digits}
+use Rattle.patch.specs.Patches.{wrap32}
 use Rattle.text.specs.Text.{hex_bytes}
 use Rattle.text.proofs.TextLaws.{Left, left_room, left_next, left_last, left_none, digits_length, hex_length}
 use Rattle.page_outcome.specs.Page.{word_line, label_at}
@@ -13,12 +14,11 @@ use Rattle.page_core.proofs.put_data.Goals.{After-word_at, After-name_in-name-2}
 turn : (c : After-word_at) → let l = c.loop-i in
     let a = c.args in
     Left a.out.now a.at (data_text (label_at a.labels.now) a.address 0 a.«data».now) l.out l.end
-    (word_line c.wrapping_add_u32-pc.result (last_digits 16 8 c.word_at.result) c.name_in-name.result.now ++ data_text (label_at a.labels.now) a.address (l.i + 4) (drop (l.i + 4) a.«data».now))
+    (word_line (wrap32 (a.address + l.i)) (last_digits 16 8 c.word_at.result) c.name_in-name.result.now ++ data_text (label_at a.labels.now) a.address (l.i + 4) (drop (l.i + 4) a.«data».now))
 turn c =
     let l = c.loop-i in
     let a = c.args in
     rw (
-      c.wrapping_add_u32-pc.ensures.value,
       c.word_at.ensures,
       c.name_in-name.ensures ∙ (name_at a.labels.now a.address (length a.«data».now) a.slots.now c.requires.shows l.i l.invariant.1 (omega arith)).1,
     )
@@ -28,7 +28,7 @@ pub put_word-end-requires : goal.put_word-end-requires
 put_word-end-requires c =
     let l = c.loop-i in
     let a = c.args in
-    let pc = c.wrapping_add_u32-pc.result in
+    let pc = wrap32 (a.address + l.i) in
     let w = last_digits 16 8 c.word_at.result in
     let name = c.name_in-name.result.now in
     let r = left_room l.out l.end (word_line pc w name) (data_text (label_at a.labels.now) a.address (l.i + 4) (drop (l.i + 4) a.«data».now)) (turn (goal.at.put_word-end-requires c).After-word_at) in
@@ -49,14 +49,13 @@ last : (c : After-name_in-name-2) → let l = c.loop-i in
     let a = c.args in
     let d = a.«data».now in
     Left a.out.now a.at (data_text (label_at a.labels.now) a.address 0 d) l.out l.end
-    (word_line c.wrapping_add_u32-pc-2.result (hex_bytes (take (length d - l.i) (drop l.i d))) c.name_in-name-2.result.now)
+    (word_line (wrap32 (a.address + l.i)) (hex_bytes (take (length d - l.i) (drop l.i d))) c.name_in-name-2.result.now)
 last c =
     let l = c.loop-i in
     let a = c.args in
     let d = a.«data».now in
     let n = length-drop l.i d in
     rw (
-      c.wrapping_add_u32-pc-2.ensures.value,
       take_all (length d - l.i) (drop l.i d) (omega arith),
       c.name_in-name-2.ensures ∙ (name_at a.labels.now a.address (length d) a.slots.now c.requires.shows l.i l.invariant.1 (omega (arith, l.invariant.0))).1,
     )
@@ -69,7 +68,7 @@ put_part-requires c =
     let t = last (goal.at.put_part-requires c).After-name_in-name-2 in
     let bytes = take (length d - l.i) (drop l.i d) in
     let k : length bytes ≤ 4 = simp (length-take, length-drop) (omega arith) in
-    let w = word_length c.wrapping_add_u32-pc-2.result (hex_bytes bytes) c.name_in-name-2.result.now (omega (arith, hex_length bytes, k)) in
+    let w = word_length (wrap32 (c.args.address + l.i)) (hex_bytes bytes) c.name_in-name-2.result.now (omega (arith, hex_length bytes, k)) in
     (omega (arith, t.fits, t.kept, t.ends, w), k)
 
 pub returns : goal.returns

@@ -17,7 +17,7 @@ turn : (c : In-loop-number) → let l = c.loop-number in
 turn c =
     let l = c.loop-number in
     let s = c.args.regions.now in
-    let h : l.number < region_count s = omega (arith, c.loop-number-test.true, c.region_count-count.ensures.0) in
+    let h : l.number < region_count s = omega (arith, c.region_count-count.ensures.0) in
     rw (regions_next (label_at c.args.labels.now) s l.number h) at l.invariant.2
 
 pub loop-number-init : goal.loop-number-init
@@ -44,5 +44,5 @@ pub returns : goal.returns
 returns c =
     let l = c.loop-number in
     let s = c.args.regions.now in
-    let p = left_none l.out l.end (rw (regions_end (label_at c.args.labels.now) s l.number (omega (arith, c.loop-number-test.false, c.region_count-count.ensures.0))) at l.invariant.2) in
+    let p = left_none l.out l.end (rw (regions_end (label_at c.args.labels.now) s l.number (omega (arith, c.region_count-count.ensures.0))) at l.invariant.2) in
     rw (page_is c.args.labels.now s) at p

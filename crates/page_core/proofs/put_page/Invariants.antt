@@ -1,4 +1,4 @@
-use Rattle.std.proofs.Common.{◌≡◌, ◌-◌, ◌≤◌, length, drop}
+use Rattle.std.proofs.Common.{◌≡◌, ◌≤◌, length, drop}
 use Rattle.reading.specs.Reading.{image_of}
 use Rattle.text.proofs.TextLaws.{Left}
 use Rattle.page_outcome.specs.Page.{label_at}
@@ -11,6 +11,3 @@ invariant-loop-number l =
     (l.number ≤ l.count)
     × (length l.slots ≡ length l.initial.slots)
     × Left l.initial.out 0 (image_text label 0 (image_of l.regions)) l.out l.end (image_text label l.number (drop l.number (image_of l.regions)))
-
-abbrev pub decreases-loop-number : goal.decreases-loop-number
-decreases-loop-number l = l.count - l.number

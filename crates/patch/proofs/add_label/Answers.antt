@@ -3,7 +3,7 @@ use Rattle.patch.proofs.PatchesLaws.{patched_branch, patched_jump, patched_lower
 use Rattle.patch.proofs.add_label.Goals as goal
 
 pub returns-in-Branch : goal.returns-in-Branch
-returns-in-Branch c = rw (c.in-Branch.is, patched_branch) (omega (arith, c.wrapping_add_u32-after.ensures))
+returns-in-Branch c = rw (c.in-Branch.is, patched_branch) (omega arith)
 
 pub returns-in-Jump : goal.returns-in-Jump
 returns-in-Jump c = rw (c.in-Jump.is, patched_jump) (omega arith)

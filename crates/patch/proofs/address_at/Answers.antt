@@ -1,5 +1,3 @@
-use Rattle.std.specs.Prelude.{Some}
-use Rattle.std.proofs.Common.{ap}
 use Rattle.patch.specs.Placed.{placed_destination}
 use Rattle.patch.proofs.PlacedLaws.{address_there, placed_label}
 use Rattle.patch.proofs.address_at.Goals as goal
@@ -13,4 +11,4 @@ returns-in-Constant c = rw c.in-Constant.is
 
 pub returns-else-place-eq-NO_PLACE : goal.returns-else-place-eq-NO_PLACE
 returns-else-place-eq-NO_PLACE c =
-    rw (c.in-Label.is, placed_label, address_there c.args.labels.now c.args.place c.if-place-eq-NO_PLACE.false, ← c.word_at-address.ensures) (ap Some c.wrapping_add_u32.ensures.value)
+    rw (c.in-Label.is, placed_label, address_there c.args.labels.now c.args.place c.if-place-eq-NO_PLACE.false, ← c.word_at-address.ensures)

@@ -1,18 +1,21 @@
-use Rattle.std.proofs.Common.{sym, arith}
+use Rattle.std.proofs.Common.{arith}
 use Rattle.patch.proofs.PatchesLaws.{stops_unknown, stops_far, passes}
 use Rattle.patch.proofs.check_pending.Goals as goal
 
-pub returns-in-None : goal.returns-in-None
-returns-in-None c =
+pub returns-in_err-destination : goal.returns-in_err-destination
+returns-in_err-destination c =
     let a = c.args in
-    rw (c.in-None.is, c.name_location.ensures) (sym (stops_unknown a.job a.region a.patch (omega arith)))
+    let u = stops_unknown a.job a.region a.patch (omega arith) in
+    grind (arith, u)
 
-pub returns-then-in_range : goal.returns-then-in_range
-returns-then-in_range c =
+pub returns-then-not-in_range : goal.returns-then-not-in_range
+returns-then-not-in_range c =
     let a = c.args in
-    rw c.in-Some.is (sym (passes a.job a.region a.patch c.in-Some.destination (omega arith) (cc)))
+    let f = stops_far a.job a.region a.patch c.in_ok-destination.destination (omega arith) (cc) in
+    grind (arith, f)
 
-pub returns-else-in_range : goal.returns-else-in_range
-returns-else-in_range c =
+pub returns : goal.returns
+returns c =
     let a = c.args in
-    rw c.in-Some.is (cc (stops_far a.job a.region a.patch c.in-Some.destination (omega arith) (cc)))
+    let p = passes a.job a.region a.patch c.in_ok-destination.destination (omega arith) (cc) in
+    grind (arith, p)
