@@ -54,7 +54,7 @@ fn letter_of(table: &[u8; 256], byte: u8) -> u8
     requires { table.now ≡ letters }
     ensures { result ≡ letter_of (class_of byte) }
 {
-    table[byte as usize]
+    table[usize::from(byte)]
 }
 
 pub fn class_of(table: &[u8; 256], byte: u8) -> Class
@@ -86,11 +86,7 @@ pub fn is_word_byte(table: &[u8; 256], byte: u8) -> bool
     requires { table.now ≡ letters }
     ensures { result ≡ word_byte byte }
 {
-    match letter_of(table, byte) {
-        b'a' => true,
-        b'0' => true,
-        _ => false,
-    }
+    matches!(letter_of(table, byte), b'a' | b'0')
 }
 
 // Whether the byte is a blank.
@@ -98,8 +94,5 @@ pub fn is_blank(table: &[u8; 256], byte: u8) -> bool
     requires { table.now ≡ letters }
     ensures { result ≡ blank_byte byte }
 {
-    match letter_of(table, byte) {
-        b'b' => true,
-        _ => false,
-    }
+    letter_of(table, byte) == b'b'
 }

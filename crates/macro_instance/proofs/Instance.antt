@@ -1,5 +1,5 @@
 -- The definition, computed: what is written, and each refusal. Assumes nothing.
-use Rattle.std.specs.Prelude.{ℕ, ◌+◌, List, [], ◌∷◌, ◌++◌, reverse, ◌≡◌, refl, replicate, Err, Ok, Result}
+use Rattle.std.specs.Prelude.{ℕ, List, [], ◌∷◌, ◌++◌, reverse, ◌≡◌, refl, replicate, Err, Ok, Result}
 use mathlib.Core.List.Memᴰ
 use Rattle.record.specs.Bytes.{same_bytes, all}
 use Rattle.record.specs.Records.{places_f, places_from, places, first_bad, within_limit}

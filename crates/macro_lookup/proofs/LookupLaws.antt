@@ -1,10 +1,11 @@
 -- Laws of a walk over the macro list. Assumes nothing.
-use Rattle.std.specs.Prelude.{ℕ, ◌+◌, ◌-◌, ◌≤◌, ◌<◌, min, List, true, false, ◌&&◌, ◌≡◌, length, eqb, None}
-use Rattle.std.proofs.Common.{arith, sym, ap, ◌∙◌, length-take, length-drop}
+use Rattle.std.specs.Prelude.{ℕ, ◌+◌, ◌-◌, ◌≤◌, ◌<◌, min, List, [], ◌∷◌, Bool, true, false, ◌&&◌, ◌≡◌, refl, length, take, leb, ltb, eqb, None}
+use Rattle.std.proofs.Common.{arith, sym, ap, subst, ◌∙◌, length-take, length-drop, length-take-le, get_or-take, leb-true, leb-false, le-leb, ltb-true, ltb-false}
+use Rattle.std.proofs.lemmas.Bool.{false≢true}
 use Rattle.std.proofs.Math.Bool.{and-eq-true_iff}
 use Rattle.record.specs.Bytes.{part, same_bytes}
-use Rattle.record.specs.Records.{body_len, kind_at, next, whole, places, first_bad, limit}
-use Rattle.record.proofs.RecordsLaws.{layout_from, places_all, whole_is, good_ok, good_next, limit_good}
+use Rattle.record.specs.Records.{body_len, kind_at, next, whole, places, places_from, first_bad, limit}
+use Rattle.record.proofs.RecordsLaws.{layout_from, places_all, places_step, places_cut, places_end, whole_is, good_ok, good_next, limit_good}
 use Rattle.macros.specs.Macros.{name_at, name_ok, macro_of, macro_ok, body_at, macro_at_ok, macro_layout}
 use Rattle.macros.proofs.LayoutLaws.{parts_of}
 use Rattle.written_out.specs.Above.{macro_at, above, Found}
@@ -70,6 +71,82 @@ module _ (s name : List ℕ) (limit at k : ℕ) (w : Walked s name limit at k) (
 
 pub walked_last : (s name : List ℕ) (limit at k : ℕ) → Walked s name limit at k → limit ≤ at → CalleeIs s name limit k
 walked_last s name limit at k w h = record { found_so = found_last s name limit at k h w.same w.found_so; most = w.most; ok = w.ok }
+
+-- ---- the same by the places of the list up to `limit`: it has the same records, and one that runs past it is its last
+module _ (s : List ℕ) (limit : ℕ) (h : limit ≤ length s) (at : ℕ) (l : at < limit) where
+  abbrev cut : List ℕ
+  cut = take limit s
+
+  same_next : at + 2 ≤ limit → next cut at ≡ next s at
+  same_next m = omega (arith, get_or-take limit s at 0 (omega arith), get_or-take limit s (at + 1) 0 (omega arith))
+
+  runs_past : whole cut at ≡ false → length cut ≤ next s at
+  runs_past e = go (leb (length cut) (next s at)) refl
+    where
+      go : (b : Bool) → leb (length cut) (next s at) ≡ b → length cut ≤ next s at
+      go true f = leb-true _ _ f
+      go false f =
+          let n = leb-false _ _ f in
+          let k = length-take-le limit s h in
+          let w : whole cut at ≡ true = rw (le-leb (at + 4) (length cut) (omega arith), le-leb (next cut at) (length cut) (omega (arith, same_next (omega arith)))) in
+          absurd (false≢true (sym e ∙ w))
+
+  pub cut_step : places_from cut at ≡ at ∷ places_from cut (next s at)
+  cut_step = go (whole cut at) refl
+    where
+      go : (b : Bool) → whole cut at ≡ b → places_from cut at ≡ at ∷ places_from cut (next s at)
+      go true e =
+          let w = whole_is cut at e in
+          let k = length-take-le limit s h in
+          places_step cut at (omega arith) e ∙ ap (λ (n : ℕ). at ∷ places_from cut n) (same_next (omega arith))
+      go false e =
+          let k = length-take-le limit s h in
+          places_cut cut at (omega arith) e ∙ ap (λ (ps : List ℕ). at ∷ ps) (sym (places_end cut (next s at) (runs_past e)))
+
+-- what a walk has met, by the places that are left
+pub record Met (s name : List ℕ) (limit : ℕ) (left : List ℕ) (k : ℕ) : Type 0 where
+  pub at : ℕ
+  pub walked : Walked s name limit at k
+  pub left_is : left ≡ places_from (take limit s) at
+
+pub met_first : (s name : List ℕ) (limit : ℕ) (left : List ℕ) → macro_layout s ≡ None → left ≡ places (take limit s) → Met s name limit left limit
+met_first s name limit left g e = record { at = 0; walked = walked_first s name limit g; left_is = e ∙ places_all (take limit s) }
+
+-- a turn that takes p
+pub record MetTurn (s name : List ℕ) (limit p : ℕ) (left : List ℕ) (k : ℕ) : Type 0 where
+  pub stands : MacroIs s p
+  pub named : same_bytes (macro_at s p).name name ≡ true → Met s name limit left p
+  pub other : same_bytes (macro_at s p).name name ≡ false → Met s name limit left k
+
+pub met_turn : (s name : List ℕ) (limit p k : ℕ) (ps left : List ℕ) → limit ≤ length s → Met s name limit left k → left ≡ p ∷ ps → MetTurn s name limit p ps k
+met_turn s name limit p k ps left h m e = go (ltb m.at limit) refl
+  where
+    go : (b : Bool) → ltb m.at limit ≡ b → MetTurn s name limit p ps k
+    go false f =
+        let z : p ∷ ps ≡ [] = sym e ∙ m.left_is ∙ places_end (take limit s) m.at (omega (arith, length-take-le limit s h, ltb-false m.at limit f)) in
+        let y : ◌≡◌ {A = ℕ} 0 1 = cc in
+        absurd (omega arith)
+    go true f =
+        let l = ltb-true m.at limit f in
+        let c : p ∷ ps ≡ m.at ∷ places_from (take limit s) (next s m.at) = sym e ∙ m.left_is ∙ cut_step s limit h m.at l in
+        let a : p ≡ m.at = cc in
+        let q : ps ≡ places_from (take limit s) (next s m.at) = cc in
+        subst (λ (x : ℕ). MetTurn s name limit x ps k) (sym a)
+        (record {
+          stands = here s name limit m.at k m.walked l h;
+          named = λ t. record { at = next s m.at; walked = walked_here s name limit m.at k m.walked l h t; left_is = q };
+          other = λ t. record { at = next s m.at; walked = walked_next s name limit m.at k m.walked l h t; left_is = q };
+        })
+
+pub met_last : (s name : List ℕ) (limit k : ℕ) (left : List ℕ) → limit ≤ length s → Met s name limit left k → left ≡ [] → CalleeIs s name limit k
+met_last s name limit k left h m e = go (ltb m.at limit) refl
+  where
+    go : (b : Bool) → ltb m.at limit ≡ b → CalleeIs s name limit k
+    go true f =
+        let z : [] ≡ m.at ∷ places_from (take limit s) (next s m.at) = sym e ∙ m.left_is ∙ cut_step s limit h m.at (ltb-true m.at limit f) in
+        let y : ◌≡◌ {A = ℕ} 0 1 = cc in
+        absurd (omega arith)
+    go false f = walked_last s name limit m.at k m.walked (ltb-false m.at limit f)
 
 -- the name of the macro whose body is that part
 pub name_of : (s : List ℕ) (at e : ℕ) → e ≡ next s at → name_at (part s (at + 4) (e - (at + 4))) 0 ≡ (macro_at s at).name

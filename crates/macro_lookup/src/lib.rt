@@ -8,7 +8,6 @@ ghost use Rattle.name_index.specs.Index.{IndexOf};
 ghost use Rattle.macros.specs.Macros.{name_at, name_ok, macro_layout, macro_repeat};
 ghost use Rattle.macro_lookup.specs.Lookup.{CalleeIs};
 
-
 // The most macros of a list: one has seven bytes at least.
 const MOST: usize = 9362;
 
@@ -30,14 +29,10 @@ pub fn callee(macros: &[u8], limit: usize, name: &[u8]) -> usize
     ensures { CalleeIs macros.now name.now limit result }
 {
     let mut found = limit;
-    let mut at: usize = 0;
-    while at < limit {
+    for at in record::places(&macros[..limit]) {
         let next = record::next(macros, at);
         if is_named(&macros[at + 4..next], name) {
             found = at;
-            at = next;
-        } else {
-            at = next;
         }
     }
     found
@@ -58,30 +53,23 @@ fn repeat_in(macros: &[u8], index: &[u16]) -> Option<usize>
     requires { (macro_layout macros.now ≡ None) × IndexOf 0 macros.now index.now }
     ensures { result ≡ macro_repeat macros.now }
 {
-    if index.len() == 0 {
+    if index.is_empty() {
         return None;
     }
-    let mut best = macros.len();
+    let mut best: Option<usize> = None;
     let mut low = record::widened(index[0]);
-    let mut i: usize = 1;
-    while i < index.len() {
+    for i in 1..index.len() {
         let p = record::widened(index[i]);
         if !same_name(names::name_at(macros, 0, p), names::name_at(macros, 0, low)) {
             low = p;
-            i += 1;
         } else if p < low {
-            best = name_order::smaller(best, low);
+            best = Some(name_order::smaller(best.unwrap_or(low), low));
             low = p;
-            i += 1;
         } else {
-            best = name_order::smaller(best, p);
-            i += 1;
+            best = Some(name_order::smaller(best.unwrap_or(p), p));
         }
     }
-    if best < macros.len() {
-        return Some(best);
-    }
-    None
+    best
 }
 
 // The same, by an index made in the first array; the other is scratch.

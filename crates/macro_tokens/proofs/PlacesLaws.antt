@@ -1,5 +1,5 @@
 -- Laws of tokens by their places. Assumes nothing.
-use Rattle.std.specs.Prelude.{ℕ, zero, suc, ◌+◌, ◌-◌, ◌≤◌, ◌<◌, List, [], ◌∷◌, map, Bool, true, false, ◌≡◌, refl, length, get_or, take, ltb, eqb}
+use Rattle.std.specs.Prelude.{ℕ, zero, suc, ◌+◌, ◌-◌, ◌≤◌, ◌<◌, List, [], ◌∷◌, map, Bool, true, false, ◌≡◌, refl, length, get_or, take, drop, ltb, eqb}
 use Rattle.std.proofs.Common.{arith, sym, ap₂, subst, ◌∙◌, length-take-le, get_or-take, lt-ltb, le-ltb, ltb-true, ltb-false, eq-eqb, ne_eqb, eqb-true}
 use Rattle.std.proofs.Math.Path.{ap}
 use Rattle.std.proofs.Math.ListN.{get_or-eq_default}
@@ -7,10 +7,10 @@ use Rattle.std.proofs.lemmas.Bool.{eqb-false}
 use Rattle.record.specs.Bytes.{location_at}
 use Rattle.record.specs.Records.{body_len, kind_at, next}
 use Rattle.record.proofs.RecordsLaws.{good_ok, good_next, places_step, places_end}
-use Rattle.lexer.specs.Tokens.{text_of, token_ok, TokenIs}
+use Rattle.lexer.specs.Tokens.{payload_len, text_of, token_ok, TokenIs}
 use Rattle.lexer.proofs.TokensLaws.{token_is}
 use Rattle.line_heads.specs.Lines.{record_at, is_parameter}
-use Rattle.line_heads.proofs.RecordLaws.{kind_in, location_in, text_in, length_in, records_from, records_end, records_step}
+use Rattle.line_heads.proofs.RecordLaws.{body_in, kind_in, location_in, text_in, length_in, records_from, records_end, records_step}
 use Rattle.macros.specs.Macros.{index_of}
 use Rattle.written_out.specs.Written.{put_in}
 use Rattle.macro_tokens.specs.declared.Body.{Body}
@@ -53,6 +53,28 @@ module _ (text macros : List ℕ) (p : ℕ) where
 
     pub text_macros : length text ≤ p → text_of t 0 ≡ text_of macros (p - length text)
     text_macros h = ap (λ (r : List ℕ). text_of r 0) (record_macros h) ∙ text_in macros (p - length text) (is.in_macros h)
+
+    pub record_long : 12 ≤ length t
+    record_long = go (ltb p (length text)) refl
+      where
+        go : (b : Bool) → ltb p (length text) ≡ b → 12 ≤ length t
+        go true e = let h = ltb-true p (length text) e in omega (arith, size_text h, (is.in_text h).least)
+        go false e = let h = ltb-false p (length text) e in omega (arith, size_macros h, (is.in_macros h).least)
+
+    -- the part behind its head and its location
+    pub text_behind : take (length t - 12) (drop 12 t) ≡ text_of t 0
+    text_behind = go (ltb p (length text)) refl
+      where
+        behind : length t ≡ 4 + body_len t 0 → take (length t - 12) (drop 12 t) ≡ text_of t 0
+        behind e = let n : length t - 12 ≡ payload_len t 0 = omega (arith, e) in ap (λ (k : ℕ). take k (drop 12 t)) n
+
+        go : (b : Bool) → ltb p (length text) ≡ b → take (length t - 12) (drop 12 t) ≡ text_of t 0
+        go true e =
+            let h = ltb-true p (length text) e in
+            behind (size_text h ∙ ap (λ (n : ℕ). 4 + n) (sym (ap (λ (r : List ℕ). body_len r 0) (record_text h) ∙ body_in text p (is.in_text h))))
+        go false e =
+            let h = ltb-false p (length text) e in
+            behind (size_macros h ∙ ap (λ (n : ℕ). 4 + n) (sym (ap (λ (r : List ℕ). body_len r 0) (record_macros h) ∙ body_in macros (p - length text) (is.in_macros h))))
 
 -- ---- the place of a body's token
 module _ (list : List ℕ) (b : Body) (at : ℕ) where

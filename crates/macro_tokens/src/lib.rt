@@ -30,6 +30,7 @@ pub struct Body {
 }
 
 // A call's arguments: how many, and the places of the first eight.
+// kept: an array beside its count, since nothing is taken from a heap.
 #[derive(Clone, Copy)]
 pub struct Taken {
     pub count: usize,
@@ -46,16 +47,28 @@ pub enum Act {
 }
 
 // ---- the token at a place
+// kept: the two lists are two parameters, as the contracts that callers rest on name them.
+
+// The bytes of its record.
+fn token_bytes<'a>(text: &'a [u8], macros: &'a [u8], place: usize) -> &'a [u8]
+    requires { TokenIn text.now macros.now place }
+    ensures { (result.now ≡ token_record text.now macros.now place) × (12 ≤ length result.now) }
+{
+    if place < text.len() {
+        let next = record::next(text, place);
+        &text[place..next]
+    } else {
+        let at = place - text.len();
+        let next = record::next(macros, at);
+        &macros[at..next]
+    }
+}
 
 fn kind_of(text: &[u8], macros: &[u8], place: usize) -> usize
     requires { TokenIn text.now macros.now place }
     ensures { result ≡ kind_at (token_record text.now macros.now place) 0 }
 {
-    if place < text.len() {
-        record::half_at(text, place + 2)
-    } else {
-        record::half_at(macros, place - text.len() + 2)
-    }
+    record::half_at(token_bytes(text, macros, place), 2)
 }
 
 // The length of its record.
@@ -63,22 +76,14 @@ pub fn size_of(text: &[u8], macros: &[u8], place: usize) -> usize
     requires { TokenIn text.now macros.now place }
     ensures { result ≡ length (token_record text.now macros.now place) }
 {
-    if place < text.len() {
-        4 + record::half_at(text, place)
-    } else {
-        4 + record::half_at(macros, place - text.len())
-    }
+    token_bytes(text, macros, place).len()
 }
 
 pub fn location_of(text: &[u8], macros: &[u8], place: usize) -> Location
     requires { TokenIn text.now macros.now place }
     ensures { result ≡ location_at (token_record text.now macros.now place) 4 }
 {
-    if place < text.len() {
-        record::location_at(text, place + 4)
-    } else {
-        record::location_at(macros, place - text.len() + 4)
-    }
+    record::location_at(token_bytes(text, macros, place), 4)
 }
 
 // The macro before `limit` that the token's text names, or `limit`.
@@ -86,14 +91,8 @@ fn callee_of(text: &[u8], macros: &[u8], limit: usize, place: usize) -> usize
     requires { TokenIn text.now macros.now place × (macro_layout macros.now ≡ None) × (limit ≤ length macros.now) }
     ensures { CalleeIs macros.now (text_of (token_record text.now macros.now place) 0) limit result }
 {
-    if place < text.len() {
-        let next = record::next(text, place);
-        macro_lookup::callee(macros, limit, &text[place + 12..next])
-    } else {
-        let at = place - text.len();
-        let next = record::next(macros, at);
-        macro_lookup::callee(macros, limit, &macros[at + 12..next])
-    }
+    let bytes = token_bytes(text, macros, place);
+    macro_lookup::callee(macros, limit, &bytes[12..])
 }
 
 // A copy of its record from `fill` on, where that is `really` to be made.
@@ -109,14 +108,7 @@ pub fn put_token(
     ensures { out.new ≡ append out.old fill (only really (token_record text.now macros.now place)) }
 {
     if really {
-        if place < text.len() {
-            let next = record::next(text, place);
-            record::put_all(out, fill, &text[place..next]);
-        } else {
-            let at = place - text.len();
-            let next = record::next(macros, at);
-            record::put_all(out, fill, &macros[at..next]);
-        }
+        record::put_all(out, fill, token_bytes(text, macros, place));
     }
 }
 
@@ -133,12 +125,7 @@ pub fn place_at(list: &[u8], body: Body, at: usize) -> usize
     }
     let next = record::next(list, at);
     let i = macros::index_of(list, body.count, body.names, &list[at + 12..next]);
-    if i < body.count {
-        let args = body.args;
-        args[i]
-    } else {
-        own
-    }
+    if i < body.count { body.args[i] } else { own }
 }
 
 // Whether the token at `at`, if there is one, is a Colon.
@@ -158,20 +145,13 @@ fn with_token(taken: Taken, kind: usize, place: usize) -> Taken
     requires { (taken.count ≤ 2 * limit) × (length taken.args ≡ 8) }
     ensures { result ≡ with_token taken kind place }
 {
-    if kind == 11 {
-        return taken;
-    }
-    if kind == 0 {
+    if kind == 11 || kind == 0 {
         return taken;
     }
     let count = taken.count;
     let mut args = taken.args;
     if count < 8 {
         args[count] = place;
-        return Taken {
-            count: count + 1,
-            args,
-        };
     }
     Taken {
         count: count + 1,
@@ -184,9 +164,12 @@ pub fn arguments_from(text: &[u8], macros: &[u8], list: &[u8], body: Body, from:
     requires { ReadableFrom text.now macros.now list.now body from }
     ensures { Takes text.now macros.now result (arguments_from text.now macros.now list.now body from) }
 {
-    let args = [0usize; 8];
-    let mut taken = Taken { count: 0, args };
+    let mut taken = Taken {
+        count: 0,
+        args: [0; 8],
+    };
     let mut at = from;
+    // kept: `record::places` begins at a list's first record, and this walk at `from`
     while at < list.len() {
         let place = place_at(list, body, at);
         let kind = kind_of(text, macros, place);
@@ -213,23 +196,18 @@ fn act_leading(
     requires { TokenIn text.now macros.now place × (macro_layout macros.now ≡ None) × (limit ≤ length macros.now) × (kind ≡ kind_at (token_record text.now macros.now place) 0) }
     ensures { ActIs macros.now limit (leading_of (above macros.now limit) (token_record text.now macros.now place) colon) result }
 {
-    if kind == 13 {
-        return Act::Write(Mode::Leading);
-    }
-    if kind == 0 {
-        return Act::Write(Mode::Leading);
-    }
-    if kind != 8 {
-        return Act::Write(Mode::Copied);
-    }
-    if colon {
-        return Act::Write(Mode::Labelled);
-    }
-    let k = callee_of(text, macros, limit, place);
-    if k < limit {
-        Act::Call(k)
-    } else {
-        Act::Write(Mode::Copied)
+    match kind {
+        13 | 0 => Act::Write(Mode::Leading),
+        8 if colon => Act::Write(Mode::Labelled),
+        8 => {
+            let k = callee_of(text, macros, limit, place);
+            if k < limit {
+                Act::Call(k)
+            } else {
+                Act::Write(Mode::Copied)
+            }
+        }
+        _ => Act::Write(Mode::Copied),
     }
 }
 
@@ -249,6 +227,7 @@ pub fn act_at(
     ensures { ActIs macros.now limit (act_of (above macros.now limit) mode (token_record text.now macros.now place) (read_from text.now macros.now list.now body next)) result }
 {
     let kind = kind_of(text, macros, place);
+    // kept: an arm `Copied | LeftOut if kind == 13` is no plainer, since each arm behind it is then proved twice
     match mode {
         Mode::Leading => {
             let colon = colon_at(text, macros, list, body, next);

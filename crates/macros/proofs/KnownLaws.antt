@@ -1,7 +1,7 @@
 -- Laws of a body's Parameters. Assumes nothing.
 use Rattle.std.specs.Prelude.{ℕ, ◌+◌, ◌-◌, ◌≤◌, ◌<◌, Bool, true, false, not, ◌&&◌, ◌||◌, ◌≡◌, length, eqb, ltb, None}
 use Rattle.std.proofs.Common.{arith, sym, ◌∙◌, eq-eqb, ne_eqb}
-use mathlib.Core.List.{List, map}
+use mathlib.Core.List.{List, ◌∷◌, map}
 use Rattle.std.proofs.Math.Path.{ap}
 use Rattle.record.specs.Bytes.{part}
 use Rattle.record.specs.Records.{kind_at, next, first_bad}
@@ -48,6 +48,12 @@ module _ (ps : List (List ℕ)) (s : List ℕ) where
   pub known_next : (at : ℕ) → at < length s → TokenIs s at → knows ps (record_at s at) ≡ true → known_from at ≡ known_from (next s at)
   unfolding known
   known_next at h is e = ap (known ps) (records_step s at h is) ∙ ap (λ (b : Bool). b && known_from (next s at)) e
+
+-- the records at places of which `at` is the first
+pub known_first : (ps : List (List ℕ)) (s places : List ℕ) (at : ℕ) (left : List ℕ) → places ≡ at ∷ left
+    → known ps (map (record_at s) places) ≡ (knows ps (record_at s at) && known ps (map (record_at s) left))
+unfolding known
+known_first ps s places at left e = ap (λ (l : List ℕ). known ps (map (record_at s) l)) e
 
 -- ---- a list of tokens that keeps its layout, from a place on
 pub good_first : (s : List ℕ) → token_layout s ≡ None → layout_from (token_ok s) s 0 ≡ None

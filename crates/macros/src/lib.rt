@@ -5,8 +5,7 @@ ghost use Rattle.std.specs.Prelude.{◌≡◌, true, map, ◌+◌, ◌≤◌, �
 ghost use Rattle.record.specs.Bytes.{all};
 ghost use Rattle.lexer.specs.Tokens.{TokenIs, token_layout};
 ghost use Rattle.line_heads.specs.Lines.{record_at, records_of};
-ghost use Rattle.macros.specs.Macros.{name_at, behind_name, name_ok, name_places, behind_names, index_of, different, knows, known, is_good, macro_ok, macro_at_ok, macro_layout, head_of};
-
+ghost use Rattle.macros.specs.Macros.{name_at, behind_name, name_ok, name_places, behind_names, index_of, different, knows, known, macro_ok, macro_at_ok, macro_layout, head_of};
 
 // "up to 8 different parameters"
 pub const MOST: usize = 8;
@@ -28,16 +27,7 @@ fn name_ok(list: &[u8], at: usize) -> bool
         return false;
     }
     let n = record::wide(list[at]);
-    if n < 1 {
-        return false;
-    }
-    if n > 64 {
-        return false;
-    }
-    if list.len() < at + 1 + n {
-        return false;
-    }
-    record::all_text(&list[at + 1..at + 1 + n])
+    1 <= n && n <= 64 && at + 1 + n <= list.len() && record::all_text(&list[at + 1..at + 1 + n])
 }
 
 // The number of the name among the `count` names from `at` on, or `count`.
@@ -45,15 +35,13 @@ pub fn index_of(list: &[u8], count: usize, at: usize, name: &[u8]) -> usize
     requires { all (name_ok list.now) (name_places count list.now at) ≡ true }
     ensures { result ≡ index_of name.now (map (name_at list.now) (name_places count list.now at)) }
 {
-    let mut i: usize = 0;
     let mut from = at;
-    while i < count {
+    for i in 0..count {
         let next = behind_name(list, from);
         if record::same(&list[from + 1..next], name) {
             return i;
         }
         from = next;
-        i = i + 1;
     }
     count
 }
@@ -63,14 +51,12 @@ fn names_ok(list: &[u8], count: usize, at: usize) -> bool
     requires { (at ≤ length list.now) × (length list.now < 65536) }
     ensures { result ≡ all (name_ok list.now) (name_places count list.now at) }
 {
-    let mut rest = count;
     let mut from = at;
-    while 0 < rest {
+    for _ in 0..count {
         if !name_ok(list, from) {
             return false;
         }
         from = behind_name(list, from);
-        rest = rest - 1;
     }
     true
 }
@@ -80,11 +66,9 @@ pub fn behind_names(list: &[u8], count: usize, at: usize) -> usize
     requires { (at ≤ length list.now) × (all (name_ok list.now) (name_places count list.now at) ≡ true) }
     ensures { (result ≡ behind_names count list.now at) × (result ≤ length list.now) }
 {
-    let mut rest = count;
     let mut from = at;
-    while 0 < rest {
+    for _ in 0..count {
         from = behind_name(list, from);
-        rest = rest - 1;
     }
     from
 }
@@ -94,11 +78,10 @@ fn differ(list: &[u8], count: usize, at: usize) -> bool
     requires { all (name_ok list.now) (name_places count list.now at) ≡ true }
     ensures { result ≡ different (map (name_at list.now) (name_places count list.now at)) }
 {
-    let mut rest = count;
     let mut from = at;
-    while 0 < rest {
+    for i in 0..count {
         let next = behind_name(list, from);
-        rest = rest - 1;
+        let rest = count - i - 1;
         if index_of(list, rest, next, &list[from + 1..next]) < rest {
             return false;
         }
@@ -112,10 +95,8 @@ fn token_known(list: &[u8], count: usize, names: usize, body: &[u8], at: usize) 
     requires { (all (name_ok list.now) (name_places count list.now names) ≡ true) × TokenIs body.now at }
     ensures { result ≡ knows (map (name_at list.now) (name_places count list.now names)) (record_at body.now at) }
 {
-    if record::half_at(body, at + 2) != 2 {
-        return true;
-    }
-    index_of(list, count, names, &body[at + 12..record::next(body, at)]) < count
+    record::half_at(body, at + 2) != 2
+        || index_of(list, count, names, &body[at + 12..record::next(body, at)]) < count
 }
 
 // Whether each Parameter of the tokens is one of the `count` from `names` on.
@@ -123,23 +104,12 @@ fn all_known(list: &[u8], count: usize, names: usize, body: &[u8]) -> bool
     requires { (all (name_ok list.now) (name_places count list.now names) ≡ true) × (token_layout body.now ≡ None) }
     ensures { result ≡ known (map (name_at list.now) (name_places count list.now names)) (records_of body.now) }
 {
-    let mut at: usize = 0;
-    while at < body.len() {
+    for at in record::places(body) {
         if !token_known(list, count, names, body, at) {
             return false;
         }
-        at = record::next(body, at);
     }
     true
-}
-
-fn is_good(layout: Option<usize>) -> bool
-    ensures { result ≡ is_good layout }
-{
-    match layout {
-        None => true,
-        Some(_) => false,
-    }
 }
 
 // Whether the bytes are those of a macro.
@@ -155,51 +125,33 @@ fn macro_ok(list: &[u8]) -> bool
         return false;
     }
     let count = record::wide(list[at]);
-    if count > MOST {
-        return false;
-    }
-    if !names_ok(list, count, at + 1) {
-        return false;
-    }
-    if !differ(list, count, at + 1) {
+    if count > MOST || !names_ok(list, count, at + 1) || !differ(list, count, at + 1) {
         return false;
     }
     let end = behind_names(list, count, at + 1);
-    if !is_good(lexer::first_bad_token(&list[end..])) {
-        return false;
-    }
-    all_known(list, count, at + 1, &list[end..])
+    lexer::first_bad_token(&list[end..]).is_none() && all_known(list, count, at + 1, &list[end..])
 }
 
-// Whether the record at `at` is a macro.
-fn macro_at_ok(list: &[u8], at: usize) -> bool
-    requires { at ≤ length list.now }
-    ensures { result ≡ macro_at_ok list.now at }
-{
-    if !record::whole_at(list, at) {
-        return false;
+// The records that are macros.
+struct Macros;
+
+impl record::Layout for Macros {
+    ghost keeps = { λ self list at. macro_at_ok list at };
+
+    #[tactic(auto, using(crate::proofs::LayoutLaws::body_part), unfolding(crate::specs::Macros::macro_at_ok))]
+    fn keeps(&self, list: &[u8], at: usize) -> bool {
+        record::whole_at(list, at)
+            && record::half_at(list, at + 2) == 40
+            && macro_ok(&list[at + 4..record::next(list, at)])
     }
-    if record::half_at(list, at + 2) != 40 {
-        return false;
-    }
-    macro_ok(&list[at + 4..record::next(list, at)])
 }
 
 // The place of the first record that is no macro, or the limit.
+#[tactic(auto, unfolding(crate::specs::Macros::macro_layout))]
 pub fn first_bad_macro(list: &[u8]) -> Option<usize>
     ensures { result ≡ macro_layout list.now }
 {
-    if list.len() > record::LIMIT {
-        return Some(record::LIMIT);
-    }
-    let mut at: usize = 0;
-    while at < list.len() {
-        if !macro_at_ok(list, at) {
-            return Some(at);
-        }
-        at = record::next(list, at);
-    }
-    None
+    record::first_bad_within(&Macros, list)
 }
 
 // Where the names of a macro's parameters, and its body, stand in its bytes.

@@ -1,5 +1,5 @@
 -- Laws of a name's place in the list of names, and of the register there. Assumes nothing.
-use Rattle.std.specs.Prelude.{ℕ, zero, suc, ◌+◌, ◌-◌, ◌≤◌, ◌<◌, List, [], ◌∷◌, ◌++◌, Bool, true, false, ◌&&◌, ◌≡◌, refl, length, get_or, drop, leb, ltb}
+use Rattle.std.specs.Prelude.{Option, Some, None, ℕ, zero, suc, ◌+◌, ◌-◌, ◌≤◌, ◌<◌, List, [], ◌∷◌, ◌++◌, Bool, true, false, ◌&&◌, ◌≡◌, refl, length, get_or, drop, leb, ltb}
 use Rattle.std.proofs.Common.{not-suc-le-zero, add-one, arith, sym, ap, ◌∙◌, drop_of_length-le, drop-cons, leb-true, lt-ltb, le-ltb}
 use Rattle.std.proofs.Math.Bool.{and-eq-true_iff}
 use Rattle.record.specs.Bytes.{all, same_bytes}
@@ -7,7 +7,7 @@ use Rattle.record.proofs.BytesLaws.{eq_same, same_eq, same_refused}
 use Rattle.byte_class.specs.Class.{class_of, word_byte}
 use Rattle.registers.specs.Slots.{register_of, fp_register_of}
 use Rattle.register_names.specs.declared.NamedRegister.{NamedRegister}
-use Rattle.register_names.specs.declared.NamedRegister.TheVariants.{General, Float, Unknown}
+use Rattle.register_names.specs.declared.NamedRegister.TheVariants.{General, Float}
 use Rattle.register_names.specs.RegisterNames.{general_names, number_names, float_names, names, place_of, among, register_named}
 use Rattle.register_names.specs.Padded.{key_of}
 use Rattle.register_names.proofs.PaddedLaws.{Word, same_key}
@@ -99,17 +99,17 @@ placed name (m ∷ ms) ns = go (same_bytes name m) refl (placed name ms ns)
     go false e (later h f) = later (step name m ms e ∙ ap suc h) (step name m (ms ++ ns) e ∙ omega (arith, f))
 
 -- by a place below n, or what is left of it
-abbrev register_by_place : ℕ → (ℕ → NamedRegister) → (ℕ → NamedRegister) → ℕ → NamedRegister
+abbrev register_by_place : ℕ → (ℕ → Option NamedRegister) → (ℕ → Option NamedRegister) → ℕ → Option NamedRegister
 register_by_place n register rest p = elim (ltb p n) [ true ↦ register p | false ↦ rest (p - n) ]
 
-module _ (n : ℕ) (register rest : ℕ → NamedRegister) (p : ℕ) where
+module _ (n : ℕ) (register rest : ℕ → Option NamedRegister) (p : ℕ) where
   below : p < n → register_by_place n register rest p ≡ register p
   below h = rw (lt-ltb p n h, register_by_place)
 
   past : n ≤ p → register_by_place n register rest p ≡ rest (p - n)
   past h = rw (le-ltb p n h, register_by_place)
 
-by_place : (name : List ℕ) (ms ns : List (List ℕ)) (register rest : ℕ → NamedRegister)
+by_place : (name : List ℕ) (ms ns : List (List ℕ)) (register rest : ℕ → Option NamedRegister)
     → register_by_place (length ms) register rest (place_of name (ms ++ ns)) ≡ among ms register name (rest (place_of name ns))
 by_place name ms ns register rest = go (placed name ms ns)
   where
@@ -122,36 +122,36 @@ by_place name ms ns register rest = go (placed name ms ns)
         ∙ ap rest q
         ∙ sym (past (length ms) register (λ q. rest (place_of name ns)) (place_of name ms) (omega arith))
 
-abbrev float_at : ℕ → NamedRegister
-float_at p = register_by_place 32 (λ n. Float (fp_register_of n)) (λ n. Unknown) p
+abbrev float_at : ℕ → Option NamedRegister
+float_at p = register_by_place 32 (λ n. Some (Float (fp_register_of n))) (λ n. None) p
 
-abbrev number_at : ℕ → NamedRegister
-number_at p = register_by_place 32 (λ n. General (register_of n)) float_at p
+abbrev number_at : ℕ → Option NamedRegister
+number_at p = register_by_place 32 (λ n. Some (General (register_of n))) float_at p
 
-register_at : (name : List ℕ) → register_by_place 32 (λ n. General (register_of n)) number_at (place_of name names) ≡ register_named name
+register_at : (name : List ℕ) → register_by_place 32 (λ n. Some (General (register_of n))) number_at (place_of name names) ≡ register_named name
 unfolding register_named names
 register_at name =
-    by_place name general_names (number_names ++ float_names) (λ n. General (register_of n)) number_at
-    ∙ ap (among general_names (λ n. General (register_of n)) name) (by_place name number_names float_names (λ n. General (register_of n)) float_at)
+    by_place name general_names (number_names ++ float_names) (λ n. Some (General (register_of n))) number_at
+    ∙ ap (among general_names (λ n. Some (General (register_of n))) name) (by_place name number_names float_names (λ n. Some (General (register_of n))) float_at)
 
 -- the register by the place among all names
 module _ (name : List ℕ) (p : ℕ) (e : p ≡ place_of name names) where
-  is : register_by_place 32 (λ n. General (register_of n)) number_at p ≡ register_named name
-  is = ap (register_by_place 32 (λ n. General (register_of n)) number_at) e ∙ register_at name
+  is : register_by_place 32 (λ n. Some (General (register_of n))) number_at p ≡ register_named name
+  is = ap (register_by_place 32 (λ n. Some (General (register_of n))) number_at) e ∙ register_at name
 
-  pub general_is : p < 32 → General (register_of p) ≡ register_named name
-  general_is h = sym (below 32 (λ n. General (register_of n)) number_at p h) ∙ is
+  pub general_is : p < 32 → Some (General (register_of p)) ≡ register_named name
+  general_is h = sym (below 32 (λ n. Some (General (register_of n))) number_at p h) ∙ is
 
-  pub number_is : 32 ≤ p → p < 64 → General (register_of (p - 32)) ≡ register_named name
-  number_is h l = sym (past 32 (λ n. General (register_of n)) number_at p h ∙ below 32 (λ n. General (register_of n)) float_at (p - 32) (omega arith)) ∙ is
+  pub number_is : 32 ≤ p → p < 64 → Some (General (register_of (p - 32))) ≡ register_named name
+  number_is h l = sym (past 32 (λ n. Some (General (register_of n))) number_at p h ∙ below 32 (λ n. Some (General (register_of n))) float_at (p - 32) (omega arith)) ∙ is
 
   beyond : 64 ≤ p → float_at (p - 32 - 32) ≡ register_named name
-  beyond h = sym (past 32 (λ n. General (register_of n)) number_at p (omega arith) ∙ past 32 (λ n. General (register_of n)) float_at (p - 32) (omega arith)) ∙ is
+  beyond h = sym (past 32 (λ n. Some (General (register_of n))) number_at p (omega arith) ∙ past 32 (λ n. Some (General (register_of n))) float_at (p - 32) (omega arith)) ∙ is
 
-  pub float_is : 64 ≤ p → p < 96 → Float (fp_register_of (p - 64)) ≡ register_named name
+  pub float_is : 64 ≤ p → p < 96 → Some (Float (fp_register_of (p - 64))) ≡ register_named name
   float_is h l =
       let q : p - 64 ≡ p - 32 - 32 = omega arith in
-      ap (λ (n : ℕ). Float (fp_register_of n)) q ∙ sym (below 32 (λ n. Float (fp_register_of n)) (λ n. Unknown) (p - 32 - 32) (omega arith)) ∙ beyond h
+      ap (λ (n : ℕ). Some (Float (fp_register_of n))) q ∙ sym (below 32 (λ n. Some (Float (fp_register_of n))) (λ n. None) (p - 32 - 32) (omega arith)) ∙ beyond h
 
-  pub unknown_is : 96 ≤ p → Unknown ≡ register_named name
-  unknown_is h = sym (past 32 (λ n. Float (fp_register_of n)) (λ n. Unknown) (p - 32 - 32) (omega arith)) ∙ beyond (omega arith)
+  pub unknown_is : 96 ≤ p → None ≡ register_named name
+  unknown_is h = sym (past 32 (λ n. Some (Float (fp_register_of n))) (λ n. None) (p - 32 - 32) (omega arith)) ∙ beyond (omega arith)

@@ -1,12 +1,12 @@
 -- The names of the registers (document 02, P7: "Registers use the names in registers.rs, 0 to 31, or f0 to f31, without leading zeros").
 -- Assumes nothing.
-use Rattle.std.specs.Prelude.{ℕ, suc, List, [], ◌∷◌, ◌++◌, map, true, false, length, ltb}
+use Rattle.std.specs.Prelude.{ℕ, suc, List, [], ◌∷◌, ◌++◌, map, true, false, length, ltb, Option, Some, None}
 use Prim.Native.Char.{code}
 use Prim.Native.String.{String, [] as empty, ◌∷◌ as ◌then◌}
 use Rattle.record.specs.Bytes.{same_bytes}
 use Rattle.registers.specs.Slots.{register_of, fp_register_of}
 use Rattle.register_names.specs.declared.NamedRegister.{NamedRegister}
-use Rattle.register_names.specs.declared.NamedRegister.TheVariants.{General, Float, Unknown}
+use Rattle.register_names.specs.declared.NamedRegister.TheVariants.{General, Float}
 
 -- a text's bytes: its characters are ASCII ones
 abbrev pub bytes_of : String → List ℕ
@@ -43,18 +43,18 @@ place_of name [] = 0
 place_of name (n ∷ ns) = elim (same_bytes name n) [ true ↦ 0 | false ↦ suc (place_of name ns) ]
 
 -- the register of the name's place in the list, if it has one there
-abbrev pub among : List (List ℕ) → (ℕ → NamedRegister) → List ℕ → NamedRegister → NamedRegister
+abbrev pub among : List (List ℕ) → (ℕ → Option NamedRegister) → List ℕ → Option NamedRegister → Option NamedRegister
 among ns register name other = elim (ltb (place_of name ns) (length ns)) [ true ↦ register (place_of name ns) | false ↦ other ]
 
-abbrev general : ℕ → NamedRegister
-general n = General (register_of n)
+abbrev general : ℕ → Option NamedRegister
+general n = Some (General (register_of n))
 
-abbrev float : ℕ → NamedRegister
-float n = Float (fp_register_of n)
+abbrev float : ℕ → Option NamedRegister
+float n = Some (Float (fp_register_of n))
 
-unfoldable pub register_named : List ℕ → NamedRegister
+unfoldable pub register_named : List ℕ → Option NamedRegister
 unfolding place_of general_names number_names float_names
-register_named name = among general_names general name (among number_names general name (among float_names float name Unknown))
+register_named name = among general_names general name (among number_names general name (among float_names float name None))
 
 -- all names, as the code's table has them
 unfoldable pub names : List (List ℕ)

@@ -13,7 +13,6 @@ use registers::{FPRegisterSlot, RegisterSlot};
 pub enum NamedRegister {
     General(RegisterSlot),
     Float(FPRegisterSlot),
-    Unknown,
 }
 
 const COUNT: usize = 96;
@@ -43,12 +42,6 @@ pub fn all_names() -> [u8; 384]
     NAMES
 }
 
-fn wide(byte: u8) -> u32
-    ensures { (result ≡ byte) × (result < 256) }
-{
-    byte as u32
-}
-
 // The four bytes of the name at that place of the table.
 fn key_at(list: &[u8; 384], place: usize) -> u32
     requires list_value { list.now ≡ padded_names }
@@ -56,26 +49,25 @@ fn key_at(list: &[u8; 384], place: usize) -> u32
     ensures { result ≡ key_of (get_or names place []) }
 {
     let at = 4 * place;
-    wide(list[at])
-        + 256 * wide(list[at + 1])
-        + 65536 * wide(list[at + 2])
-        + 16777216 * wide(list[at + 3])
+    u32::from_le_bytes([list[at], list[at + 1], list[at + 2], list[at + 3]])
 }
 
 fn byte_or_blank(name: &[u8], i: usize) -> u8
     ensures { result ≡ byte_or_blank name.now i }
 {
-    if i < name.len() { name[i] } else { b' ' }
+    name.get(i).copied().unwrap_or(b' ')
 }
 
 // The four bytes of a name as the table has it.
 fn key_of(name: &[u8]) -> u32
     ensures { result ≡ key_of name.now }
 {
-    wide(byte_or_blank(name, 0))
-        + 256 * wide(byte_or_blank(name, 1))
-        + 65536 * wide(byte_or_blank(name, 2))
-        + 16777216 * wide(byte_or_blank(name, 3))
+    u32::from_le_bytes([
+        byte_or_blank(name, 0),
+        byte_or_blank(name, 1),
+        byte_or_blank(name, 2),
+        byte_or_blank(name, 3),
+    ])
 }
 
 // The name's place in the table, or the number of names.
@@ -88,31 +80,25 @@ fn place_of(list: &[u8; 384], name: &[u8]) -> usize
         return COUNT;
     }
     let key = key_of(name);
-    let mut place = 0;
-    while place < COUNT {
+    for place in 0..COUNT {
         if key_at(list, place) == key {
             return place;
         }
-        place += 1;
     }
     COUNT
 }
 
 // The register of a name of letters and digits.
-pub fn register_named(list: &[u8; 384], name: &[u8]) -> NamedRegister
+pub fn register_named(list: &[u8; 384], name: &[u8]) -> Option<NamedRegister>
     requires list_value { list.now ≡ padded_names }
     requires name_value { all word_byte name.now ≡ true }
     ensures { result ≡ register_named name.now }
 {
     let place = place_of(list, name);
-    if place < 32 {
-        return NamedRegister::General(registers::register_of(place as u8));
+    match place {
+        0..=31 => Some(NamedRegister::General(RegisterSlot::from(place as u8))),
+        32..=63 => Some(NamedRegister::General(RegisterSlot::from((place - 32) as u8))),
+        64..=95 => Some(NamedRegister::Float(FPRegisterSlot::from((place - 64) as u8))),
+        _ => None,
     }
-    if place < 64 {
-        return NamedRegister::General(registers::register_of((place - 32) as u8));
-    }
-    if place < COUNT {
-        return NamedRegister::Float(registers::fp_register_of((place - 64) as u8));
-    }
-    NamedRegister::Unknown
 }

@@ -1,5 +1,5 @@
 -- Laws of the pieces that are numbers, and of a piece by its class. Assumes nothing.
-use Rattle.std.specs.Prelude.{ℕ, ◌+◌, ◌-◌, ◌≤◌, List, Bool, true, false, ◌≡◌, refl, length, take, drop, ltb}
+use Rattle.std.specs.Prelude.{ℕ, ◌+◌, ◌-◌, ◌≤◌, List, Bool, true, false, ◌≡◌, refl, length, take, drop, ltb, Option, Some}
 use Rattle.std.proofs.Common.{arith, sym, ap, ◌∙◌, eq-eqb, ne_eqb, eqb-true, ltb-true, ltb-false}
 use Rattle.std.proofs.Math.Bool.{and-eq-true_iff}
 use Rattle.std.proofs.Math.ListN.{get_or-eq_default}
@@ -8,8 +8,6 @@ use Rattle.lexer.specs.declared.TokenKind.TheVariants.{IntegerLiteral}
 use Rattle.byte_class.specs.Class.{is, class_of}
 use Rattle.byte_class.specs.declared.Class.{Class}
 use Rattle.text_runs.specs.Numbers.{number_in}
-use Rattle.text_runs.specs.declared.Number.{Number}
-use Rattle.text_runs.specs.declared.Number.TheVariants.{Value}
 use Rattle.text_pieces.specs.Pieces.{decimal_piece, hexadecimal_piece, starts_hexadecimal, number_at, piece_of, piece_at}
 use Rattle.text_pieces.proofs.TextLaws.{rest}
 use Rattle.text_pieces.specs.declared.Piece.TheVariants.{Token, BadToken}
@@ -43,13 +41,13 @@ module _ (s : List ℕ) (at : ℕ) where
   number_decimal e = rw (e, number_at)
 
 -- ---- the number that was read
-pub number_read : (base : ℕ) (s : List ℕ) (start : ℕ) (m met : Number) → m ≡ number_in base (take (length s - start) (drop start s)) → m ≡ met → met ≡ number_in base (drop start s)
+pub number_read : (base : ℕ) (s : List ℕ) (start : ℕ) (m met : Option (ℕ × ℕ)) → m ≡ number_in base (take (length s - start) (drop start s)) → m ≡ met → met ≡ number_in base (drop start s)
 number_read base s start m met e f = sym f ∙ e ∙ ap (number_in base) (rest s start)
 
-pub hex_empty : (value n : ℕ) → n ≡ 0 → BadToken ≡ hexadecimal_piece (Value value n)
+pub hex_empty : (value n : ℕ) → n ≡ 0 → BadToken ≡ hexadecimal_piece (Some (value, n))
 hex_empty value n e = rw (eq-eqb n 0 e, hexadecimal_piece)
 
-pub hex_some : (value n : ℕ) → (n ≡ 0 → ⊥) → Token (IntegerLiteral value) (n + 2) ≡ hexadecimal_piece (Value value n)
+pub hex_some : (value n : ℕ) → (n ≡ 0 → ⊥) → Token (IntegerLiteral value) (n + 2) ≡ hexadecimal_piece (Some (value, n))
 hex_some value n d = rw (ne_eqb n 0 d, hexadecimal_piece)
 
 -- ---- by the class

@@ -1,5 +1,5 @@
 -- Laws of the pieces of letters and digits: symbols, directives, parameters and registers. Assumes nothing.
-use Rattle.std.specs.Prelude.{ℕ, ◌+◌, ◌-◌, ◌≤◌, ◌<◌, true, ◌≡◌, take, drop}
+use Rattle.std.specs.Prelude.{Option, ℕ, ◌+◌, ◌-◌, ◌≤◌, ◌<◌, true, ◌≡◌, take, drop}
 use Rattle.std.proofs.Common.{arith, sym, ◌∙◌}
 use mathlib.Core.List.{List, [], ◌∷◌}
 use Rattle.std.proofs.Math.Path.{refl, ap, ap₂}
@@ -82,6 +82,6 @@ module _ (s : List ℕ) (at n : ℕ) (e : n ≡ length (leading word_byte (take 
   pub name_word : all word_byte name ≡ true
   name_word = ap (all word_byte) name_is ∙ leading_all word_byte (drop (at + 1) s)
 
-  pub register_is : (r met : NamedRegister) → r ≡ register_named name → r ≡ met → register_piece met (n + 1) ≡ register_at s at
+  pub register_is : (r met : Option NamedRegister) → r ≡ register_named name → r ≡ met → register_piece met (n + 1) ≡ register_at s at
   unfolding register_at
-  register_is r met f g = ap₂ (λ (x : NamedRegister) (m : ℕ). register_piece x (m + 1)) (sym g ∙ f ∙ ap register_named name_is) count
+  register_is r met f g = ap₂ (λ (x : Option NamedRegister) (m : ℕ). register_piece x (m + 1)) (sym g ∙ f ∙ ap register_named name_is) count

@@ -1,5 +1,5 @@
 -- What stands at a place of a text (document 02, P7). Assumes nothing.
-use Rattle.std.specs.Prelude.{ℕ, ◌+◌, List, [], ◌∷◌, Bool, true, false, not, ◌&&◌, ◌||◌, length, drop, leb, eqb}
+use Rattle.std.specs.Prelude.{ℕ, ◌+◌, List, [], ◌∷◌, Bool, true, false, not, ◌&&◌, ◌||◌, length, drop, leb, eqb, Option, Some, None}
 use Rattle.record.specs.Bytes.{byte_at, is_text, all}
 use Rattle.lexer.specs.declared.Text.{Text}
 use Rattle.lexer.specs.declared.TokenKind.{TokenKind}
@@ -11,11 +11,9 @@ use Rattle.byte_class.specs.declared.Mark.{Mark as MarkKind}
 use Rattle.byte_class.specs.declared.Mark.TheVariants.{Comment as CommentMark, Directive as DirectiveMark, Parameter as ParameterMark, Register as RegisterMark, StringLiteral as StringMark, Plus as PlusMark, Minus as MinusMark, Comma as CommaMark, Colon as ColonMark, LeftBrace as LeftBraceMark, RightBrace as RightBraceMark}
 use Rattle.register_names.specs.RegisterNames.{register_named}
 use Rattle.register_names.specs.declared.NamedRegister.{NamedRegister}
-use Rattle.register_names.specs.declared.NamedRegister.TheVariants.{General, Float, Unknown}
+use Rattle.register_names.specs.declared.NamedRegister.TheVariants.{General, Float}
 use Rattle.text_runs.specs.Leading.{leading}
 use Rattle.text_runs.specs.Numbers.{number_in}
-use Rattle.text_runs.specs.declared.Number.{Number}
-use Rattle.text_runs.specs.declared.Number.TheVariants.{Value, Over}
 use Rattle.text_pieces.specs.declared.Piece.{Piece}
 use Rattle.text_pieces.specs.declared.Piece.TheVariants.{Blank, Token, BadByte, BadToken}
 
@@ -66,24 +64,24 @@ string_at s at =
 
 -- ---- registers and numbers
 -- "an unknown register" is 22
-abbrev pub register_piece : NamedRegister → (size : ℕ) → Piece
-register_piece (General r) size = Token (Register r) size
-register_piece (Float r) size = Token (FPRegister r) size
-register_piece Unknown size = BadToken
+abbrev pub register_piece : Option NamedRegister → (size : ℕ) → Piece
+register_piece (Some (General r)) size = Token (Register r) size
+register_piece (Some (Float r)) size = Token (FPRegister r) size
+register_piece None size = BadToken
 
 unfoldable pub register_at : List ℕ → ℕ → Piece
 unfolding register_named leading
 register_at s at = let name = word_at s (at + 1) in register_piece (register_named name) (length name + 1)
 
 -- "a number over 64 bits" is 22
-abbrev pub decimal_piece : Number → Piece
-decimal_piece (Value v n) = Token (IntegerLiteral v) n
-decimal_piece Over = BadToken
+abbrev pub decimal_piece : Option (ℕ × ℕ) → Piece
+decimal_piece (Some (v, n)) = Token (IntegerLiteral v) n
+decimal_piece None = BadToken
 
 -- "or `0x` without a digit"
-abbrev pub hexadecimal_piece : Number → Piece
-hexadecimal_piece (Value v n) = elim (eqb n 0) [ true ↦ BadToken | false ↦ Token (IntegerLiteral v) (n + 2) ]
-hexadecimal_piece Over = BadToken
+abbrev pub hexadecimal_piece : Option (ℕ × ℕ) → Piece
+hexadecimal_piece (Some (v, n)) = elim (eqb n 0) [ true ↦ BadToken | false ↦ Token (IntegerLiteral v) (n + 2) ]
+hexadecimal_piece None = BadToken
 
 -- "decimal, or hexadecimal (either case) after `0x`"
 abbrev pub starts_hexadecimal : List ℕ → ℕ → Bool

@@ -11,7 +11,6 @@ ghost use Rattle.text_pieces.specs.Pieces.{starts_hexadecimal, hexadecimal_piece
 use byte_class::{Class, Mark};
 use lexer::{Text, TokenKind};
 use register_names::NamedRegister;
-use text_runs::Number;
 
 // The most bytes that a text may have.
 const LONGEST: usize = 64;
@@ -26,6 +25,8 @@ pub enum Piece {
     BadToken,
 }
 
+// A symbol, a directive and a parameter are read alike. Kept as three: a helper called at three places would stay a call, and give its
+// 40 bytes back through memory (CONTRIBUTING.md, 'Speed').
 fn symbol_at(table: &[u8; 256], text: &[u8], at: usize) -> Piece
     requires table_value { table.now ≡ letters }
     requires at_in_bounds { at < length text.now }
@@ -58,10 +59,7 @@ fn parameter_at(table: &[u8; 256], text: &[u8], at: usize) -> Piece
 {
     let start = at + 1;
     let len = text_runs::word_len(table, &text[start..]);
-    if len == 0 {
-        return Piece::BadToken;
-    }
-    if len > LONGEST {
+    if len == 0 || len > LONGEST {
         return Piece::BadToken;
     }
     Piece::Token(TokenKind::Parameter(Text { start, len }), len + 1)
@@ -71,10 +69,7 @@ fn parameter_at(table: &[u8; 256], text: &[u8], at: usize) -> Piece
 fn line_ends(text: &[u8], at: usize) -> bool
     ensures { result ≡ line_ends text.now at }
 {
-    if text.len() <= at {
-        return true;
-    }
-    text[at] == b'\n'
+    at >= text.len() || text[at] == b'\n'
 }
 
 fn comment_at(text: &[u8], at: usize) -> Piece
@@ -100,10 +95,7 @@ fn string_at(text: &[u8], at: usize) -> Piece
     let start = at + 1;
     let len = text_runs::text_len(&text[start..], b'"');
     let end = start + len;
-    if end == text.len() {
-        return Piece::BadByte;
-    }
-    if text[end] != b'"' {
+    if end == text.len() || text[end] != b'"' {
         return Piece::BadByte;
     }
     if len > LONGEST {
@@ -121,9 +113,9 @@ fn register_at(table: &[u8; 256], names: &[u8; 384], text: &[u8], at: usize) -> 
     let len = text_runs::word_len(table, &text[start..]);
     let end = start + len;
     match register_names::register_named(names, &text[start..end]) {
-        NamedRegister::General(r) => Piece::Token(TokenKind::Register(r), len + 1),
-        NamedRegister::Float(r) => Piece::Token(TokenKind::FPRegister(r), len + 1),
-        NamedRegister::Unknown => Piece::BadToken,
+        Some(NamedRegister::General(r)) => Piece::Token(TokenKind::Register(r), len + 1),
+        Some(NamedRegister::Float(r)) => Piece::Token(TokenKind::FPRegister(r), len + 1),
+        None => Piece::BadToken,
     }
 }
 
@@ -132,10 +124,7 @@ fn is_hexadecimal(text: &[u8], at: usize) -> bool
     requires { at < length text.now }
     ensures { result ≡ starts_hexadecimal text.now at }
 {
-    if text[at] != b'0' {
-        return false;
-    }
-    at + 1 < text.len() && text[at + 1] == b'x'
+    text[at] == b'0' && at + 1 < text.len() && text[at + 1] == b'x'
 }
 
 fn hexadecimal_at(text: &[u8], at: usize) -> Piece
@@ -143,13 +132,8 @@ fn hexadecimal_at(text: &[u8], at: usize) -> Piece
     ensures { result ≡ hexadecimal_piece (number_in 16 (drop (at + 2) text.now)) }
 {
     match text_runs::number_in(&text[at + 2..], 16) {
-        Number::Value(value, len) => {
-            if len == 0 {
-                return Piece::BadToken;
-            }
-            Piece::Token(TokenKind::IntegerLiteral(value), len + 2)
-        }
-        Number::Over => Piece::BadToken,
+        Some((value, len)) if len > 0 => Piece::Token(TokenKind::IntegerLiteral(value), len + 2),
+        _ => Piece::BadToken,
     }
 }
 
@@ -161,8 +145,8 @@ fn number_at(text: &[u8], at: usize) -> Piece
         return hexadecimal_at(text, at);
     }
     match text_runs::number_in(&text[at..], 10) {
-        Number::Value(value, len) => Piece::Token(TokenKind::IntegerLiteral(value), len),
-        Number::Over => Piece::BadToken,
+        Some((value, len)) => Piece::Token(TokenKind::IntegerLiteral(value), len),
+        None => Piece::BadToken,
     }
 }
 

@@ -3,7 +3,7 @@ use Prim.Native.Nat.{ℕ, ◌+◌, ◌≤◌, ◌<◌}
 use Rattle.std.proofs.Common.{arith, sym, ap, subst, ◌∙◌, length-drop, leb-true, leb-false, lt-ltb, ltb-true, ltb-false, eqb-true}
 use mathlib.Core.List.{List, [], ◌∷◌}
 use Rattle.std.proofs.Math.Bool.{Bool, not}
-use Rattle.std.specs.Prelude.{true, false, ◌||◌, ◌≡◌, length, drop, leb, ltb, eqb, Float}
+use Rattle.std.specs.Prelude.{Option, Some, None, true, false, ◌||◌, ◌≡◌, length, drop, leb, ltb, eqb, Float}
 use Rattle.std.proofs.Math.Path.{refl}
 use Rattle.std.proofs.Math.ListN.{get_or-eq_default}
 use Rattle.std.proofs.lemmas.Bool.{eqb-false}
@@ -20,15 +20,13 @@ use Rattle.byte_class.specs.declared.Class.TheVariants.{Blank as BlankClass, New
 use Rattle.byte_class.specs.declared.Mark.TheVariants.{Comment as CommentMark, Directive as DirectiveMark, Parameter as ParameterMark, Register as RegisterMark, StringLiteral as StringMark, Plus as PlusMark, Minus as MinusMark, Comma as CommaMark, Colon as ColonMark, LeftBrace as LeftBraceMark, RightBrace as RightBraceMark}
 use Rattle.register_names.specs.RegisterNames.{register_named}
 use Rattle.register_names.specs.declared.NamedRegister.{NamedRegister}
-use Rattle.register_names.specs.declared.NamedRegister.TheVariants.{General, Float as FloatNamed, Unknown}
+use Rattle.register_names.specs.declared.NamedRegister.TheVariants.{General, Float as FloatNamed}
 use Rattle.token_bytes.specs.TokenBytes.{carried_by, carried_size, TextFits, CarriedFits}
 use Rattle.token_bytes.proofs.TokenBytesLaws.{carried_most}
 use Rattle.text_runs.specs.Leading.{leading}
 use Rattle.text_runs.proofs.LeadingLaws.{leading_le, leading_take, leading_next}
 use Rattle.text_runs.specs.Numbers.{number_in, is_digit_of, digit_value}
 use Rattle.text_runs.proofs.NumbersLaws.{number_is, digit_decimal}
-use Rattle.text_runs.specs.declared.Number.{Number}
-use Rattle.text_runs.specs.declared.Number.TheVariants.{Value, Over}
 use Rattle.text_pieces.specs.Pieces.{text_piece, word_at, symbol_at, directive_at, if_any, parameter_at, comment_at, string_at, register_piece, register_at, decimal_piece, hexadecimal_piece, starts_hexadecimal, number_at, piece_of, piece_at}
 use Rattle.text_pieces.proofs.TextLaws.{fits, long, bad}
 use Rattle.text_pieces.proofs.NumberLaws.{hex_within, number_hex, number_decimal, hex_empty, hex_some}
@@ -148,27 +146,27 @@ module _ (s : List ℕ) (at : ℕ) (h : at < length s) where
   unfolding register_at
   register_good = go (register_named (word_at s (at + 1)))
     where
-      go : (r : NamedRegister) → Good s at (register_piece r (length (word_at s (at + 1)) + 1))
-      go (General r) = record {
+      go : (r : Option NamedRegister) → Good s at (register_piece r (length (word_at s (at + 1)) + 1))
+      go (Some (General r)) = record {
         least = omega arith;
         within = omega (arith, word_within s (at + 1) word_byte (omega arith));
         carried_fits = omega (arith, register_lt r);
         no_float = other (Register r) (λ f. omega arith);
       }
-      go (FloatNamed r) = record {
+      go (Some (FloatNamed r)) = record {
         least = omega arith;
         within = omega (arith, word_within s (at + 1) word_byte (omega arith));
         carried_fits = omega (arith, fp_register_lt r);
         no_float = other (FPRegister r) (λ f. omega arith);
       }
-      go Unknown = tt
+      go None = tt
 
   -- ---- numbers
-  hexadecimal_good : at + 2 ≤ length s → (m : Number) → number_in 16 (drop (at + 2) s) ≡ m → Good s at (hexadecimal_piece m)
-  hexadecimal_good l Over e = tt
-  hexadecimal_good l (Value value n) e = go (eqb n 0) refl
+  hexadecimal_good : at + 2 ≤ length s → (m : Option (ℕ × ℕ)) → number_in 16 (drop (at + 2) s) ≡ m → Good s at (hexadecimal_piece m)
+  hexadecimal_good l None e = tt
+  hexadecimal_good l (Some (value, n)) e = go (eqb n 0) refl
     where
-      go : (t : Bool) → eqb n 0 ≡ t → Good s at (hexadecimal_piece (Value value n))
+      go : (t : Bool) → eqb n 0 ≡ t → Good s at (hexadecimal_piece (Some (value, n)))
       go true f = subst (Good s at) (hex_empty value n (eqb-true n 0 f)) tt
       go false f =
           let v = number_is 16 (drop (at + 2) s) value n e in
@@ -180,9 +178,9 @@ module _ (s : List ℕ) (at : ℕ) (h : at < length s) where
             no_float = other (IntegerLiteral value) (λ f. omega arith);
           })
 
-  decimal_good : class_of (byte_at s at) ≡ Digit → (m : Number) → number_in 10 (drop at s) ≡ m → Good s at (decimal_piece m)
-  decimal_good k Over e = tt
-  decimal_good k (Value value n) e =
+  decimal_good : class_of (byte_at s at) ≡ Digit → (m : Option (ℕ × ℕ)) → number_in 10 (drop at s) ≡ m → Good s at (decimal_piece m)
+  decimal_good k None e = tt
+  decimal_good k (Some (value, n)) e =
       let v = number_is 10 (drop at s) value n e in
       let r = digit_class (byte_at s at) k in
       let d = digit_decimal (byte_at s at) r.0 r.1 in

@@ -1,5 +1,5 @@
 -- Laws of the answer and of the records, from a place of the text on. Assumes nothing.
-use Rattle.std.specs.Prelude.{ℕ, ◌+◌, ◌≤◌, ◌<◌, Bool, true, false, ◌≡◌, refl, leb, Err, Ok, Result}
+use Rattle.std.specs.Prelude.{ℕ, ◌+◌, ◌≤◌, ◌<◌, Bool, true, false, ◌≡◌, refl, leb, Err, Ok, Result, is_ok}
 use Rattle.std.proofs.Common.{arith, sym, subst, ◌∙◌, length-append}
 use mathlib.Core.List.{List, [], ◌++◌}
 use Rattle.std.proofs.lemmas.Bool.{false≢true}
@@ -195,3 +195,8 @@ module _ (text : List ℕ) (source : ℕ) (tokens : List ℕ) where
   pub read_outcome_lem : (r : Result ℕ Refusal) (d : List ℕ) → answer_of text source (length tokens) ≡ r → is_read r ≡ true → d ≡ append tokens 0 (bytes_of text (reading source text))
       → read_text text source tokens ≡ (record { answer = r; tokens = d })
   read_outcome_lem r d e f g = outcome_is r d e (written r (bytes_of text (reading source text)) tokens f ∙ sym g)
+
+-- only a text that is accepted has an answer that is no refusal
+pub ok_is_read : (r : Result ℕ Refusal) → is_ok r ≡ is_read r
+ok_is_read (Ok fill) = refl
+ok_is_read (Err r) = refl

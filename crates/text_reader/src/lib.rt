@@ -6,7 +6,7 @@ ghost use Rattle.std.specs.Prelude.{◌≡◌, true, ◌≤◌, ◌<◌, length}
 ghost use Rattle.record.specs.Records.{limit};
 ghost use Rattle.record.specs.Stores.{append};
 ghost use Rattle.text_reader.specs.Reading.{reading, location_of};
-ghost use Rattle.text_reader.specs.Outcome.{answer_from, is_read, bytes_of, read_text};
+ghost use Rattle.text_reader.specs.Outcome.{answer_from, bytes_of, read_text};
 ghost use Rattle.text_reader.specs.Outcome.{Accepts, Leaves};
 
 use lexer::Token;
@@ -52,13 +52,10 @@ fn pass(text: &[u8], source: u32, tokens: &mut [u8], writes: bool) -> Result<u32
                     }
                     if writes {
                         let location = location_of(source, at);
-                        token_bytes::put_token(&mut *tokens, text, fill, Token { location, kind });
-                        fill = end;
-                        at += size;
-                    } else {
-                        fill = end;
-                        at += size;
+                        token_bytes::put_token(tokens, text, fill, Token { location, kind });
                     }
+                    fill = end;
+                    at += size;
                 }
                 Piece::BadByte => {
                     return Err(Refusal::BadByte(location_of(source, at)));
@@ -72,15 +69,6 @@ fn pass(text: &[u8], source: u32, tokens: &mut [u8], writes: bool) -> Result<u32
     Ok(fill as u32)
 }
 
-fn is_read(answer: Result<u32, Refusal>) -> bool
-    ensures { result ≡ is_read answer }
-{
-    match answer {
-        Ok(_) => true,
-        Err(_) => false,
-    }
-}
-
 // The tokens of the text as records, from the start of the token buffer on, or a refusal, and then no byte changes.
 pub fn read_text(text: &[u8], source: u32, tokens: &mut [u8]) -> Result<u32, Refusal>
     ensures { read_text text.now source tokens.old ≡ (record { answer = result; tokens = tokens.new }) }
@@ -91,8 +79,8 @@ pub fn read_text(text: &[u8], source: u32, tokens: &mut [u8]) -> Result<u32, Ref
     if tokens.len() > record::LIMIT {
         return Err(Refusal::BadLayout(1, 65536));
     }
-    let answer = pass(text, source, &mut *tokens, false);
-    if is_read(answer) {
+    let answer = pass(text, source, tokens, false);
+    if answer.is_ok() {
         return pass(text, source, tokens, true);
     }
     answer

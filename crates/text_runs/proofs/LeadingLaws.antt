@@ -1,9 +1,10 @@
 -- Laws of the longest start whose bytes pass a test: from a place on, its length, and what it is a part of. Assumes nothing.
 use Prim.Native.Nat.{ℕ, suc, ◌+◌, ◌≤◌, ◌<◌}
-use Rattle.std.proofs.Common.{add-one, ap, ◌∙◌, drop_of_length-le, drop-cons, le-leb, eq-eqb, ne_eqb}
+use Rattle.std.proofs.Common.{add-one, ap, ◌∙◌, drop_of_length-le, drop-cons, le-leb, eq-eqb, ne_eqb, ltb-false}
 use native.Mathlib.Omega.{arith}
 use mathlib.Core.List.{List, [], ◌∷◌}
-use Rattle.std.specs.Prelude.{Bool, not, ◌&&◌, ◌≡◌, drop, leb, eqb}
+use Rattle.std.specs.List.{position_or_len}
+use Rattle.std.specs.Prelude.{Option, Some, None, cond, ltb, unwrap_or, Bool, not, ◌&&◌, ◌≡◌, drop, leb, eqb}
 use Rattle.std.proofs.Math.Bool.{true, false}
 use Rattle.std.proofs.Math.Path.{refl}
 use Rattle.std.proofs.Math.ListN.{length, take}
@@ -63,6 +64,32 @@ module _ (p : ℕ → Bool) where
       go : (t : Bool) → p b ≡ t → take (length (leading p s)) s ≡ leading p s → take (length (leading p (b ∷ s))) (b ∷ s) ≡ leading p (b ∷ s)
       go true e ih = rw (e, leading) (ap (λ (r : List ℕ). b ∷ r) ih)
       go false e ih = rw (e, leading)
+
+-- ---- where it stops, as a search for the first byte that fails gives it
+
+cond_at : (n k : ℕ) (r : Option ℕ) → n ≤ k → r ≡ cond (ltb n k) (Some n) None → unwrap_or r k ≡ n
+cond_at n k r h e = go (ltb n k) refl
+  where
+    go : (b : Bool) → ltb n k ≡ b → unwrap_or r k ≡ n
+    go true b = rw e (rw b)
+    go false b = let s : k ≡ n = omega (arith, ltb-false n k b) in rw e (rw b s)
+
+module _ (p : ℕ → Bool) where
+  stop_at : (s : List ℕ) → position_or_len (λ b. not (p b)) s ≡ length (leading p s)
+  unfolding leading
+  stop_at [] = refl
+  stop_at (b ∷ s) = go (p b) refl (stop_at s)
+    where
+      go : (t : Bool) → p b ≡ t → position_or_len (λ b. not (p b)) s ≡ length (leading p s) → position_or_len (λ b. not (p b)) (b ∷ s) ≡ length (leading p (b ∷ s))
+      go true e ih = rw (e, leading) (omega (arith, ih))
+      go false e ih = rw (e, leading)
+
+  pub leading_position : (s : List ℕ) (r : Option ℕ) → let n = position_or_len (λ b. not (p b)) s in r ≡ cond (ltb n (length s)) (Some n) None
+      → (unwrap_or r (length s) ≡ length (leading p s)) × (unwrap_or r (length s) ≤ length s)
+  leading_position s r e =
+      let l = leading_le p s in
+      let u = cond_at (position_or_len (λ b. not (p b)) s) (length s) r (omega (arith, stop_at s)) e ∙ stop_at s in
+      (u, omega (arith, u))
 
 -- ---- a plain byte
 second_fails : (a b c : Bool) → b ≡ false → (a && b && c) ≡ false

@@ -3,7 +3,7 @@ use Prim.Native.Nat.{ℕ, suc, ◌+◌, ◌-◌, ◌*◌, ◌^◌, ◌≤◌, �
 use Prim.Native.Char.{Char, code}
 use Rattle.std.proofs.Common.{le-mul_of_pos_right, le_trans, ◌∙◌}
 use native.Mathlib.Omega.{arith}
-use Rattle.std.specs.Prelude.{List, [], ◌∷◌, Bool, ◌&&◌, drop, leb}
+use Rattle.std.specs.Prelude.{Option, Some, None, List, [], ◌∷◌, Bool, ◌&&◌, drop, leb}
 use Rattle.std.proofs.Math.Bool.{true, false}
 use Rattle.std.proofs.Math.Path.{◌≡◌, refl, ap}
 use Rattle.std.proofs.Math.ListN.{length}
@@ -14,11 +14,9 @@ use Rattle.byte_class.specs.Class.{between}
 use Rattle.text_runs.specs.Leading.{leading}
 use Rattle.text_runs.proofs.LeadingLaws.{leading_next, leading_stop, leading_end}
 use Rattle.text_runs.specs.Numbers.{digit_value, is_digit_of, value_from, within64, number_in}
-use Rattle.text_runs.specs.declared.Number.{Number}
-use Rattle.text_runs.specs.declared.Number.TheVariants.{Value, Over}
 
 -- the number of these digits behind a number of n digits
-abbrev pub number_from : (base value n : ℕ) → List ℕ → Number
+abbrev pub number_from : (base value n : ℕ) → List ℕ → Option (ℕ × ℕ)
 number_from base value n ds = within64 (value_from base value ds) (n + length ds)
 
 -- those of the text from a place on
@@ -40,27 +38,27 @@ value_ge base value (d ∷ ds) h =
     let m = le-mul_of_pos_right value h in
     le_trans (omega arith) (value_ge base (value * base + digit_value d) ds h)
 
-is_value : (value digits : ℕ) → value < 2 ^ 64 → within64 value digits ≡ Value value digits
+is_value : (value digits : ℕ) → value < 2 ^ 64 → within64 value digits ≡ Some (value, digits)
 is_value value digits h = rw (lt-ltb value (2 ^ 64) h, within64)
 
-is_over : (value digits : ℕ) → 2 ^ 64 ≤ value → within64 value digits ≡ Over
+is_over : (value digits : ℕ) → 2 ^ 64 ≤ value → within64 value digits ≡ None
 is_over value digits h = rw (le-ltb value (2 ^ 64) h, within64)
 
-none : (base value n : ℕ) → value < 2 ^ 64 → number_from base value n [] ≡ Value value n
+none : (base value n : ℕ) → value < 2 ^ 64 → number_from base value n [] ≡ Some (value, n)
 unfolding value_from
 none base value n h =
     let z : n + 0 ≡ n = omega arith in
     ap (within64 value) z ∙ is_value value n h
 
 module _ (base : ℕ) (s : List ℕ) (i value n : ℕ) where
-  pub number_end : length s ≤ i → value < 2 ^ 64 → number_from base value n (digits_at base s i) ≡ Value value n
+  pub number_end : length s ≤ i → value < 2 ^ 64 → number_from base value n (digits_at base s i) ≡ Some (value, n)
   number_end h v = ap (number_from base value n) (leading_end (is_digit_of base) s i h) ∙ none base value n v
 
   module _ (h : i < length s) where
     abbrev d : ℕ
     d = digit_value (byte_at s i)
 
-    pub number_stop : base ≤ d → value < 2 ^ 64 → number_from base value n (digits_at base s i) ≡ Value value n
+    pub number_stop : base ≤ d → value < 2 ^ 64 → number_from base value n (digits_at base s i) ≡ Some (value, n)
     number_stop e v = ap (number_from base value n) (leading_stop (is_digit_of base) s i h (le-ltb d base e)) ∙ none base value n v
 
     module _ (e : d < base) where
@@ -74,7 +72,7 @@ module _ (base : ℕ) (s : List ℕ) (i value n : ℕ) where
           let m : n + suc (length ds) ≡ n + 1 + length ds = omega arith in
           ap (number_from base value n) more ∙ ap (within64 (value_from base (value * base + d) ds)) m
 
-      pub number_over : 0 < base → 2 ^ 64 ≤ value * base + d → number_from base value n (digits_at base s i) ≡ Over
+      pub number_over : 0 < base → 2 ^ 64 ≤ value * base + d → number_from base value n (digits_at base s i) ≡ None
       number_over p o =
           let ds = digits_at base s (i + 1) in
           number_next ∙ is_over (value_from base (value * base + d) ds) (n + 1 + length ds) (le_trans o (value_ge base (value * base + d) ds p))
@@ -123,7 +121,7 @@ module _ (b : ℕ) where
   digit_above h = none_of (above "0" "9" b (omega arith)) (above "a" "f" b h) (above "A" "F" b (omega arith))
 
 -- ---- what a value says
-module _ (base : ℕ) (s : List ℕ) (value n : ℕ) (e : number_in base s ≡ Value value n) where
+module _ (base : ℕ) (s : List ℕ) (value n : ℕ) (e : number_in base s ≡ Some (value, n)) where
   abbrev digits : List ℕ
   digits = leading (is_digit_of base) s
 
@@ -135,8 +133,9 @@ module _ (base : ℕ) (s : List ℕ) (value n : ℕ) (e : number_in base s ≡ V
       go true f =
           let h = ltb-true (value_from base 0 digits) (2 ^ 64) f in
           let i = is_value (value_from base 0 digits) (length digits) h in
-          let same : value ≡ value_from base 0 digits = cc in
-          (omega arith, cc)
+          let pair : (value, n) ≡ (value_from base 0 digits, length digits) = cc in
+          let same : value ≡ value_from base 0 digits = ap (λ (p : ℕ × ℕ). p.0) pair in
+          (omega arith, ap (λ (p : ℕ × ℕ). p.1) pair)
       go false f =
           let i = is_over (value_from base 0 digits) (length digits) (ltb-false (value_from base 0 digits) (2 ^ 64) f) in
           let z : ◌≡◌ {A = ℕ} 0 1 = cc in

@@ -1,11 +1,9 @@
 -- The number that a text begins with (document 02, P7: "Numbers are decimal, or hexadecimal (either case) after `0x`; a number ends
 -- before the first byte that is no digit of its kind"). Assumes nothing.
-use Rattle.std.specs.Prelude.{ℕ, ◌+◌, ◌-◌, ◌*◌, ◌^◌, List, [], ◌∷◌, Bool, true, false, length, ltb}
+use Rattle.std.specs.Prelude.{ℕ, ◌+◌, ◌-◌, ◌*◌, ◌^◌, List, [], ◌∷◌, Bool, true, false, length, ltb, Option, Some, None}
 use Prim.Native.Char.{code}
 use Rattle.byte_class.specs.Class.{between}
 use Rattle.text_runs.specs.Leading.{leading}
-use Rattle.text_runs.specs.declared.Number.{Number}
-use Rattle.text_runs.specs.declared.Number.TheVariants.{Value, Over}
 
 abbrev or_else : Bool → ℕ → ℕ → ℕ
 or_else true n later = n
@@ -24,10 +22,10 @@ unfolding digit_value
 value_from base n [] = n
 value_from base n (d ∷ ds) = value_from base (n * base + digit_value d) ds
 
--- "a number over 64 bits" has no value here
-abbrev pub within64 : (value digits : ℕ) → Number
-within64 value digits = elim (ltb value (2 ^ 64)) [ true ↦ Value value digits | false ↦ Over ]
+-- a value and how many digits it has; "a number over 64 bits" has none here
+abbrev pub within64 : (value digits : ℕ) → Option (ℕ × ℕ)
+within64 value digits = elim (ltb value (2 ^ 64)) [ true ↦ Some (value, digits) | false ↦ None ]
 
-unfoldable pub number_in : (base : ℕ) → List ℕ → Number
+unfoldable pub number_in : (base : ℕ) → List ℕ → Option (ℕ × ℕ)
 unfolding value_from leading
 number_in base s = let digits = leading (is_digit_of base) s in within64 (value_from base 0 digits) (length digits)

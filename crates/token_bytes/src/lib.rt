@@ -8,6 +8,7 @@ ghost use Rattle.record.specs.Stores.{append};
 ghost use Rattle.token_bytes.specs.TokenBytes.{carried_by, carried_size, carried_bytes, text_bytes, token_bytes, TextFits, CarriedFits};
 
 use lexer::{Text, Token, TokenKind};
+use registers::Slot;
 
 // The length and the kind, then the location.
 const BEFORE_PAYLOAD: usize = 12;
@@ -26,10 +27,10 @@ pub enum Carried {
 fn bits_of(x: f64) -> u64
     ensures { result ≡ to_bits binary64 x }
 {
-    if x != x {
+    if x.is_nan() {
         0x7FF8_0000_0000_0000
     } else {
-        f64::to_bits(x)
+        x.to_bits()
     }
 }
 
@@ -37,22 +38,16 @@ fn carried_by(kind: TokenKind) -> Carried
     ensures { result ≡ carried_by kind }
 {
     match kind {
-        TokenKind::Comment(t) => Carried::Text(t),
-        TokenKind::Directive(t) => Carried::Text(t),
-        TokenKind::Parameter(t) => Carried::Text(t),
-        TokenKind::Register(r) => Carried::Slot(registers::register_source(r) as u8),
-        TokenKind::FPRegister(r) => Carried::Slot(registers::fp_register_source(r) as u8),
+        TokenKind::Comment(text)
+        | TokenKind::Directive(text)
+        | TokenKind::Parameter(text)
+        | TokenKind::StringLiteral(text) => Carried::Text(text),
+        TokenKind::Symbol(text) => Carried::Name(text),
+        TokenKind::Register(slot) => Carried::Slot(slot.number() as u8),
+        TokenKind::FPRegister(slot) => Carried::Slot(slot.number() as u8),
         TokenKind::IntegerLiteral(n) => Carried::Number(n),
         TokenKind::FloatLiteral(x) => Carried::Number(bits_of(x)),
-        TokenKind::StringLiteral(t) => Carried::Text(t),
-        TokenKind::Symbol(t) => Carried::Name(t),
-        TokenKind::Plus => Carried::Nothing,
-        TokenKind::Minus => Carried::Nothing,
-        TokenKind::Comma => Carried::Nothing,
-        TokenKind::Colon => Carried::Nothing,
-        TokenKind::NewLine => Carried::Nothing,
-        TokenKind::LeftBrace => Carried::Nothing,
-        TokenKind::RightBrace => Carried::Nothing,
+        _ => Carried::Nothing,
     }
 }
 
@@ -60,10 +55,9 @@ fn carried_size(carried: Carried) -> usize
     ensures { result ≡ carried_size carried }
 {
     match carried {
-        Carried::Text(t) => t.len,
+        Carried::Text(text) | Carried::Name(text) => text.len,
         Carried::Slot(_) => 1,
         Carried::Number(_) => 8,
-        Carried::Name(t) => t.len,
         Carried::Nothing => 0,
     }
 }
@@ -82,9 +76,7 @@ fn put_text(d: &mut [u8], texts: &[u8], at: usize, text: Text)
     requires len_in_bounds { at + text.len ≤ length d.old }
     ensures { d.new ≡ append d.old at (text_bytes texts.now text) }
 {
-    let start = text.start;
-    let end = start + text.len;
-    record::put_all(d, at, &texts[start..end]);
+    record::put_all(d, at, &texts[text.start..text.start + text.len]);
 }
 
 fn put_carried(d: &mut [u8], texts: &[u8], at: usize, carried: Carried)
@@ -93,10 +85,9 @@ fn put_carried(d: &mut [u8], texts: &[u8], at: usize, carried: Carried)
     ensures { d.new ≡ append d.old at (carried_bytes texts.now carried) }
 {
     match carried {
-        Carried::Text(t) => put_text(d, texts, at, t),
+        Carried::Text(text) | Carried::Name(text) => put_text(d, texts, at, text),
         Carried::Slot(n) => d[at] = n,
         Carried::Number(n) => record::put64(d, at, n),
-        Carried::Name(t) => put_text(d, texts, at, t),
         Carried::Nothing => {}
     }
 }
@@ -107,11 +98,9 @@ pub fn put_token(d: &mut [u8], texts: &[u8], at: usize, token: Token)
     requires kind_in_bounds { at + 12 + carried_size (carried_by token.kind) ≤ length d.old }
     ensures { d.new ≡ append d.old at (token_bytes texts.now token) }
 {
-    let location = token.location;
-    let kind = token.kind;
-    let payload = carried_by(kind);
+    let payload = carried_by(token.kind);
     let body = 8 + carried_size(payload);
-    record::put_head(&mut *d, at, body as u16, lexer::strip(kind) as u16);
-    record::put_location(&mut *d, at + 4, location);
+    record::put_head(d, at, body as u16, u16::from(lexer::strip(token.kind)));
+    record::put_location(d, at + 4, token.location);
     put_carried(d, texts, at + BEFORE_PAYLOAD, payload);
 }

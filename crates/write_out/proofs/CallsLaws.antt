@@ -2,7 +2,7 @@
 use Prim.Native.Nat.{ℕ, zero, suc, ◌+◌, ◌-◌, ◌≤◌, ◌<◌}
 use native.Mathlib.Omega.{arith}
 use mathlib.Core.List.{List, [], ◌∷◌, map, reverse}
-use Rattle.std.specs.Prelude.{Bool, ◌&&◌, ◌≡◌, length, take, Err, None, Ok}
+use Rattle.std.specs.Prelude.{Bool, ◌&&◌, ◌≡◌, length, take, Err, None, Ok, Result}
 use Rattle.std.proofs.Math.Bool.{true, false, and-eq-true_iff}
 use Rattle.std.proofs.Math.Path.{refl, sym, ap, ap₂, subst}
 use Rattle.std.proofs.Common.{◌∙◌, eqb-true}
@@ -35,7 +35,7 @@ use Rattle.macro_tokens.proofs.PlacesLaws.{record_text, record_macros, read_is}
 use Rattle.macro_tokens.proofs.PartLaws.{length_part, token_part, record_part, records_drop, good_drop}
 use Rattle.macro_tokens.specs.Arguments.{Takes}
 use Rattle.write_out.specs.Body.{steps_from, Ready}
-use Rattle.write_out.specs.Calls.{call_verdict, CallIs}
+use Rattle.write_out.specs.Calls.{call_verdict, Opened, CallIs}
 use Rattle.refusal.specs.Verdicts.{Verdict}
 
 -- ---- a call by its levels
@@ -129,6 +129,10 @@ module _ (text macros : List ℕ) (k : ℕ) (small : length text ≤ limit) (goo
     parameters_count = names_length b (count_of b) (behind_name b 0 + 1)
 
 -- a call of the macro at k: its verdict, and its body
+abbrev pub called_of : Verdict → Body → Result Body Refusal
+called_of (Ok u) b = Ok b
+called_of (Err r) b = Err r
+
 module _ (text macros : List ℕ) (levels k : ℕ) (l : Location) (small : length text ≤ limit) (good : macro_layout macros ≡ None) (ok : macro_at_ok macros k ≡ true)
     (t : Taken) (given : List (List ℕ)) (takes : Takes text macros t given) (start_in : (head_of (body_at macros k)).body ≤ length (body_at macros k)) where
   abbrev v : Verdict
@@ -150,30 +154,33 @@ module _ (text macros : List ℕ) (levels k : ℕ) (l : Location) (small : lengt
   unfolding macro_of
   same_is = ap₂ eqb (sym takes.counted) (names_length (body_at macros k) (count_of (body_at macros k)) (behind_name (body_at macros k) 0 + 1))
 
-  pub call_is : CallIs text macros levels k steps (record { verdict = v; body = body_of })
+  pub call_is : CallIs text macros levels k steps (called_of v body_of)
   call_is = go (eqb t.count (count_of (body_at macros k))) refl (eqb levels 0) refl
     where
-      go : (x : Bool) → eqb t.count (count_of (body_at macros k)) ≡ x → (y : Bool) → eqb levels 0 ≡ y → CallIs text macros levels k steps (record { verdict = v; body = body_of })
+      go : (x : Bool) → eqb t.count (count_of (body_at macros k)) ≡ x → (y : Bool) → eqb levels 0 ≡ y → CallIs text macros levels k steps (called_of v body_of)
       go false ex y ey =
           let e : v ≡ Err (WrongArguments l) = rw (ex, call_verdict) in
           let s = replaced_wrong l (macro_at macros k) (above macros k) given levels (same_is ∙ ex) in
-          record { stopped = λ r f. let q : r ≡ WrongArguments l = cc in s ∙ ap (λ (x : Refusal). stop x ∷ []) (sym q); opened = λ f. let z : ◌≡◌ {A = ℕ} 0 1 = cc in absurd (omega arith) }
+          record { stopped = λ r f. let q : r ≡ WrongArguments l = cc in s ∙ ap (λ (x : Refusal). stop x ∷ []) (sym q); opened = λ b f. let z : ◌≡◌ {A = ℕ} 0 1 = cc in absurd (omega arith) }
       go true ex true ey =
           let e : v ≡ Err (NinthLevel l) = rw (ex, call_verdict) (rw (ey, call_verdict)) in
           let s = replaced_ninth l (macro_at macros k) (above macros k) given levels (same_is ∙ ex) (eqb-true levels 0 ey) in
-          record { stopped = λ r f. let q : r ≡ NinthLevel l = cc in s ∙ ap (λ (x : Refusal). stop x ∷ []) (sym q); opened = λ f. let z : ◌≡◌ {A = ℕ} 0 1 = cc in absurd (omega arith) }
+          record { stopped = λ r f. let q : r ≡ NinthLevel l = cc in s ∙ ap (λ (x : Refusal). stop x ∷ []) (sym q); opened = λ b f. let z : ◌≡◌ {A = ℕ} 0 1 = cc in absurd (omega arith) }
       go true ex false ey =
           let e : v ≡ (Ok tt) = rw (ex, call_verdict) (rw (ey, call_verdict)) in
           let n = eqb-true t.count (count_of (body_at macros k)) ex in
           let p : 0 < levels = positive (eqb-false levels 0 ey) in
           record {
             stopped = λ r f. let z : ◌≡◌ {A = ℕ} 0 1 = cc in absurd (omega arith);
-            opened = λ f. record {
-              level = p;
-              ready = inner_ready text macros k small good ok t given takes n start_in;
-              is = replaced_on l (macro_at macros k) (above macros k) given levels (same_is ∙ ex) p
-                  ∙ sym (ap (walk (replaced (levels - 1)) (above macros k) Leading) (inner_is text macros k small good ok t given takes n start_in));
-            };
+            opened = λ b f.
+                let q : body_of ≡ b = cc in
+                subst (Opened text macros levels k steps) q
+                (record {
+                  level = p;
+                  ready = inner_ready text macros k small good ok t given takes n start_in;
+                  is = replaced_on l (macro_at macros k) (above macros k) given levels (same_is ∙ ex) p
+                      ∙ sym (ap (walk (replaced (levels - 1)) (above macros k) Leading) (inner_is text macros k small good ok t given takes n start_in));
+                });
           }
         where
           positive : (levels ≡ 0 → ⊥) → 0 < levels

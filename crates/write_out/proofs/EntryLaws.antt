@@ -1,8 +1,8 @@
 -- Laws of the call's checks, and its outcome by what its two passes answer and leave. Assumes nothing.
 use Rattle.std.specs.Prelude.{ℕ, ◌≤◌, ◌<◌, List, true, false, ◌≡◌, length, Err, None, Ok, Option, Result, Some}
 use Rattle.std.proofs.Common.{arith, sym, ◌∙◌, le-leb}
-use Rattle.std.proofs.lemmas.Bool.{false≢true, lt-leb}
-use Rattle.std.proofs.Math.Path.{refl, ap}
+use Rattle.std.proofs.lemmas.Bool.{lt-leb}
+use Rattle.std.proofs.Math.Path.{refl, ap, ap₂}
 use Rattle.record.specs.Records.{places, first_bad, limit, within_limit}
 use Rattle.record.proofs.RecordsLaws.{limit_good, first_limit}
 use Rattle.record.specs.Stores.{append}
@@ -19,7 +19,7 @@ use Rattle.written_out.specs.Outcome.{answer_from, bytes_of, write_out_stop, ans
 use Rattle.macro_tokens.specs.Places.{only}
 use Rattle.write_out.specs.Body.{written_from}
 use Rattle.write_out.proofs.FillLaws.{written_all}
-use Rattle.write_out.specs.Entry.{room_layout, stop_by, is_written}
+use Rattle.write_out.specs.Entry.{room_layout, stop_by}
 
 -- ---- places that a refusal names
 pub token_place : (s : List ℕ) (p : ℕ) → token_layout s ≡ Some p → p ≤ limit
@@ -52,7 +52,14 @@ module _ (tokens macros : List ℕ) (room : ℕ) where
   pub stop_tokens : (p : ℕ) → token_layout tokens ≡ Some p → stop_by tokens macros room ≡ Err (BadLayout 0 p)
   stop_tokens p e = by_tokens (Some p) e
 
+  pub first_stops : (r : Refusal) → layout_verdict 0 (token_layout tokens) ≡ Err r → stop_by tokens macros room ≡ Err r
+  unfolding stop_by
+  first_stops r e = ap (λ (x : Verdict). and_then x then_macros) e
+
   module _ (good : token_layout tokens ≡ None) where
+    pub second_stops : (r : Refusal) → layout_verdict 1 (macro_layout macros) ≡ Err r → stop_by tokens macros room ≡ Err r
+    second_stops r e = by_tokens None good ∙ ap (λ (x : Verdict). and_then x then_room) e
+
     by_macros : (l : Option ℕ) → macro_layout macros ≡ l → stop_by tokens macros room ≡ and_then (layout_verdict 1 l) then_room
     by_macros l e = by_tokens None good ∙ ap (λ (x : Option ℕ). and_then (layout_verdict 1 x) then_room) e
 
@@ -119,22 +126,20 @@ module _ (tokens macros out : List ℕ) where
     first_is : write_out_outcome tokens macros out ≡ outcome_of r (bytes_of steps) out
     first_is = outcome_is (Ok tt) e ∙ ap (λ (x : Result ℕ Refusal). outcome_of x (bytes_of steps) out) (sym a)
 
-    pub refused_outcome : is_written r ≡ false → write_out_outcome tokens macros out ≡ (record { answer = r; out = kept })
-    refused_outcome w = first_is ∙ go r w ∙ ap (λ (x : List ℕ). record { answer = r; out = x }) (sym first_keeps)
-      where
-        go : (x : Result ℕ Refusal) → is_written x ≡ false → outcome_of x (bytes_of steps) out ≡ (record { answer = x; out = out })
-        go (Ok f) h = absurd (false≢true (sym h))
-        go (Err q) h = refl
+    pub refused_outcome : (q : Refusal) → r ≡ Err q → write_out_outcome tokens macros out ≡ (record { answer = Err q; out = kept })
+    refused_outcome q w =
+        first_is ∙ ap (λ (x : Result ℕ Refusal). outcome_of x (bytes_of steps) out) w ∙ ap (λ (x : List ℕ). record { answer = Err q; out = x }) (sym first_keeps)
 
-    -- and what the second leaves
-    pub written_outcome : is_written r ≡ true → (left : List ℕ) → left ≡ append kept 0 (only true (written_from (length kept) 0 steps))
-        → write_out_outcome tokens macros out ≡ (record { answer = r; out = left })
-    written_outcome w left l = first_is ∙ go r w (sym a)
+    -- and what the second answers and leaves
+    pub written_outcome : (f : ℕ) → r ≡ Ok f → (s : Result ℕ Refusal) → s ≡ answer_from (length kept) 0 steps → (left : List ℕ)
+        → left ≡ append kept 0 (only true (written_from (length kept) 0 steps)) → write_out_outcome tokens macros out ≡ (record { answer = s; out = left })
+    written_outcome f w s b left l =
+        first_is ∙ ap (λ (x : Result ℕ Refusal). outcome_of x (bytes_of steps) out) w
+        ∙ ap₂ (λ (x : Result ℕ Refusal) (y : List ℕ). record { answer = x; out = y }) (sym answered)
+        (ap (append out 0) (sym (written_all (length out) 0 f steps (sym a ∙ w))) ∙ sym same)
       where
         same : left ≡ append out 0 (written_from (length out) 0 steps)
         same = l ∙ ap (λ (x : List ℕ). append x 0 (written_from (length x) 0 steps)) first_keeps
 
-        go : (x : Result ℕ Refusal) → is_written x ≡ true → answer_from (length out) 0 steps ≡ x → outcome_of x (bytes_of steps) out ≡ (record { answer = x; out = left })
-        go (Ok f) h q =
-            ap (λ (y : List ℕ). record { answer = Ok f; out = y }) (ap (append out 0) (sym (written_all (length out) 0 f steps q)) ∙ sym same)
-        go (Err q) h p = absurd (false≢true h)
+        answered : s ≡ Ok f
+        answered = b ∙ ap (λ (x : List ℕ). answer_from (length x) 0 steps) first_keeps ∙ sym a ∙ w

@@ -1,5 +1,5 @@
 -- What a call is replaced by, as the code finds it. Assumes nothing.
-use Rattle.std.specs.Prelude.{ℕ, ◌-◌, ◌≤◌, ◌<◌, List, [], ◌∷◌, true, false, ◌≡◌, length, eqb, Err, None, Ok}
+use Rattle.std.specs.Prelude.{ℕ, ◌-◌, ◌≤◌, ◌<◌, List, [], ◌∷◌, true, false, ◌≡◌, length, eqb, Err, None, Ok, Result}
 use Rattle.record.specs.Bytes.{location_at}
 use Rattle.record.specs.Records.{limit}
 use Rattle.record.specs.declared.Location.{Location}
@@ -16,7 +16,6 @@ use Rattle.macro_tokens.specs.Places.{token_record, TokenIn, ReadableFrom}
 use Rattle.macro_tokens.specs.Arguments.{arguments_from}
 use Rattle.macro_tokens.specs.Meant.{Inside}
 use Rattle.macro_tokens.specs.declared.Body.{Body}
-use Rattle.write_out.specs.declared.Called.{Called}
 use Rattle.write_out.specs.Body.{steps_from, Ready}
 use Rattle.refusal.specs.Verdicts.{Verdict}
 
@@ -30,9 +29,9 @@ pub record Opened (text macros : List ℕ) (levels k : ℕ) (steps : List Step) 
   pub ready : Ready text macros k (body_at macros k) b
   pub is : steps ≡ steps_from text macros k (levels - 1) (body_at macros k) b Leading b.start
 
-pub record CallIs (text macros : List ℕ) (levels k : ℕ) (steps : List Step) (c : Called) : Type 0 where
-  pub stopped : (r : Refusal) → c.verdict ≡ Err r → steps ≡ stop r ∷ []
-  pub opened : c.verdict ≡ Ok tt → Opened text macros levels k steps c.body
+pub record CallIs (text macros : List ℕ) (levels k : ℕ) (steps : List Step) (c : Result Body Refusal) : Type 0 where
+  pub stopped : (r : Refusal) → c ≡ Err r → steps ≡ stop r ∷ []
+  pub opened : (b : Body) → c ≡ Ok b → Opened text macros levels k steps b
 
 -- ---- what is done with a token
 

@@ -1,10 +1,10 @@
 -- The call's checks, by the length of its buffer. Assumes nothing.
-use Rattle.std.specs.Prelude.{ℕ, List, Bool, true, false, leb, Err, None, Ok, Option, Result, Some}
+use Rattle.std.specs.Prelude.{ℕ, List, Bool, true, false, leb, None, Option, Some, Result, Ok, Err}
 use Rattle.record.specs.Records.{limit}
+use Rattle.refusal.specs.declared.Refusal.{Refusal}
 use Rattle.refusal.specs.Verdicts.{and_then, layout_verdict, name_verdict, Verdict}
 use Rattle.lexer.specs.Tokens.{token_layout}
 use Rattle.macros.specs.Macros.{macro_layout, macro_repeat}
-use Rattle.refusal.specs.declared.Refusal.{Refusal}
 
 abbrev pub room_layout : (room : ℕ) → Option ℕ
 room_layout room = elim (leb room limit) [ true ↦ None | false ↦ Some limit ]

@@ -15,22 +15,20 @@ ghost use Rattle.macro_tokens.specs.Places.{token_record, TokenIn, only, Readabl
 ghost use Rattle.macro_tokens.specs.Arguments.{arguments_from};
 ghost use Rattle.write_out.specs.Body.{steps_from, Ready, written_from};
 ghost use Rattle.write_out.specs.Calls.{call_verdict, CallIs, act_steps, mode_after, Acting};
-ghost use Rattle.write_out.specs.Entry.{stop_by, is_written};
+ghost use Rattle.write_out.specs.Entry.{stop_by};
 
 use macro_tokens::{Act, Body};
 use record::Location;
 use refusal::Refusal;
 use written_out::Mode;
 
-// A call of a macro: whether it is refused, and the body that it is replaced by if not.
-#[derive(Clone, Copy)]
-struct Called {
-    verdict: Result<(), Refusal>,
-    body: Body,
-}
-
 // At one call a wrong count of arguments goes before a ninth level.
-fn call_verdict(location: Location, given: usize, count: usize, levels: usize) -> Result<(), Refusal>
+fn call_verdict(
+    location: Location,
+    given: usize,
+    count: usize,
+    levels: usize,
+) -> Result<(), Refusal>
     ensures { result ≡ call_verdict location given count levels }
 {
     if given != count {
@@ -42,7 +40,7 @@ fn call_verdict(location: Location, given: usize, count: usize, levels: usize) -
     Ok(())
 }
 
-// The call of the macro at k by the token at `place`, behind which its line goes on from `next` on.
+// The call of the macro at k by the token at `place`, behind which its line goes on from `next` on: the body that it is replaced by.
 fn call_at(
     text: &[u8],
     macros: &[u8],
@@ -52,7 +50,7 @@ fn call_at(
     place: usize,
     next: usize,
     k: usize,
-) -> Called
+) -> Result<Body, Refusal>
     requires token_in { TokenIn text.now macros.now place × ReadableFrom text.now macros.now list.now body next }
     requires text_len_bound { (length text.now ≤ limit) × (macro_layout macros.now ≡ None) × (macro_at_ok macros.now k ≡ true) }
     ensures { CallIs text.now macros.now levels k (replaced levels (location_at (token_record text.now macros.now place) 4) (macro_at macros.now k) (above macros.now k) (arguments_from text.now macros.now list.now body next)) result }
@@ -61,19 +59,15 @@ fn call_at(
     let head = macros::head_of(&macros[k + 4..end]);
     let taken = macro_tokens::arguments_from(text, macros, list, body, next);
     let location = macro_tokens::location_of(text, macros, place);
-    let verdict = call_verdict(location, taken.count, head.count, levels);
+    call_verdict(location, taken.count, head.count, levels)?;
     let args = taken.args;
-    let inner = Body {
+    Ok(Body {
         base: text.len() + k + 4,
         start: head.body,
         names: head.names,
         count: head.count,
         args,
-    };
-    Called {
-        verdict,
-        body: inner,
-    }
+    })
 }
 
 // A token written at `fill`, where there is room for it: the new fill.
@@ -122,17 +116,10 @@ fn write_act(
         Act::Write(_) => write_token(text, macros, place, really, out, fill),
         Act::Pass => Ok(fill as u32),
         Act::Call(k) => {
-            let called = call_at(text, macros, levels, list, body, place, next, k);
-            let verdict = called.verdict;
-            let inner = called.body;
-            match verdict {
-                Err(r) => Err(r),
-                Ok(()) => {
-                    let end = record::next(macros, k);
-                    let bytes = &macros[k + 4..end];
-                    write_body(text, macros, k, levels - 1, bytes, inner, really, out, fill)
-                }
-            }
+            let inner = call_at(text, macros, levels, list, body, place, next, k)?;
+            let end = record::next(macros, k);
+            let bytes = &macros[k + 4..end];
+            write_body(text, macros, k, levels - 1, bytes, inner, really, out, fill)
         }
     }
 }
@@ -142,13 +129,13 @@ fn mode_after(act: Act) -> Mode
 {
     match act {
         Act::Write(mode) => mode,
-        Act::Pass => Mode::LeftOut,
-        Act::Call(_) => Mode::LeftOut,
+        _ => Mode::LeftOut,
     }
 }
 
 // A body written out from `from` on: the new fill, or the first refusal. Nothing is written where `really` is false. The body may call the
 // macros before the place `most`, which falls at each call: it is the place of the macro whose body it is.
+// kept: `really` is a flag, as the rule on speed has it: measuring and writing are one function that is run twice.
 #[cycle(write_act_write_body)]
 fn write_body(
     text: &[u8],
@@ -168,22 +155,16 @@ fn write_body(
     let mut at = body.start;
     let mut fill = from;
     let mut mode = Mode::Leading;
+    // kept: `record::places` begins at a list's first record, and this walk behind a macro's head
     while at < list.len() {
         let next = record::next(list, at);
         let place = macro_tokens::place_at(list, body, at);
         let act = macro_tokens::act_at(text, macros, most, list, body, mode, place, next);
-        match write_act(
+        fill = write_act(
             text, macros, most, levels, list, body, place, next, act, really, &mut *out, fill,
-        ) {
-            Ok(f) => {
-                fill = f as usize;
-                mode = mode_after(act);
-                at = next;
-            }
-            Err(r) => {
-                return Err(r);
-            }
-        }
+        )? as usize;
+        mode = mode_after(act);
+        at = next;
     }
     Ok(fill as u32)
 }
@@ -194,13 +175,12 @@ fn write_all(text: &[u8], macros: &[u8], really: bool, out: &mut [u8]) -> Result
     ensures value { result ≡ answer_from (length out.old) 0 (written_out text.now macros.now) }
     ensures out_after { out.new ≡ append out.old 0 (only really (written_from (length out.old) 0 (written_out text.now macros.now))) }
 {
-    let args = [0usize; 8];
     let body = Body {
         base: 0,
         start: 0,
         names: 0,
         count: 0,
-        args,
+        args: [0; 8],
     };
     write_body(text, macros, macros.len(), 8, text, body, really, out, 0)
 }
@@ -209,40 +189,19 @@ fn write_all(text: &[u8], macros: &[u8], really: bool, out: &mut [u8]) -> Result
 fn check(tokens: &[u8], macros: &[u8], room: usize) -> Result<(), Refusal>
     ensures { result ≡ stop_by tokens.now macros.now room }
 {
-    if let Some(place) = lexer::first_bad_token(tokens) {
-        return Err(Refusal::BadLayout(0, place as u32));
-    }
-    if let Some(place) = macros::first_bad_macro(macros) {
-        return Err(Refusal::BadLayout(1, place as u32));
-    }
+    refusal::check_layout(0, lexer::first_bad_token(tokens))?;
+    refusal::check_layout(1, macros::first_bad_macro(macros))?;
     if room > record::LIMIT {
         return Err(Refusal::BadLayout(2, 65536));
     }
-    if let Some(place) = macro_lookup::first_repeat(macros) {
-        return Err(Refusal::DuplicateName(1, place as u32));
-    }
-    Ok(())
-}
-
-fn is_written(answer: Result<u32, Refusal>) -> bool
-    ensures { result ≡ is_written answer }
-{
-    match answer {
-        Ok(_) => true,
-        Err(_) => false,
-    }
+    refusal::check_names(1, macro_lookup::first_repeat(macros))
 }
 
 // The token list with its macros' calls written out, from the start of `out` on, or a refusal, and then no byte changes.
 pub fn write_out(tokens: &[u8], macros: &[u8], out: &mut [u8]) -> Result<u32, Refusal>
     ensures { write_out_outcome tokens.now macros.now out.old ≡ (record { answer = result; out = out.new }) }
 {
-    if let Err(refusal) = check(tokens, macros, out.len()) {
-        return Err(refusal);
-    }
-    let answer = write_all(tokens, macros, false, &mut *out);
-    if is_written(answer) {
-        write_all(tokens, macros, true, out);
-    }
-    answer
+    check(tokens, macros, out.len())?;
+    write_all(tokens, macros, false, &mut *out)?;
+    write_all(tokens, macros, true, out)
 }

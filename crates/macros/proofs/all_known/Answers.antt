@@ -1,45 +1,35 @@
-use Rattle.std.proofs.Common.{map, sym, ap, ◌∙◌, arith}
-use Rattle.record.proofs.RecordsLaws.{layout_from, good_next}
+use Rattle.std.proofs.Common.{ℕ, Bool, List, ◌&&◌, map, sym, ap, ◌∙◌}
+use Rattle.record.specs.Left.{places_left}
+use Rattle.record.proofs.WalkLaws.{turn}
 use Rattle.lexer.specs.Tokens.{token_ok}
-use Rattle.macros.specs.Macros.{name_at, name_places}
-use Rattle.macros.proofs.KnownLaws.{known_from, known_all, known_end, known_stop, known_next, good_first, token_here}
+use Rattle.lexer.proofs.TokensLaws.{token_good, token_is}
+use Rattle.line_heads.specs.Lines.{record_at, records_of}
+use Rattle.macros.specs.Macros.{name_at, name_places, known}
+use Rattle.macros.proofs.KnownLaws.{known_first}
 use Rattle.macros.proofs.all_known.Goals as goal
 
 pub loop-at-init : goal.loop-at-init
-loop-at-init c =
-    let a = c.args in
-    (omega arith, good_first a.body.now c.requires.1, known_all (map (name_at a.list.now) (name_places a.count a.list.now a.names)) a.body.now)
+unfolding records_of
+loop-at-init c = cc
 
 pub token_known-requires : goal.token_known-requires
 token_known-requires c =
-    (c.requires.0, token_here c.args.body.now c.loop-at.at c.loop-at-test.true c.loop-at.invariant.1)
+    let s = c.args.body.now in
+    let t = turn s _ _ _ (cc) c.loop-at.yielded_by c.in-Some.ensures.steps in
+    (c.requires.0, token_is s c.in-Some.at (t.passes (token_ok s) (token_good s c.requires.1).1))
 
 pub returns-then-not-token_known : goal.returns-then-not-token_known
 returns-then-not-token_known c =
-    let l = c.loop-at in
-    let a = c.args in
-    let h = c.loop-at-test.true in
-    sym (l.invariant.2 ∙ known_stop (map (name_at a.list.now) (name_places a.count a.list.now a.names)) a.body.now l.at h (token_here a.body.now l.at h l.invariant.1) (sym c.if-not-token_known.ensures))
-
-pub next-at-requires : goal.next-at-requires
-next-at-requires c =
-    omega (arith, token_here c.args.body.now c.loop-at.at c.loop-at-test.true c.loop-at.invariant.1)
+    let ps = map (name_at c.args.list.now) (name_places c.args.count c.args.list.now c.args.names) in
+    sym (c.loop-at.invariant ∙ known_first ps c.args.body.now _ _ _ c.in-Some.ensures.steps ∙ ap (λ (b : Bool). b && known ps (map (record_at c.args.body.now) (places_left c.next.new.self))) (sym c.if-not-token_known.ensures))
 
 pub loop-at-preserved : goal.loop-at-preserved
 loop-at-preserved c =
-    let l = c.loop-at in
-    let a = c.args in
-    let h = c.loop-at-test.true in
-    let ps = map (name_at a.list.now) (name_places a.count a.list.now a.names) in
-    let t = token_here a.body.now l.at h l.invariant.1 in
-    let n = c.next-at.ensures.0 in (
-      omega (arith, n, t.body),
-      ap (layout_from (token_ok a.body.now) a.body.now) n ∙ good_next (token_ok a.body.now) a.body.now l.at h t.whole_at l.invariant.1,
-      l.invariant.2 ∙ known_next ps a.body.now l.at h t (sym c.if-not-token_known.ensures) ∙ ap (known_from ps a.body.now) (sym n),
-    )
+    let ps = map (name_at c.args.list.now) (name_places c.args.count c.args.list.now c.args.names) in
+    c.loop-at.invariant ∙ known_first ps c.args.body.now _ _ _ c.in-Some.ensures.steps ∙ ap (λ (b : Bool). b && known ps (map (record_at c.args.body.now) (places_left c.next.new.self))) (sym c.if-not-token_known.ensures)
 
 pub returns : goal.returns
+unfolding known
 returns c =
-    let l = c.loop-at in
-    let a = c.args in
-    sym (l.invariant.2 ∙ known_end (map (name_at a.list.now) (name_places a.count a.list.now a.names)) a.body.now l.at c.loop-at-test.false)
+    let ps = map (name_at c.args.list.now) (name_places c.args.count c.args.list.now c.args.names) in
+    sym (c.loop-at.invariant ∙ ap (λ (l : List ℕ). known ps (map (record_at c.args.body.now) l)) c.in-None.ensures.steps.0)

@@ -1,4 +1,4 @@
-use Rattle.std.proofs.Common.{◌≡◌, ℕ, ◌-◌, List, sym, ap, ap₂, ◌∙◌, arith}
+use Rattle.std.proofs.Common.{◌≡◌, ℕ, ◌+◌, ◌-◌, ◌<◌, List, sym, ap, ap₂, ◌∙◌, arith}
 use Rattle.macros.specs.Macros.{name_at, behind_name}
 use Rattle.macros.proofs.NamesLaws.{name_part, all_ok, first_ok, others_ok, index_from, differ_from, differ_end, differ_stop, differ_next}
 use Rattle.macros.proofs.differ.Goals as goal
@@ -6,43 +6,44 @@ use Rattle.macros.proofs.differ.Goals.{After-index_of}
 
 pub behind_name-next-requires : goal.behind_name-next-requires
 behind_name-next-requires c =
-    let l = c.loop-rest in
-    omega (arith, (first_ok c.args.list.now l.rest l.from c.loop-rest-test.true l.invariant.0).start)
+    let l = c.loop-i in
+    omega (arith, (first_ok c.args.list.now (c.args.count - l.i) l.from (omega arith) l.invariant.0).start)
 
 pub slice_bounds-index_of-end : goal.slice_bounds-index_of-end
 slice_bounds-index_of-end c =
-    let l = c.loop-rest in
-    omega (arith, c.behind_name-next.ensures.0, (first_ok c.args.list.now l.rest l.from c.loop-rest-test.true l.invariant.0).within)
+    let l = c.loop-i in
+    omega (arith, c.behind_name-next.ensures.0, (first_ok c.args.list.now (c.args.count - l.i) l.from (omega arith) l.invariant.0).within)
 
 pub index_of-requires : goal.index_of-requires
 index_of-requires c =
-    let l = c.loop-rest in
-    ap (all_ok c.args.list.now (l.rest - 1)) c.behind_name-next.ensures.0 ∙ others_ok c.args.list.now l.rest l.from c.loop-rest-test.true l.invariant.0
+    let l = c.loop-i in
+    ap (all_ok c.args.list.now (c.args.count - l.i - 1)) c.behind_name-next.ensures.0 ∙ others_ok c.args.list.now (c.args.count - l.i) l.from (omega arith) l.invariant.0
 
-index : (c : After-index_of) → c.index_of.result ≡ index_from c.args.list.now (name_at c.args.list.now c.loop-rest.from) (c.loop-rest.rest - 1) (behind_name c.args.list.now c.loop-rest.from)
+index : (c : After-index_of) → c.index_of.result ≡ index_from c.args.list.now (name_at c.args.list.now c.loop-i.from) (c.args.count - c.loop-i.i - 1) (behind_name c.args.list.now c.loop-i.from)
 index c =
-    let l = c.loop-rest in
+    let l = c.loop-i in
     let n = c.behind_name-next.ensures.0 in
-    c.index_of.ensures ∙ ap₂ (λ (x : List ℕ) (y : ℕ). index_from c.args.list.now x (l.rest - 1) y) (name_part c.args.list.now l.from _ n) n
+    c.index_of.ensures ∙ ap₂ (λ (x : List ℕ) (y : ℕ). index_from c.args.list.now x (c.args.count - l.i - 1) y) (name_part c.args.list.now l.from _ n) n
 
 pub returns-then-index_of-rest : goal.returns-then-index_of-rest
 returns-then-index_of-rest c =
-    let l = c.loop-rest in
+    let l = c.loop-i in
     let i = index (goal.at.returns-then-index_of-rest c).After-index_of in
-    sym (l.invariant.1 ∙ differ_stop c.args.list.now l.rest l.from (l.rest - 1) (omega arith) (omega (arith, i)))
+    sym (l.invariant.1 ∙ differ_stop c.args.list.now (c.args.count - l.i) l.from (c.args.count - l.i - 1) (omega arith) (omega (arith, i)))
 
-pub loop-rest-preserved : goal.loop-rest-preserved
-loop-rest-preserved c =
-    let l = c.loop-rest in
+pub loop-i-preserved : goal.loop-i-preserved
+loop-i-preserved c =
+    let l = c.loop-i in
     let b = c.args.list.now in
-    let t = c.loop-rest-test.true in
+    let t : 0 < c.args.count - l.i = omega arith in
+    let m : c.args.count - l.i - 1 ≡ c.args.count - (l.i + 1) = omega arith in
     let n = c.behind_name-next.ensures.0 in
-    let i = index (goal.at.loop-rest-preserved c).After-index_of in (
-      ap (all_ok b (l.rest - 1)) n ∙ others_ok b l.rest l.from t l.invariant.0,
-      l.invariant.1 ∙ differ_next b l.rest l.from (l.rest - 1) (omega arith) (omega (arith, i)) ∙ ap (differ_from b (l.rest - 1)) (sym n),
+    let i = index (goal.at.loop-i-preserved c).After-index_of in (
+      sym (ap₂ (all_ok b) m (sym n)) ∙ others_ok b (c.args.count - l.i) l.from t l.invariant.0,
+      l.invariant.1 ∙ differ_next b (c.args.count - l.i) l.from (c.args.count - l.i - 1) (omega arith) (omega (arith, i)) ∙ ap₂ (differ_from b) m (sym n),
     )
 
 pub returns : goal.returns
 returns c =
-    let l = c.loop-rest in
-    sym (l.invariant.1 ∙ differ_end c.args.list.now l.rest l.from (omega arith))
+    let l = c.loop-i in
+    sym (l.invariant.1 ∙ differ_end c.args.list.now (c.args.count - l.i) l.from (omega arith))

@@ -6,12 +6,12 @@ use Rattle.macros.proofs.index_of.Goals as goal
 pub behind_name-next-requires : goal.behind_name-next-requires
 behind_name-next-requires c =
     let l = c.loop-i in
-    omega (arith, (first_ok c.args.list.now (c.args.count - l.i) l.from (omega arith) l.invariant.1).start)
+    omega (arith, (first_ok c.args.list.now (c.args.count - l.i) l.from (omega arith) l.invariant.0).start)
 
 pub slice_bounds-same-end : goal.slice_bounds-same-end
 slice_bounds-same-end c =
     let l = c.loop-i in
-    omega (arith, c.behind_name-next.ensures.0, (first_ok c.args.list.now (c.args.count - l.i) l.from (omega arith) l.invariant.1).within)
+    omega (arith, c.behind_name-next.ensures.0, (first_ok c.args.list.now (c.args.count - l.i) l.from (omega arith) l.invariant.0).within)
 
 pub returns-then-same : goal.returns-then-same
 returns-then-same c =
@@ -19,7 +19,7 @@ returns-then-same c =
     let a = c.args in
     let e = sym (ap (λ (x : List ℕ). same_bytes x a.name.now) (name_part a.list.now l.from _ c.behind_name-next.ensures.0)) ∙ sym c.if-same.ensures in
     let z = index_hit a.list.now a.name.now (a.count - l.i) l.from (omega arith) e in
-    omega (arith, l.invariant.2, z)
+    omega (arith, l.invariant.1, z)
 
 pub loop-i-preserved : goal.loop-i-preserved
 loop-i-preserved c =
@@ -30,12 +30,11 @@ loop-i-preserved c =
     let z = index_miss a.list.now a.name.now (a.count - l.i) l.from (omega arith) e in
     let m : a.count - l.i - 1 ≡ a.count - (l.i + 1) = omega arith in
     let f = ap₂ (index_from a.list.now a.name.now) m (sym n) in (
-      omega arith,
-      sym (ap₂ (all_ok a.list.now) m (sym n)) ∙ others_ok a.list.now (a.count - l.i) l.from (omega arith) l.invariant.1,
-      omega (arith, l.invariant.2, z, f),
+      sym (ap₂ (all_ok a.list.now) m (sym n)) ∙ others_ok a.list.now (a.count - l.i) l.from (omega arith) l.invariant.0,
+      omega (arith, l.invariant.1, z, f),
     )
 
 pub returns : goal.returns
 returns c =
     let l = c.loop-i in
-    omega (arith, l.invariant.2, index_end c.args.list.now c.args.name.now (c.args.count - l.i) l.from (omega arith))
+    omega (arith, l.invariant.1, index_end c.args.list.now c.args.name.now (c.args.count - l.i) l.from (omega arith))

@@ -1,10 +1,7 @@
-use Rattle.std.proofs.Common.{◌≡◌, true, ◌+◌, ◌-◌, ◌≤◌}
+use Rattle.std.proofs.Common.{◌≡◌, true, ◌+◌, ◌-◌}
 use Rattle.macros.proofs.NamesLaws.{all_ok, index_from}
 use Rattle.macros.proofs.index_of.Given as goal
 
 abbrev pub invariant-loop-i : goal.invariant-loop-i
 invariant-loop-i l =
-    (l.i ≤ l.count) × (all_ok l.list (l.count - l.i) l.from ≡ true) × (index_from l.list l.name l.count l.at ≡ l.i + index_from l.list l.name (l.count - l.i) l.from)
-
-abbrev pub decreases-loop-i : goal.decreases-loop-i
-decreases-loop-i l = l.count - l.i
+    (all_ok l.list (l.count - l.i) l.from ≡ true) × (index_from l.list l.name l.count l.at ≡ l.i + index_from l.list l.name (l.count - l.i) l.from)

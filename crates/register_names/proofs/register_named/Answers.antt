@@ -1,24 +1,27 @@
-use Rattle.std.proofs.Common.{ap, ◌∙◌}
+use Rattle.std.proofs.Common.{ap, ◌∙◌, arith}
 use Rattle.register_names.proofs.RegisterNamesLaws.{general_is, number_is, float_is, unknown_is}
+use Rattle.std.specs.Prelude.{Some}
+use Rattle.registers.specs.declared.RegisterSlot.{RegisterSlot}
+use Rattle.registers.specs.declared.FPRegisterSlot.{FPRegisterSlot}
 use Rattle.register_names.specs.declared.NamedRegister.TheVariants.{General, Float}
 use Rattle.register_names.proofs.register_named.Goals as goal
 
-pub returns-then-place-lt32 : goal.returns-then-place-lt32
-returns-then-place-lt32 c =
+pub returns-in-0-to-31 : goal.returns-in-0-to-31
+returns-in-0-to-31 c =
     let p = c.place_of-place in
-    ap General c.register_of.ensures ∙ general_is c.args.name.now p.result p.ensures c.if-place-lt32.true
+    ap (λ (r : RegisterSlot). Some (General r)) c.from.ensures ∙ general_is c.args.name.now p.result p.ensures (omega (arith, c.in-0-to-31))
 
-pub returns-then-place-lt64 : goal.returns-then-place-lt64
-returns-then-place-lt64 c =
+pub returns-in-32-to-63 : goal.returns-in-32-to-63
+returns-in-32-to-63 c =
     let p = c.place_of-place in
-    ap General c.register_of-then-place-lt64.ensures ∙ number_is c.args.name.now p.result p.ensures c.if-place-lt32.false c.if-place-lt64.true
+    ap (λ (r : RegisterSlot). Some (General r)) c.from-in-32-to-63.ensures ∙ number_is c.args.name.now p.result p.ensures (omega (arith, c.in-32-to-63)) (omega (arith, c.in-32-to-63))
 
-pub returns-then-place-lt-COUNT : goal.returns-then-place-lt-COUNT
-returns-then-place-lt-COUNT c =
+pub returns-in-64-to-95 : goal.returns-in-64-to-95
+returns-in-64-to-95 c =
     let p = c.place_of-place in
-    ap Float c.fp_register_of.ensures ∙ float_is c.args.name.now p.result p.ensures c.if-place-lt64.false c.if-place-lt-COUNT.true
+    ap (λ (r : FPRegisterSlot). Some (Float r)) c.from-in-64-to-95.ensures ∙ float_is c.args.name.now p.result p.ensures (omega (arith, c.in-64-to-95)) (omega (arith, c.in-64-to-95))
 
-pub returns : goal.returns
-returns c =
+pub returns-in_default : goal.returns-in_default
+returns-in_default c =
     let p = c.place_of-place in
-    unknown_is c.args.name.now p.result p.ensures c.if-place-lt-COUNT.false
+    unknown_is c.args.name.now p.result p.ensures (omega (arith, c.in_default))

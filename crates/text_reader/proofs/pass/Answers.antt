@@ -1,15 +1,14 @@
 use Rattle.std.specs.Prelude.{Err}
-use Rattle.std.proofs.Common.{◌≡◌, ℕ, ◌+◌, ◌≤◌, Bool, true, length, refl, sym, ap, ap₂, subst, ◌∙◌, arith}
+use Rattle.std.proofs.Common.{◌≡◌, ℕ, List, ◌+◌, ◌≤◌, Bool, true, false, length, refl, sym, ap, ap₂, subst, ◌∙◌, arith}
 use Rattle.record.specs.Stores.{append}
 use Rattle.record.specs.declared.Location.{Location}
 use Rattle.refusal.specs.declared.Refusal.TheVariants.{BadByte, BadToken, NoTokenSpace}
 use Rattle.token_bytes.specs.TokenBytes.{carried_by, carried_size, token_bytes}
 use Rattle.text_reader.proofs.FitLaws.{Stands, stands_small}
-use Rattle.text_reader.specs.Reading.{location_of}
 use Rattle.text_reader.proofs.OutcomeLaws.{blank_stands, record_size, answer_at, answer_end, answer_blank, answer_byte, answer_bad, answer_token, answer_short, stands}
 use Rattle.text_reader.proofs.PassLaws.{Going, going_blank, going_fault, going_end, going_put}
 use Rattle.text_reader.proofs.pass.Goals as goal
-use Rattle.text_reader.proofs.pass.Goals.{In-Token}
+use Rattle.text_reader.proofs.pass.Goals.{In-Token, then-writes, else-writes}
 
 -- the token lies in the text
 token : (c : In-Token) → Stands c.args.text.now c.loop-at.at c.in-Token.kind c.in-Token.size
@@ -73,65 +72,10 @@ returns-then-room-end c =
 pub put_token-requires-clause-carried_fits : goal.put_token-requires-clause-carried_fits
 put_token-requires-clause-carried_fits c = (token (goal.at.put_token-requires-clause-carried_fits c).In-Token).carried_fits
 
-pub overflow_add-at-then-writes : goal.overflow_add-at-then-writes
-overflow_add-at-then-writes c = omega (arith, (token (goal.at.overflow_add-at-then-writes c).In-Token).within)
-
-pub loop-at-smaller-then-writes : goal.loop-at-smaller-then-writes
-loop-at-smaller-then-writes c =
-    let t = token (goal.at.loop-at-smaller-then-writes c).In-Token in
-    omega (arith, t.within, t.least)
-
-pub loop-at-preserved-then-writes : goal.loop-at-preserved-then-writes
-loop-at-preserved-then-writes c =
-    let l = c.loop-at in
-    let a = c.args in
-    let kind = c.in-Token.kind in
-    let size = c.in-Token.size in
-    let d = c.put_token.new.d in
-    let kept : length d ≡ length l.tokens = c.put_token.auto.d in
-    let n : c.record_size.result ≡ record_size kind = c.record_size.ensures in
-    let r : l.fill + record_size kind ≤ length l.tokens = omega (arith, n, l.invariant.3) in
-    let t = (goal.at.loop-at-preserved-then-writes c).In-Token in
-    let w : d ≡ append l.tokens l.fill (token_bytes a.text.now (record { location = location_of a.source l.at; kind = kind })) =
-    c.put_token.ensures
-    ∙ ap (λ (x : Location). append l.tokens l.fill (token_bytes a.text.now (record { location = x; kind = kind }))) c.location_of-location.ensures in
-    let g : Going a.source a.text.now a.tokens.now true d (l.at + size) (l.fill + record_size kind) =
-    going_put a.source a.text.now a.tokens.now l.tokens l.at l.fill _ c.loop-at-test.true c.piece_at.ensures kind size c.in-Token.is d kept w
-    (subst (λ (b : Bool). Going a.source a.text.now a.tokens.now b l.tokens l.at l.fill) c.if-writes.true l.invariant.5) in (
-      (token t).within,
-      omega (arith, r, n, kept),
-      kept ∙ l.invariant.2,
-      kept ∙ l.invariant.3,
-      onward t r ∙ ap₂ (λ (r m : ℕ). answer_at a.source a.text.now (l.at + size) r (l.fill + m)) (sym kept) (sym n),
-      subst (λ (b : Bool). Going a.source a.text.now a.tokens.now b d (l.at + size) (l.fill + c.record_size.result)) (sym c.if-writes.true)
-          (subst (λ (m : ℕ). Going a.source a.text.now a.tokens.now true d (l.at + size) (l.fill + m)) (sym n) g),
-    )
-
-pub overflow_add-at-else-writes : goal.overflow_add-at-else-writes
-overflow_add-at-else-writes c = omega (arith, (token (goal.at.overflow_add-at-else-writes c).In-Token).within)
-
 pub loop-at-smaller : goal.loop-at-smaller
 loop-at-smaller c =
     let t = token (goal.at.loop-at-smaller c).In-Token in
     omega (arith, t.within, t.least)
-
-pub loop-at-preserved : goal.loop-at-preserved
-loop-at-preserved c =
-    let l = c.loop-at in
-    let a = c.args in
-    let kind = c.in-Token.kind in
-    let size = c.in-Token.size in
-    let n : c.record_size.result ≡ record_size kind = c.record_size.ensures in
-    let r : l.fill + record_size kind ≤ length l.tokens = omega (arith, n, l.invariant.3) in
-    let t = (goal.at.loop-at-preserved c).In-Token in
-    let g = subst (λ (b : Bool). Going a.source a.text.now a.tokens.now b l.tokens l.at l.fill) c.if-writes.false l.invariant.5 in (
-      (token t).within,
-      omega (arith, r, n),
-      l.invariant.2,
-      l.invariant.3,
-      onward t r ∙ ap (λ (m : ℕ). answer_at a.source a.text.now (l.at + size) (length l.tokens) (l.fill + m)) (sym n),
-      subst (λ (b : Bool). Going a.source a.text.now a.tokens.now b l.tokens (l.at + size) (l.fill + c.record_size.result)) (sym c.if-writes.false) g,
-    )
 
 pub returns-in-BadByte : goal.returns-in-BadByte
 returns-in-BadByte c =
@@ -157,4 +101,41 @@ returns c =
     let a = c.args in (
       sym (l.invariant.4 ∙ answer_end a.source a.text.now l.at (length l.tokens) l.fill c.loop-at-test.false),
       going_end a.source a.text.now a.tokens.now l.tokens l.at l.fill a.writes c.loop-at-test.false l.invariant.5,
+    )
+
+pub overflow_add-at-in-Token : goal.overflow_add-at-in-Token
+overflow_add-at-in-Token c = omega (arith, (token (goal.at.overflow_add-at-in-Token c).In-Token).within)
+
+pub loop-at-preserved : goal.loop-at-preserved
+loop-at-preserved c =
+    let l = c.loop-at in
+    let a = c.args in
+    let kind = c.in-Token.kind in
+    let size = c.in-Token.size in
+    let d = c.if-writes.tokens in
+    let kept : length d ≡ length l.tokens = c.if-writes.auto.tokens in
+    let n : c.record_size.result ≡ record_size kind = c.record_size.ensures in
+    let r : l.fill + record_size kind ≤ length l.tokens = omega (arith, n, l.invariant.3) in
+    let t = (goal.at.loop-at-preserved c).In-Token in
+    let going : Bool → List ℕ → Type 0 = λ b x. Going a.source a.text.now a.tokens.now b x (l.at + size) (l.fill + record_size kind) in
+    let before : (b : Bool) → a.writes ≡ b → Going a.source a.text.now a.tokens.now b l.tokens l.at l.fill =
+    λ b e. subst (λ (b : Bool). Going a.source a.text.now a.tokens.now b l.tokens l.at l.fill) e l.invariant.5 in
+    let g : going a.writes d =
+    elim c.if-writes.branch [
+      | then-writes w ↦
+          subst (λ (b : Bool). going b d) (sym w.if-writes.true)
+          (going_put a.source a.text.now a.tokens.now l.tokens l.at l.fill _ c.loop-at-test.true c.piece_at.ensures kind size c.in-Token.is d kept
+          (w.tokens-is
+          ∙ w.put_token.ensures
+          ∙ ap (λ (x : Location). append l.tokens l.fill (token_bytes a.text.now (record { location = x; kind = kind }))) w.location_of-location.ensures)
+          (before true w.if-writes.true))
+      | else-writes w ↦
+          subst (λ (b : Bool). going b d) (sym w.if-writes.false) (subst (going false) (sym w.tokens-is) (before false w.if-writes.false))
+    ] in (
+      (token t).within,
+      omega (arith, r, n, kept),
+      kept ∙ l.invariant.2,
+      kept ∙ l.invariant.3,
+      onward t r ∙ ap₂ (λ (r m : ℕ). answer_at a.source a.text.now (l.at + size) r (l.fill + m)) (sym kept) (sym n),
+      subst (λ (m : ℕ). Going a.source a.text.now a.tokens.now a.writes d (l.at + size) (l.fill + m)) (sym n) g,
     )

@@ -1,4 +1,4 @@
-use Rattle.std.proofs.Common.{◌-◌, ◌^◌, ◌≡◌, ◌≤◌, ◌<◌, length}
+use Rattle.std.proofs.Common.{◌^◌, ◌≡◌, ◌<◌}
 use Rattle.text_runs.specs.Numbers.{number_in}
 use Rattle.text_runs.proofs.NumbersLaws.{number_from, digits_at}
 use Rattle.text_runs.proofs.number_in.Given as goal
@@ -6,7 +6,4 @@ use Rattle.text_runs.proofs.number_in.Given as goal
 -- the number is that of the digits from here on, behind the value so far
 abbrev pub invariant-loop-i : goal.invariant-loop-i
 invariant-loop-i l =
-    (l.i ≤ length l.text) × (l.value < 2 ^ 64) × (number_in l.base l.text ≡ number_from l.base l.value l.i (digits_at l.base l.text l.i))
-
-abbrev pub decreases-loop-i : goal.decreases-loop-i
-decreases-loop-i l = length l.text - l.i
+    (l.value < 2 ^ 64) × (number_in l.base l.text ≡ number_from l.base l.value l.i (digits_at l.base l.text l.i))

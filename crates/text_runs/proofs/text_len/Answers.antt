@@ -1,23 +1,13 @@
-use Rattle.std.proofs.Common.{length, ap, arith}
+use Rattle.std.specs.Prelude.{not}
+use Rattle.std.proofs.Common.{rules, tests}
+use Rattle.std.proofs.lemmas.Iterator.{YieldsList-from_slice}
+use Rattle.std.proofs.lemmas.Iterator.Search.{position_from_yields_List}
 use Rattle.text_runs.specs.Leading.{plain}
-use Rattle.text_runs.proofs.LeadingLaws.{leading_stop, leading_end, length_next, plain_low, plain_high, plain_ends, plain_is}
+use Rattle.text_runs.proofs.LeadingLaws.{leading_position}
 use Rattle.text_runs.proofs.text_len.Goals as goal
 
-pub returns-then-byte-lt32 : goal.returns-then-byte-lt32
-returns-then-byte-lt32 c =
-    omega (arith, ap length (leading_stop (plain c.args.end) c.args.text.now c.loop-i.i c.loop-i-test.true (plain_low _ _ c.if-byte-lt32.true)))
-
-pub returns-then-byte-gt126 : goal.returns-then-byte-gt126
-returns-then-byte-gt126 c =
-    omega (arith, ap length (leading_stop (plain c.args.end) c.args.text.now c.loop-i.i c.loop-i-test.true (plain_high _ _ c.if-byte-gt126.true)))
-
-pub returns-then-byte-end : goal.returns-then-byte-end
-returns-then-byte-end c =
-    omega (arith, ap length (leading_stop (plain c.args.end) c.args.text.now c.loop-i.i c.loop-i-test.true (plain_ends _ _ c.if-byte-end.true)))
-
-pub loop-i-preserved : goal.loop-i-preserved
-loop-i-preserved c =
-    omega (arith, length_next (plain c.args.end) c.args.text.now c.loop-i.i c.loop-i-test.true (plain_is _ _ c.if-byte-lt32.false c.if-byte-gt126.false c.if-byte-end.false))
-
 pub returns : goal.returns
-returns c = omega (arith, ap length (leading_end (plain c.args.end) c.args.text.now c.loop-i.i c.loop-i-test.false))
+returns c =
+    let s = c.args.text.now in
+    let e = position_from_yields_List (λ b. not (plain c.args.end b)) _ _ c.position.result c.position.ensures.ran (YieldsList-from_slice s cc) (λ x b q k. search (rules, tests)) in
+    rw c.unwrap_or.ensures (leading_position (plain c.args.end) s c.position.result e)

@@ -1,15 +1,13 @@
-use Rattle.std.proofs.Common.{length, ap, sym, ◌∙◌, arith}
+use Rattle.std.specs.Prelude.{not}
+use Rattle.std.proofs.Common.{rules, tests}
+use Rattle.std.proofs.lemmas.Iterator.{YieldsList-from_slice}
+use Rattle.std.proofs.lemmas.Iterator.Search.{position_from_yields_List}
 use Rattle.byte_class.specs.Class.{word_byte}
-use Rattle.text_runs.proofs.LeadingLaws.{leading_stop, leading_end, length_next}
+use Rattle.text_runs.proofs.LeadingLaws.{leading_position}
 use Rattle.text_runs.proofs.word_len.Goals as goal
 
-pub returns-then-not-is_word_byte : goal.returns-then-not-is_word_byte
-returns-then-not-is_word_byte c =
-    omega (arith, ap length (leading_stop word_byte c.args.text.now c.loop-i.i c.loop-i-test.true (sym c.is_word_byte.ensures ∙ c.if-not-is_word_byte.true)))
-
-pub loop-i-preserved : goal.loop-i-preserved
-loop-i-preserved c =
-    omega (arith, length_next word_byte c.args.text.now c.loop-i.i c.loop-i-test.true (sym c.is_word_byte.ensures ∙ c.if-not-is_word_byte.false))
-
 pub returns : goal.returns
-returns c = omega (arith, ap length (leading_end word_byte c.args.text.now c.loop-i.i c.loop-i-test.false))
+returns c =
+    let s = c.args.text.now in
+    let e = position_from_yields_List (λ b. not (word_byte b)) _ _ c.position.result c.position.ensures.ran (YieldsList-from_slice s cc) (λ x b q k. search (rules, tests)) in
+    rw c.unwrap_or.ensures (leading_position word_byte s c.position.result e)

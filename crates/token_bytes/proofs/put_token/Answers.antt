@@ -25,5 +25,5 @@ returns c =
     let bytes : ℕ → ℕ → Carried → List ℕ = λ n number x. append d at (le16_bytes n ++ le16_bytes number ++ location_bytes location ++ carried_bytes texts x) in
     let head = append_then _ _ _ _ _ c.put_head.ensures c.put_location.ensures (omega arith) (omega arith) in
     append_then _ _ _ _ _ head c.put_carried.ensures (omega arith) (omega (arith, ap (λ (x : Carried). length (carried_bytes texts x)) e))
-    ∙ ap (λ (k : ℕ). bytes k c.strip.result c.carried_by-payload.result) m
-    ∙ ap₂ (bytes (length body)) c.strip.ensures e
+    ∙ ap (λ (k : ℕ). bytes k c.from.result c.carried_by-payload.result) m
+    ∙ ap₂ (bytes (length body)) (c.from.ensures ∙ c.strip.ensures) e

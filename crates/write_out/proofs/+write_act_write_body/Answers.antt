@@ -1,4 +1,5 @@
 use Rattle.std.proofs.Common.{◌≡◌, ℕ, ◌≤◌, ◌<◌, List, length, sym, ap, subst, ◌∙◌, arith}
+use Rattle.std.proofs.lemmas.Result.{err_from_is_err_and}
 use Rattle.record.specs.Records.{next}
 use Rattle.macros.proofs.LayoutLaws.{body_part}
 use Rattle.written_out.specs.declared.Mode.{Mode}
@@ -37,25 +38,26 @@ pub write_act-write_body-requires : goal.write_act-write_body-requires
 write_act-write_body-requires t c = (
   omega (arith, c.decreases, (above_it c.requires.0 c.in-Call.is).0),
   (
-    subst (λ (x : List ℕ). Ready c.args.text.now c.args.macros.now c.in-Call.k x c.call_at-called.result.body)
-        (sym (body_part c.args.macros.now c.in-Call.k c.next-end.result c.next-end.ensures.0)) (c.call_at-called.ensures.opened c.in-Ok-verdict.is).ready,
+    subst (λ (x : List ℕ). Ready c.args.text.now c.args.macros.now c.in-Call.k x c.in_ok-inner-in-Call.inner)
+        (sym (body_part c.args.macros.now c.in-Call.k c.next-end.result c.next-end.ensures.0)) (c.call_at.ensures.opened _ c.in_ok-inner-in-Call.was).ready,
     c.requires.1,
     c.requires.2,
   ),
 )
 
-pub write_act-returns-in-Ok : goal.write_act-returns-in-Ok
-write_act-returns-in-Ok t c = record {
-  value = rw c.in-Ok.is (sym (answer_none (length c.args.out.now) c.args.fill));
-  out_after = rw c.in-Ok.is (none_left c.args.really c.args.out.now c.args.fill);
+pub write_act-returns-in-Pass : goal.write_act-returns-in-Pass
+write_act-returns-in-Pass t c = record {
+  value = rw c.in-Pass.is (sym (answer_none (length c.args.out.now) c.args.fill));
+  out_after = rw c.in-Pass.is (none_left c.args.really c.args.out.now c.args.fill);
 }
 
-pub write_act-returns-in-Err : goal.write_act-returns-in-Err
-write_act-returns-in-Err t c =
+pub write_act-returns-in_err-inner-in-Call : goal.write_act-returns-in_err-inner-in-Call
+write_act-returns-in_err-inner-in-Call t c =
+    let p = err_from_is_err_and c.from_residual.result c.from_residual.ensures.1 in
     let a = c.args in
     let steps = act_steps a.text.now a.macros.now a.levels a.list.now a.body a.place a.next in
-    let s = stop_left a.really a.out.now a.fill c.in-Err.r (steps a.act) (ap steps c.in-Call.is ∙ c.call_at-called.ensures.stopped c.in-Err.r c.in-Err.is) in
-    record { value = s.0; out_after = s.1 }
+    let s = stop_left a.really a.out.now a.fill _ (steps a.act) (ap steps c.in-Call.is ∙ c.call_at.ensures.stopped _ c.in_err-inner-in-Call.was) in
+    rw (p.1, p.2) (record { value = s.0; out_after = s.1 })
 
 -- ---- a body
 
@@ -117,11 +119,12 @@ write_body-loop-at-preserved t c =
       turn_rest g,
       rw c.mode_after-mode.ensures
           (same_call a.really a.out.now a.from (steps Leading a.body.start) l.out l.fill (steps l.mode l.at) l.invariant.1 (act_steps a.text.now a.macros.now a.levels a.list.now a.body c.place_at-place.result n c.act_at-act.result) (steps (mode_after c.act_at-act.result) n) (turn_act g a.levels) w.result w.new.out w.ensures.value w.ensures.out_after
-          c.in-Ok.f c.in-Ok.is w.auto.out),
+          _ c.in_ok-fill.was w.auto.out),
     )
 
-pub write_body-returns-in-Err : goal.write_body-returns-in-Err
-write_body-returns-in-Err t c =
+pub write_body-returns-in_err-fill : goal.write_body-returns-in_err-fill
+write_body-returns-in_err-fill t c =
+    let p = err_from_is_err_and c.from_residual.result c.from_residual.ensures.1 in
     let l = c.loop-at in
     let a = c.args in
     let w = c.write_act in
@@ -129,8 +132,8 @@ write_body-returns-in-Err t c =
     let g = turn l.invariant.0 c.loop-at-test.true c.next-next.ensures.0 c.place_at-place.ensures c.act_at-act.ensures in
     let steps = steps_from a.text.now a.macros.now a.most a.levels a.list.now a.body in
     let e = ends_call a.really a.out.now a.from (steps Leading a.body.start) l.out l.fill (steps l.mode l.at) l.invariant.1 (act_steps a.text.now a.macros.now a.levels a.list.now a.body c.place_at-place.result n c.act_at-act.result) (steps (mode_after c.act_at-act.result) n) (turn_act g a.levels) w.result w.new.out w.ensures.value w.ensures.out_after
-    c.in-Err.r c.in-Err.is in
-    record { value = e.answered; out_after = e.left }
+    _ c.in_err-fill.was in
+    rw (p.1, p.2) (record { value = e.answered; out_after = e.left })
 
 pub write_body-returns : goal.write_body-returns
 write_body-returns t c =

@@ -1,16 +1,19 @@
-use Rattle.std.proofs.Common.{◌≡◌, ℕ, ◌+◌, ◌-◌, ◌≤◌, length, sym, ap, ap₂, subst, ◌∙◌, arith}
+use Rattle.std.proofs.Common.{◌≡◌, ℕ, ◌+◌, ◌-◌, ◌≤◌, List, length, sym, ap, ap₂, subst, ◌∙◌, arith}
+use Rattle.std.proofs.lemmas.Result.{err_from_is_err_and}
 use Rattle.record.specs.Bytes.{part, location_at}
 use Rattle.record.specs.declared.Location.{Location}
 use Rattle.macros.specs.Macros.{count_of, macro_ok, body_at, head_of}
 use Rattle.macros.proofs.LayoutLaws.{body_part}
 use Rattle.macros.specs.declared.Head.{Head}
-use Rattle.written_out.specs.Written.{replaced}
+use Rattle.written_out.specs.Written.{Step, replaced}
 use Rattle.written_out.specs.Above.{macro_at, above}
 use Rattle.macro_tokens.specs.Places.{token_record}
 use Rattle.macro_tokens.specs.Arguments.{arguments_from}
 use Rattle.write_out.specs.Calls.{call_verdict, CallIs}
-use Rattle.write_out.proofs.CallsLaws.{bytes_ok, inside, call_is}
+use Rattle.write_out.proofs.CallsLaws.{bytes_ok, inside, called_of, call_is}
 use Rattle.write_out.proofs.call_at.Goals as goal
+use Rattle.write_out.proofs.call_at.Goals.{After-call_verdict}
+use Rattle.macro_tokens.specs.declared.Body.{Body}
 use Rattle.refusal.specs.Verdicts.{Verdict}
 
 pub next-end-requires : goal.next-end-requires
@@ -28,18 +31,30 @@ head_of-head-requires c =
     let s = c.requires.text_len_bound in
     ap macro_ok (body_part c.args.macros.now c.args.k c.next-end.result c.next-end.ensures.0) ∙ bytes_ok c.args.text.now c.args.macros.now c.args.k s.0 s.1 s.2
 
-pub overflow_add-inner : goal.overflow_add-inner
-overflow_add-inner c =
+pub overflow_add-result : goal.overflow_add-result
+overflow_add-result c =
     let s = c.requires.text_len_bound in
     omega (arith, s.0, inside c.args.text.now c.args.macros.now c.args.k s.0 s.1 s.2)
 
-pub overflow_add-inner-2 : goal.overflow_add-inner-2
-overflow_add-inner-2 c =
+pub overflow_add-result-2 : goal.overflow_add-result-2
+overflow_add-result-2 c =
     let s = c.requires.text_len_bound in
     omega (arith, s.0, inside c.args.text.now c.args.macros.now c.args.k s.0 s.1 s.2)
 
-pub returns : goal.returns
-returns c =
+abbrev body_from : After-call_verdict → Body
+body_from c =
+    let h = c.head_of-head.result in
+    record { base = length c.args.text.now + c.args.k + 4; start = h.body; names = h.names; count = h.count; args = c.arguments_from-taken.result.args }
+
+abbrev all_steps : After-call_verdict → List Step
+all_steps c =
+    let a = c.args in
+    replaced a.levels (location_at (token_record a.text.now a.macros.now a.place) 4) (macro_at a.macros.now a.k) (above a.macros.now a.k)
+    (arguments_from a.text.now a.macros.now a.list.now a.body a.next)
+
+-- the call, by its verdict
+called : (c : After-call_verdict) → CallIs c.args.text.now c.args.macros.now c.args.levels c.args.k (all_steps c) (called_of c.call_verdict.result (body_from c))
+called c =
     let a = c.args in
     let s = c.requires.text_len_bound in
     let t = c.arguments_from-taken in
@@ -49,11 +64,23 @@ returns c =
     let h : hd.result ≡ head_of b = hd.ensures.0 ∙ ap head_of m in
     let l = location_at (token_record a.text.now a.macros.now a.place) 4 in
     let given = arguments_from a.text.now a.macros.now a.list.now a.body a.next in
-    let v : c.call_verdict-verdict.result ≡ call_verdict l t.result.count (count_of b) a.levels =
-    c.call_verdict-verdict.ensures
+    let v : c.call_verdict.result ≡ call_verdict l t.result.count (count_of b) a.levels =
+    c.call_verdict.ensures
     ∙ ap₂ (λ (x : Location) (y : ℕ). call_verdict x t.result.count y a.levels) c.location_of-location.ensures (ap (λ (x : Head). x.count) h) in
     let start : (head_of b).body ≤ length b = omega (arith, hd.ensures.1, ap (λ (x : Head). x.body) h, ap length m) in
     subst (CallIs a.text.now a.macros.now a.levels a.k (replaced a.levels l (macro_at a.macros.now a.k) (above a.macros.now a.k) given))
     (sym
-    (ap₂ (λ (x : Verdict) (y : Head). record { verdict = x; body = record { base = length a.text.now + a.k + 4; start = y.body; names = y.names; count = y.count; args = t.result.args } }) v h))
+    (ap₂ (λ (x : Verdict) (y : Head). called_of x (record { base = length a.text.now + a.k + 4; start = y.body; names = y.names; count = y.count; args = t.result.args })) v h))
     (call_is a.text.now a.macros.now a.levels a.k l s.0 s.1 s.2 t.result given t.ensures start)
+
+pub returns-in_err-call_verdict : goal.returns-in_err-call_verdict
+returns-in_err-call_verdict c =
+    let p = err_from_is_err_and c.from_residual.result c.from_residual.ensures.1 in
+    let g = (goal.at.returns-in_err-call_verdict c).After-call_verdict in
+    rw (p.1, p.2)
+    (subst (CallIs c.args.text.now c.args.macros.now c.args.levels c.args.k (all_steps g)) (ap (λ (v : Verdict). called_of v (body_from g)) c.in_err-call_verdict.was) (called g))
+
+pub returns : goal.returns
+returns c =
+    let g = (goal.at.returns c).After-call_verdict in
+    subst (CallIs c.args.text.now c.args.macros.now c.args.levels c.args.k (all_steps g)) (ap (λ (v : Verdict). called_of v (body_from g)) c.in_ok-call_verdict.was) (called g)

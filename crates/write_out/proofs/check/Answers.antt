@@ -1,33 +1,58 @@
-use Rattle.std.proofs.Common.{sym, arith}
-use Rattle.write_out.proofs.EntryLaws.{token_place, macro_place, repeat_place, stop_tokens, stop_macros, stop_room, stop_name}
+use Rattle.std.specs.Prelude.{None}
+use Rattle.std.proofs.Common.{◌≡◌, sym, ap, ◌∙◌, arith}
+use Rattle.std.proofs.lemmas.Result.{err_from_is_err_and}
+use Rattle.refusal.specs.Verdicts.{layout_verdict}
+use Rattle.refusal.proofs.VerdictsLaws.{layout_pass}
+use Rattle.lexer.specs.Tokens.{token_layout}
+use Rattle.macros.specs.Macros.{macro_layout}
+use Rattle.write_out.proofs.EntryLaws.{token_place, macro_place, repeat_place, first_stops, second_stops, stop_room, stop_name}
 use Rattle.write_out.proofs.check.Goals as goal
+use Rattle.write_out.proofs.check.Goals.{After-first_bad_macro, After-first_repeat}
 
-pub overflow_cast-result : goal.overflow_cast-result
-overflow_cast-result c = omega (arith, token_place c.args.tokens.now c.in-Some.place (sym c.in-Some.ensures))
+pub check_layout-requires : goal.check_layout-requires
+check_layout-requires c = λ p e. omega (arith, token_place c.args.tokens.now p (sym c.first_bad_token.ensures ∙ e))
 
-pub returns-in-Some : goal.returns-in-Some
-returns-in-Some c = sym (stop_tokens c.args.tokens.now c.args.macros.now c.args.room _ (sym c.in-Some.ensures))
+pub returns-in_err-check_layout : goal.returns-in_err-check_layout
+returns-in_err-check_layout c =
+    let a = c.args in
+    let p = err_from_is_err_and c.from_residual.result c.from_residual.ensures.1 in
+    rw (p.1, p.2)
+    (sym (first_stops a.tokens.now a.macros.now a.room _ (ap (layout_verdict 0) (sym c.first_bad_token.ensures) ∙ sym c.check_layout.ensures ∙ c.in_err-check_layout.was)))
 
-pub overflow_cast-result-in-Some-first_bad_macro : goal.overflow_cast-result-in-Some-first_bad_macro
-overflow_cast-result-in-Some-first_bad_macro c =
-    omega (arith, macro_place c.args.macros.now c.in-Some-first_bad_macro.place (sym c.in-Some-first_bad_macro.ensures))
+tokens_good : (c : After-first_bad_macro) → token_layout c.args.tokens.now ≡ None
+tokens_good c = sym c.first_bad_token.ensures ∙ layout_pass 0 c.first_bad_token.result (sym c.check_layout.ensures ∙ c.in_ok-check_layout.was)
 
-pub returns-in-Some-first_bad_macro : goal.returns-in-Some-first_bad_macro
-returns-in-Some-first_bad_macro c =
-    sym (stop_macros c.args.tokens.now c.args.macros.now c.args.room (sym c.in_default.ensures) _ (sym c.in-Some-first_bad_macro.ensures))
+pub check_layout-requires-2 : goal.check_layout-requires-2
+check_layout-requires-2 c = λ p e. omega (arith, macro_place c.args.macros.now p (sym c.first_bad_macro.ensures ∙ e))
+
+pub returns-in_err-check_layout-2 : goal.returns-in_err-check_layout-2
+returns-in_err-check_layout-2 c =
+    let a = c.args in
+    let p = err_from_is_err_and c.from_residual-in_err-check_layout-2.result c.from_residual-in_err-check_layout-2.ensures.1 in
+    let g = tokens_good (goal.at.returns-in_err-check_layout-2 c).After-first_bad_macro in
+    rw (p.1, p.2)
+    (sym (second_stops a.tokens.now a.macros.now a.room g _ (ap (layout_verdict 1) (sym c.first_bad_macro.ensures) ∙ sym c.check_layout-2.ensures ∙ c.in_err-check_layout-2.was)))
 
 pub returns-then-room-gt-LIMIT : goal.returns-then-room-gt-LIMIT
 returns-then-room-gt-LIMIT c =
-    sym (stop_room c.args.tokens.now c.args.macros.now c.args.room (sym c.in_default.ensures) (sym c.in_default-first_bad_macro.ensures) c.if-room-gt-LIMIT.true)
+    let a = c.args in
+    let m = sym c.first_bad_macro.ensures ∙ layout_pass 1 c.first_bad_macro.result (sym c.check_layout-2.ensures ∙ c.in_ok-check_layout-2.was) in
+    sym (stop_room a.tokens.now a.macros.now a.room (tokens_good (goal.at.returns-then-room-gt-LIMIT c).After-first_bad_macro) m c.if-room-gt-LIMIT.true)
 
-pub overflow_cast-result-in-Some : goal.overflow_cast-result-in-Some
-overflow_cast-result-in-Some c =
-    omega (arith, repeat_place c.args.macros.now c.in-Some.place (sym c.in_default-first_bad_macro.ensures) (sym c.in-Some.ensures))
+pub first_repeat-requires : goal.first_repeat-requires
+first_repeat-requires c =
+    sym c.first_bad_macro.ensures ∙ layout_pass 1 c.first_bad_macro.result (sym c.check_layout-2.ensures ∙ c.in_ok-check_layout-2.was)
 
-pub returns-in-Some : goal.returns-in-Some
-returns-in-Some c =
-    sym (stop_name c.args.tokens.now c.args.macros.now c.args.room (sym c.in_default.ensures) (sym c.in_default-first_bad_macro.ensures) c.if-room-gt-LIMIT.false _ (sym c.in-Some.ensures))
+macros_good : (c : After-first_repeat) → macro_layout c.args.macros.now ≡ None
+macros_good c = sym c.first_bad_macro.ensures ∙ layout_pass 1 c.first_bad_macro.result (sym c.check_layout-2.ensures ∙ c.in_ok-check_layout-2.was)
+
+pub check_names-requires : goal.check_names-requires
+check_names-requires c =
+    let g = macros_good (goal.at.check_names-requires c).After-first_repeat in
+    λ p e. omega (arith, repeat_place c.args.macros.now p g (sym c.first_repeat.ensures ∙ e))
 
 pub returns : goal.returns
 returns c =
-    sym (stop_name c.args.tokens.now c.args.macros.now c.args.room (sym c.in_default.ensures) (sym c.in_default-first_bad_macro.ensures) c.if-room-gt-LIMIT.false _ (sym c.in_default-first_repeat.ensures))
+    let a = c.args in
+    let g = goal.at.returns c in
+    c.check_names.ensures ∙ sym (stop_name a.tokens.now a.macros.now a.room (tokens_good g.After-first_bad_macro) (macros_good g.After-first_repeat) c.if-room-gt-LIMIT.false _ (sym c.first_repeat.ensures))

@@ -1,30 +1,35 @@
 use Rattle.std.proofs.Common.{sym, arith}
+use Rattle.std.proofs.lemmas.Result.{err_from_is_err_and}
 use Rattle.write_out.proofs.EntryLaws.{passed, stopped_outcome, refused_outcome, written_outcome}
 use Rattle.write_out.proofs.write_out.Goals as goal
 
-pub returns-in-Err : goal.returns-in-Err
-returns-in-Err c = stopped_outcome c.args.tokens.now c.args.macros.now c.args.out.now _ (sym c.in-Err.ensures)
-
-pub write_all-answer-requires : goal.write_all-answer-requires
-write_all-answer-requires c =
-    let p = passed c.args.tokens.now c.args.macros.now c.args.out.now (sym c.in_default.ensures) in
-    (p.tokens_good, p.macros_good, p.room)
+pub returns-in_err-check : goal.returns-in_err-check
+returns-in_err-check c =
+    let p = err_from_is_err_and c.from_residual.result c.from_residual.ensures.1 in
+    rw (p.1, p.2) (stopped_outcome c.args.tokens.now c.args.macros.now c.args.out.now _ (sym c.in_err-check.ensures))
 
 pub write_all-requires : goal.write_all-requires
 write_all-requires c =
-    let p = passed c.args.tokens.now c.args.macros.now c.args.out.now (sym c.in_default.ensures) in
-    (p.tokens_good, p.macros_good, omega (arith, p.room, c.write_all-answer.auto.out))
+    let p = passed c.args.tokens.now c.args.macros.now c.args.out.now (sym c.in_ok-check.ensures) in
+    (p.tokens_good, p.macros_good, p.room)
 
-pub returns-then-is_written : goal.returns-then-is_written
-returns-then-is_written c =
+pub returns-in_err-write_all : goal.returns-in_err-write_all
+returns-in_err-write_all c =
     let a = c.args in
-    let w = c.write_all-answer in
-    written_outcome a.tokens.now a.macros.now a.out.now (sym c.in_default.ensures) w.result w.ensures.value w.new.out w.ensures.out_after
-    (sym c.if-is_written.ensures) c.write_all.new.out c.write_all.ensures.out_after
+    let w = c.write_all in
+    let p = err_from_is_err_and c.from_residual-in_err-write_all.result c.from_residual-in_err-write_all.ensures.1 in
+    rw (p.1, p.2)
+    (refused_outcome a.tokens.now a.macros.now a.out.now (sym c.in_ok-check.ensures) w.result w.ensures.value w.new.out w.ensures.out_after _ c.in_err-write_all.was)
 
-pub returns-else-is_written : goal.returns-else-is_written
-returns-else-is_written c =
+pub write_all-requires-2 : goal.write_all-requires-2
+write_all-requires-2 c =
+    let p = passed c.args.tokens.now c.args.macros.now c.args.out.now (sym c.in_ok-check.ensures) in
+    (p.tokens_good, p.macros_good, omega (arith, p.room, c.write_all.auto.out))
+
+pub returns : goal.returns
+returns c =
     let a = c.args in
-    let w = c.write_all-answer in
-    refused_outcome a.tokens.now a.macros.now a.out.now (sym c.in_default.ensures) w.result w.ensures.value w.new.out w.ensures.out_after
-    (sym c.if-is_written.ensures)
+    let w = c.write_all in
+    let v = c.write_all-2 in
+    written_outcome a.tokens.now a.macros.now a.out.now (sym c.in_ok-check.ensures) w.result w.ensures.value w.new.out w.ensures.out_after _ c.in_ok-write_all.was
+    v.result v.ensures.value v.new.out v.ensures.out_after
