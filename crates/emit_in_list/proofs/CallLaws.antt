@@ -66,11 +66,11 @@ module _ (token_list : List ℕ) (line : Location) (numbers : LineNumbers) (lent
       let f = (and-eq-true_iff (leb filled (length lent.region_data)) (leb filled most_data)).0 (fits (leb filled (length lent.region_data) && leb filled most_data) b₂.0) in
       (selected (eqb numbers.place.region no_region) b₀.0, leb-true filled (length lent.region_data) f.0, leb-true filled most_data f.1)
     where
-      selected : (b : Bool) → elim b [ true ↦ Err (MissingRegion line) | false ↦ Ok tt ] ≡ Ok tt → b ≡ false
+      selected : (b : Bool) → ◌≡◌ {A = Verdict} (elim b [ true ↦ Err (MissingRegion line) | false ↦ Ok tt ]) (Ok tt) → b ≡ false
       selected true x = let z : ◌≡◌ {A = ℕ} 0 1 = cc in absurd (omega arith)
       selected false x = refl
 
-      fits : (b : Bool) → elim b [ true ↦ Ok tt | false ↦ Err (NoSpace line 0) ] ≡ Ok tt → b ≡ true
+      fits : (b : Bool) → ◌≡◌ {A = Verdict} (elim b [ true ↦ Ok tt | false ↦ Err (NoSpace line 0) ]) (Ok tt) → b ≡ true
       fits true x = refl
       fits false x = let z : ◌≡◌ {A = ℕ} 0 1 = cc in absurd (omega arith)
 

@@ -1,12 +1,15 @@
 -- The check of a whole index: what is read so far is seen and its bytes are those read; where the bytes are the index's, each record passes. Assumes nothing.
 use Rattle.std.specs.Prelude.{ℕ, zero, suc, ◌+◌, ◌≤◌, ◌<◌, List, [], ◌∷◌, ◌++◌, Bool, true, false, ◌≡◌, refl, length, take, drop, get_or, eqb, None, Option}
-use Rattle.std.proofs.Common.{arith, add-one, append_assoc, sym, ap, ap₂, ◌∙◌, length-take-le, drop-cons, eqb-true, eq-eqb, ne_eqb}
+use Rattle.std.proofs.Common.{arith, add-one, append_assoc, sym, ap, ap₂, ◌∙◌, subst, length-take-le, drop-cons, eqb-true, eq-eqb, ne_eqb}
 use mathlib.Core.List.Memᴰ
 use Rattle.std.proofs.Math.Seq.{drop-length}
 use Rattle.std.proofs.lemmas.Bool.{eqb-false}
 use Rattle.record.specs.Bytes.{byte_at, same_bytes}
 use Rattle.record.proofs.BytesLaws.{same_eq, eq_same}
-use Rattle.record.specs.Records.{next, places, first_bad}
+use Rattle.record.specs.Records.{next, places, places_from, first_bad}
+use Rattle.record.proofs.RecordsLaws.{places_cons}
+use Rattle.record.proofs.OneMoreLaws.{is_whole}
+use Rattle.use_adding.proofs.AddingLaws.{left_behind}
 use Rattle.address_label.proofs.AddressLabelsLaws.{at_constant, at_named}
 use Rattle.pending.specs.Pendings.{label_of, pending_ok}
 use Rattle.label_uses.specs.Uses.{UseKey, Use, use_order, uses_of}
@@ -151,6 +154,34 @@ module _ (labels pending s : List ℕ) (fill at last sum : ℕ) (c : Checked lab
         go : (b : Bool) → eqb sum n ≡ b → eqb sum n ≡ same_bytes (take fill s) (index_of labels pending)
         go true b = b ∙ same_yes (take fill s) (index_of labels pending) (end_same h (eqb-true sum n b ∙ e))
         go false b = b ∙ same_no (take fill s) (index_of labels pending) (λ k. eqb-false sum n b (end_other h k ∙ sym e))
+
+-- ---- the same over the places that a loop over an index has left
+pub record CheckedLeft (labels pending s : List ℕ) (last sum : ℕ) (left : List ℕ) : Type 0 where
+  pub at : ℕ
+  pub checked : Checked labels pending s (length s) at last sum
+  pub left_are : left ≡ places_from s at
+
+-- a loop's turn, which takes the place p
+pub record CheckedTurn (labels pending s : List ℕ) (last sum p : ℕ) (ps : List ℕ) : Type 0 where
+  pub within : p < length s
+  pub checked : Checked labels pending s (length s) p last sum
+  pub first : places_from s p ≡ p ∷ ps
+
+pub checked_turn : (labels pending s : List ℕ) (last sum p : ℕ) (left ps : List ℕ) → CheckedLeft labels pending s last sum left → left ≡ p ∷ ps → CheckedTurn labels pending s last sum p ps
+checked_turn labels pending s last sum p left ps c e =
+    let f : places_from s c.at ≡ p ∷ ps = sym c.left_are ∙ e in
+    let w = places_cons s c.at p ps f in
+    record {
+      within = omega (arith, w.0, w.1);
+      checked = subst (λ (k : ℕ). Checked labels pending s (length s) k last sum) (sym w.1) c.checked;
+      first = subst (λ (k : ℕ). places_from s k ≡ p ∷ ps) (sym w.1) f;
+    }
+
+-- the places left behind a record that passes
+pub fine_behind : (labels pending s : List ℕ) (last p : ℕ) (ps : List ℕ) → RecordFine labels pending s (length s) last p → p < length s → places_from s p ≡ p ∷ ps → ps ≡ places_from s (next s p)
+fine_behind labels pending s last p ps f h e =
+    let u : UseAt s p = in_at s (length s) p f.record_in in
+    left_behind s p ps h (is_whole s p (omega (arith, u.room, u.within)) u.within) e
 
 -- ---- how many pendings name a label
 sum_first : (f : ℕ → ℕ) (n : ℕ) → sum_to f (suc n) ≡ f 0 + sum_to (λ (i : ℕ). f (suc i)) n

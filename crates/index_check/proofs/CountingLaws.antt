@@ -1,5 +1,6 @@
 -- The check of a record's numbers, one after the other: all are right exactly if those that are left are. Assumes nothing.
-use Rattle.std.specs.Prelude.{ℕ, ◌+◌, ◌*◌, ◌-◌, ◌≤◌, ◌<◌, List, Bool, true, false, ◌≡◌, length}
+use Rattle.std.specs.Prelude.{ℕ, ◌+◌, ◌*◌, ◌-◌, ◌≤◌, ◌<◌, List, Bool, true, false, ◌≡◌, length, Option}
+use Rattle.std.specs.Option.{ForSome, is_some, unwrap_or}
 use Rattle.std.proofs.Common.{arith, sym, ap₂, subst}
 use Rattle.record.specs.Bytes.{le16}
 use Rattle.label_uses.specs.Uses.{UseKey, key_for}
@@ -8,6 +9,10 @@ use Rattle.label_uses.specs.declared.Standing.{Standing}
 use Rattle.use_adding.specs.Adding.{UseAt}
 use Rattle.index_check.specs.Checks.{StandsFrom, NumbersFrom}
 use Rattle.index_check.proofs.NumbersLaws.{OneRight, numbers_end, numbers_open, numbers_shut}
+
+-- the source that was looked up last, if there is one, has the key
+pub stands_some : (labels name : List ℕ) (key : UseKey) (last : Option ℕ) → StandsFrom (is_some last) (key_for labels (unwrap_or last 0) name) key → ForSome last (λ (known : ℕ). key_for labels known name ≡ key)
+stands_some labels name key last h known e = subst (λ (o : Option ℕ). StandsFrom (is_some o) (key_for labels (unwrap_or o 0) name) key) e h
 
 abbrev AllRight : (labels pending index : List ℕ) (at : ℕ) → Type 0
 AllRight labels pending index at = NumbersFrom labels pending (key_read index at) index (count_at index at) (at + 7) 0

@@ -138,6 +138,6 @@ module _ (labels pending ps : List ℕ) (are : ps ≡ places pending) (s : List 
   }
 
 -- ---- the source that was looked up last
-pub still_true : (labels : List ℕ) (Some : Bool) (last source : ℕ) (name : List ℕ) (key : UseKey) → StandsFrom Some (key_for labels last name) key → Some ≡ true → last ≡ source → key_for labels source name ≡ key
+pub still_true : (labels : List ℕ) (some : Bool) (last source : ℕ) (name : List ℕ) (key : UseKey) → StandsFrom some (key_for labels last name) key → some ≡ true → last ≡ source → key_for labels source name ≡ key
 still_true labels true last source name key h e f = ap (λ (m : ℕ). key_for labels m name) (sym f) ∙ h
 still_true labels false last source name key h e f = never (cc)

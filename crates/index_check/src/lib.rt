@@ -1,7 +1,9 @@
 // Whether a handed-in index is that of a pending list by a label list, decided without making one.
 #![tactic(auto)]
 
-ghost use Rattle.std.specs.Prelude.{◌≡◌, ◌+◌, ◌≤◌, ◌<◌, length, take, get_or};
+ghost use Rattle.std.specs.Prelude.{◌≡◌, ◌+◌, ◌≤◌, ◌<◌, length, get_or};
+ghost use Rattle.std.specs.Option.{ForSome};
+ghost use Rattle.std.specs.declared.cmp.Ordering.TheVariants.{Less};
 ghost use Rattle.record.specs.Bytes.{same_bytes};
 ghost use Rattle.record.specs.Records.{places, first_bad, limit};
 ghost use Rattle.names.specs.Owners.{has_owned_name};
@@ -13,11 +15,10 @@ ghost use Rattle.label_uses.specs.Uses.{use_order, key_for};
 ghost use Rattle.label_uses.specs.UseBytes.{index_of, index_layout};
 ghost use Rattle.label_uses.specs.ReadUse.{count_at, key_with, key_read};
 ghost use Rattle.use_adding.specs.Adding.{UseAt};
-ghost use Rattle.index_check.specs.Checks.{Tells, RecordIn, source_in, StandsFrom, NumbersFrom, Lists, RecordFine, names_in};
+ghost use Rattle.index_check.specs.Checks.{Tells, RecordIn, source_in, NumbersFrom, Lists, RecordFine, names_in};
 
 use address_label::AddressLabel;
 use label_uses::Standing;
-use std::cmp::Ordering;
 
 // The most pendings of a list: one has 36 bytes at least.
 const MOST_PENDINGS: usize = 1820;
@@ -32,18 +33,12 @@ pub struct UsesChecked {
     pub repeat: Option<usize>,
 }
 
-// The source whose standing was looked up last, if there is one.
-#[derive(Clone, Copy)]
-struct Looked {
-    some: bool,
-    source: u32,
-}
-
-// Whether the record at `at` can be one of an index with that fill count.
-fn record_ok(index: &[u8], fill: usize, at: usize) -> bool
-    requires { (at < fill) × (fill ≤ length index.now) × (length index.now ≤ limit) }
-    ensures { Tells result (RecordIn index.now fill at) }
+// Whether the record at `at` can be one of an index.
+fn record_ok(index: &[u8], at: usize) -> bool
+    requires { (at < length index.now) × (length index.now ≤ limit) }
+    ensures { Tells result (RecordIn index.now (length index.now) at) }
 {
+    let fill = index.len();
     if fill < at + 11 {
         return false;
     }
@@ -95,14 +90,10 @@ fn key_rises(index: &[u8], last: usize, at: usize) -> bool
     ensures { Tells result (use_order (key_read index.now last) (key_read index.now at) ≡ Less) }
 {
     let standing = standing_at(index, last);
-    match use_adding::order_at(index, at, name_at(index, last), standing) {
-        Ordering::Less => true,
-        Ordering::Equal => false,
-        Ordering::Greater => false,
-    }
+    use_adding::order_at(index, at, name_at(index, last), standing).is_lt()
 }
 
-// The same, where the record at `at` is not the first.
+// The same, where the record at `at` is not the first; kept: `RecordFine` of specs/ takes the last place as a number.
 fn key_follows(index: &[u8], last: usize, at: usize) -> bool
     requires { (0 < at → UseAt index.now last) × UseAt index.now at }
     ensures { Tells result (0 < at → use_order (key_read index.now last) (key_read index.now at) ≡ Less) }
@@ -118,14 +109,12 @@ fn source_of(pending: &[u8], at: usize, name: &[u8]) -> Option<u32>
     requires { PendingIs pending.now at }
     ensures { result ≡ source_in pending.now name.now (label_of pending.now at) }
 {
-    let waits = pending::read_pending(pending, at);
-    let label = waits.label;
+    let label = pending::read_pending(pending, at).label;
     match label {
         AddressLabel::Constant(_) => None,
         AddressLabel::Label(l) => {
-            let location = l.location;
             if record::same(address_label::name_of(pending, label), name) {
-                Some(location.source)
+                Some(l.location.source)
             } else {
                 None
             }
@@ -140,16 +129,12 @@ fn stands_for(labels: &[u8], order: &[u16], source: u32, name: &[u8], standing: 
     ensures { Tells result (key_for labels.now source name.now ≡ key_with name.now standing) }
 {
     let met = use_adding::standing_of(labels, order, source, name);
-    match use_adding::order_standing(met, standing.known, standing.owner) {
-        Ordering::Less => false,
-        Ordering::Equal => true,
-        Ordering::Greater => false,
-    }
+    use_adding::order_standing(met, standing.known, standing.owner).is_eq()
 }
 
-// The same, but for the source that was looked up last.
+// The same, but for the source that was looked up last, if there is one.
 fn still_stands(
-    last: Looked,
+    last: Option<u32>,
     labels: &[u8],
     order: &[u16],
     source: u32,
@@ -158,13 +143,11 @@ fn still_stands(
 ) -> bool
     requires labels_value { first_bad (has_owned_name 4 labels.now) (places labels.now) ≡ None }
     requires index_of { IndexOf 4 labels.now order.now × (length order.now < 65536) }
-    requires stands_from { StandsFrom last.some (key_for labels.now last.source name.now) (key_with name.now standing) }
+    requires stands_from { ForSome last (λ known. key_for labels.now known name.now ≡ key_with name.now standing) }
     ensures { Tells result (key_for labels.now source name.now ≡ key_with name.now standing) }
 {
-    if last.some {
-        if last.source == source {
-            return true;
-        }
+    if last == Some(source) {
+        return true;
     }
     stands_for(labels, order, source, name, standing)
 }
@@ -184,35 +167,25 @@ fn numbers_right(
 {
     let name = name_at(index, at);
     let standing = standing_at(index, at);
-    let mut left = record::half_at(index, at + 5);
-    let mut from = at + 7;
+    let count = record::half_at(index, at + 5);
     let mut least: usize = 0;
-    let mut last = Looked {
-        some: false,
-        source: 0,
-    };
-    while 0 < left {
-        let n = record::half_at(index, from);
+    let mut last: Option<u32> = None;
+    for i in 0..count {
+        let n = record::half_at(index, at + 7 + 2 * i);
         if n < least {
             return false;
         }
         if n >= places.len() {
             return false;
         }
-        match source_of(pending, record::widened(places[n]), name) {
-            None => {
-                return false;
-            }
-            Some(source) => {
-                if !still_stands(last, labels, order, source, name, standing) {
-                    return false;
-                }
-                last = Looked { some: true, source };
-                least = n + 1;
-                from = from + 2;
-                left = left - 1;
-            }
+        let Some(source) = source_of(pending, record::widened(places[n]), name) else {
+            return false;
+        };
+        if !still_stands(last, labels, order, source, name, standing) {
+            return false;
         }
+        last = Some(source);
+        least = n + 1;
     }
     true
 }
@@ -220,7 +193,6 @@ fn numbers_right(
 // Whether the record at `at`, behind the one at `last` if it is not the first, is one of the list's index.
 fn record_fine(
     index: &[u8],
-    fill: usize,
     last: usize,
     at: usize,
     pending: &[u8],
@@ -228,11 +200,11 @@ fn record_fine(
     labels: &[u8],
     order: &[u16],
 ) -> bool
-    requires at_lt_fill { (at < fill) × (fill ≤ length index.now) × (length index.now ≤ limit) × (0 < at → UseAt index.now last) }
+    requires at_lt_fill { (at < length index.now) × (length index.now ≤ limit) × (0 < at → UseAt index.now last) }
     requires lists { Lists labels.now order.now pending.now places.now }
-    ensures { Tells result (RecordFine labels.now pending.now index.now fill last at) }
+    ensures { Tells result (RecordFine labels.now pending.now index.now (length index.now) last at) }
 {
-    if !record_ok(index, fill, at) {
+    if !record_ok(index, at) {
         return false;
     }
     if !key_follows(index, last, at) {
@@ -247,48 +219,40 @@ fn count_names(pending: &[u8], places: &[u16]) -> usize
     ensures { result ≡ names_in pending.now places.now }
 {
     let mut n: usize = 0;
-    let mut i: usize = 0;
-    while i < places.len() {
-        let at = record::widened(places[i]);
-        if pending[at + 19] == 0 {
-            i = i + 1;
-        } else {
-            n = n + 1;
-            i = i + 1;
+    for &place in places {
+        if pending[record::widened(place) + 19] != 0 {
+            n += 1;
         }
     }
     n
 }
 
-// Whether the first `fill` bytes are the index of the pendings at the places.
-fn is_index(
-    index: &[u8],
-    fill: usize,
-    pending: &[u8],
-    places: &[u16],
-    labels: &[u8],
-    order: &[u16],
-) -> bool
-    requires fill_in_bounds { (fill ≤ length index.now) × (length index.now ≤ limit) × (length pending.now ≤ limit) }
+// Whether the bytes are the index of the pendings at the places.
+fn is_index(index: &[u8], pending: &[u8], places: &[u16], labels: &[u8], order: &[u16]) -> bool
+    requires short { (length index.now ≤ limit) × (length pending.now ≤ limit) }
     requires lists { Lists labels.now order.now pending.now places.now }
-    ensures { result ≡ same_bytes (take fill index.now) (index_of labels.now pending.now) }
+    ensures { result ≡ same_bytes index.now (index_of labels.now pending.now) }
 {
-    let mut at: usize = 0;
     let mut last: usize = 0;
     let mut sum: usize = 0;
-    while at < fill {
-        if !record_fine(index, fill, last, at, pending, places, labels, order) {
+    for at in record::places(index) {
+        if !record_fine(index, last, at, pending, places, labels, order) {
             return false;
         }
-        sum = sum + record::half_at(index, at + 5);
+        sum += record::half_at(index, at + 5);
         last = at;
-        at = record::next(index, at);
     }
     sum == count_names(pending, places)
 }
 
 // Refusal 1 for an index: over the limit, a fill count over its length, or any other bytes than those of the index made afresh.
-fn check_index(index: &[u8], fill: usize, pending: &[u8], labels: &[u8], order: &[u16]) -> Option<usize>
+fn check_index(
+    index: &[u8],
+    fill: usize,
+    pending: &[u8],
+    labels: &[u8],
+    order: &[u16],
+) -> Option<usize>
     requires pending_value { first_bad (pending_ok 16 pending.now) (places pending.now) ≡ None }
     requires pending_len_bound { length pending.now ≤ limit }
     requires labels_value { first_bad (has_owned_name 4 labels.now) (places labels.now) ≡ None }
@@ -303,7 +267,7 @@ fn check_index(index: &[u8], fill: usize, pending: &[u8], labels: &[u8], order: 
     }
     let mut places = [0u16; MOST_PENDINGS];
     let n = name_index::fill(pending, 0, &mut places);
-    if is_index(index, fill, pending, &places[..n], labels, order) {
+    if is_index(&index[..fill], pending, &places[..n], labels, order) {
         None
     } else {
         Some(0)

@@ -16,12 +16,8 @@ use refusal::Refusal;
 fn check_layouts(pending: &[u8], fill: usize, labels: &[u8], index: &[u8]) -> Result<(), Refusal>
     ensures { result ≡ make_layouts fill pending.now labels.now index.now }
 {
-    if let Some(place) = breakpoints::check_pending_buffer(pending, fill) {
-        return Err(Refusal::BadLayout(0, place as u32));
-    }
-    if let Some(place) = labels::first_bad_label(labels) {
-        return Err(Refusal::BadLayout(1, place as u32));
-    }
+    refusal::check_layout(0, breakpoints::check_pending_buffer(pending, fill))?;
+    refusal::check_layout(1, labels::first_bad_label(labels))?;
     if index.len() > record::LIMIT {
         return Err(Refusal::BadLayout(2, 65536));
     }
@@ -40,7 +36,12 @@ fn no_space() -> Result<u32, Refusal>
 }
 
 // The index into a buffer shorter than the pending list: it is made beside it, and copied if it has room.
-fn fill_shorter(index: &mut [u8], pending: &[u8], labels: &[u8], order: &[u16]) -> Result<u32, Refusal>
+fn fill_shorter(
+    index: &mut [u8],
+    pending: &[u8],
+    labels: &[u8],
+    order: &[u16],
+) -> Result<u32, Refusal>
     requires pending_value { first_bad (pending_ok 16 pending.now) (places pending.now) ≡ None }
     requires pending_len_bound { (length pending.now ≤ limit) × (length index.old ≤ limit) }
     requires labels_value { first_bad (has_owned_name 4 labels.now) (places labels.now) ≡ None }
@@ -53,12 +54,17 @@ fn fill_shorter(index: &mut [u8], pending: &[u8], labels: &[u8], order: &[u16]) 
     if n > index.len() {
         return no_space();
     }
-    record::put_all(index, 0, &made[..n]);
+    index[..n].copy_from_slice(&made[..n]);
     Ok(n as u32)
 }
 
 // The index at the start of its buffer. One as long as the pending list always has room for it.
-fn fill_or_refuse(index: &mut [u8], pending: &[u8], labels: &[u8], order: &[u16]) -> Result<u32, Refusal>
+fn fill_or_refuse(
+    index: &mut [u8],
+    pending: &[u8],
+    labels: &[u8],
+    order: &[u16],
+) -> Result<u32, Refusal>
     requires pending_value { first_bad (pending_ok 16 pending.now) (places pending.now) ≡ None }
     requires pending_len_bound { (length pending.now ≤ limit) × (length index.old ≤ limit) }
     requires labels_value { first_bad (has_owned_name 4 labels.now) (places labels.now) ≡ None }
@@ -73,18 +79,19 @@ fn fill_or_refuse(index: &mut [u8], pending: &[u8], labels: &[u8], order: &[u16]
 }
 
 // Makes the index of the first `fill` bytes of a pending buffer by a label list, and answers its fill count. Bytes behind it stay.
-pub fn make_index(pending: &[u8], fill: u32, labels: &[u8], index: &mut [u8]) -> Result<u32, Refusal>
+pub fn make_index(
+    pending: &[u8],
+    fill: u32,
+    labels: &[u8],
+    index: &mut [u8],
+) -> Result<u32, Refusal>
     ensures { make_outcome fill pending.now labels.now index.old ≡ made_of result index.new }
 {
     let kept = fill as usize;
-    if let Err(refusal) = check_layouts(pending, kept, labels, &*index) {
-        return Err(refusal);
-    }
+    check_layouts(pending, kept, labels, &*index)?;
     let mut order = [0u16; labels::MOST];
     let mut spare = [0u16; labels::MOST];
     let n = labels::make_index(labels, &mut order, &mut spare);
-    if let Some(place) = labels::first_repeat(labels, &order[..n]) {
-        return Err(Refusal::DuplicateName(1, place as u32));
-    }
+    refusal::check_names(1, labels::first_repeat(labels, &order[..n]))?;
     fill_or_refuse(index, &pending[..kept], labels, &order[..n])
 }

@@ -45,7 +45,7 @@ pub fn do_indexed(
     out.answer
 }
 
-// The entry, for callers that keep the counts by value.
+// The entry, for callers that keep the counts by value; kept: docs/PORT.md names it among the entries that stand as they landed.
 pub fn do_indexed_line(
     counts: IndexedCounts,
     tokens: &[u8],

@@ -25,7 +25,7 @@ use Rattle.indexed_outcome.specs.Indexed.{IndexedCall, filled_pending, indexed_s
 pub index_place : (labels pending index : List ℕ) (fill p : ℕ) → index_layout labels pending fill index ≡ Some p → p ≤ limit
 index_place labels pending index fill p e = go (ltb limit (length index)) refl
   where
-    by_bytes : (b : Bool) → ◌≡◌ {A = (Option ℕ)} (elim b [ true ↦ None | false ↦ Some 0 ]) (Some p) → p ≤ limit
+    by_bytes : (b : Bool) → ◌≡◌ {A = Option ℕ} (elim b [ true ↦ None | false ↦ Some 0 ]) (Some p) → p ≤ limit
     by_bytes true f = never (cc)
     by_bytes false f = let q : 0 ≡ p = cc in omega arith
 

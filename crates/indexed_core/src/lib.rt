@@ -44,7 +44,7 @@ fn check_lists(
         labels.now index.now counts.index) }
 {
     let three = counts.counts;
-    if let Err(refusal) = emit_checks::check_layouts(
+    emit_checks::check_layouts(
         tokens,
         mnemonic,
         descriptors,
@@ -53,26 +53,13 @@ fn check_lists(
         breakpoints,
         place.region,
         three,
-    ) {
-        return Err(refusal);
-    }
-    if let Some(at) = labels::first_bad_label(labels) {
-        return Err(Refusal::BadLayout(6, at as u32));
-    }
+    )?;
+    refusal::check_layout(6, labels::first_bad_label(labels))?;
     let kept = three.pending as usize;
     let uses = index_check::check_uses(index, counts.index as usize, &pending[..kept], labels);
-    let layout = uses.layout;
-    if let Some(at) = layout {
-        return Err(Refusal::BadLayout(7, at as u32));
-    }
-    if let Some(at) = descriptors::first_repeat(descriptors) {
-        return Err(Refusal::DuplicateName(2, at as u32));
-    }
-    let repeat = uses.repeat;
-    if let Some(at) = repeat {
-        return Err(Refusal::DuplicateName(6, at as u32));
-    }
-    Ok(())
+    refusal::check_layout(7, uses.layout)?;
+    refusal::check_names(2, descriptors::first_repeat(descriptors))?;
+    refusal::check_names(6, uses.repeat)
 }
 
 // Appends a line that has room, and its uses to the index.
@@ -97,15 +84,12 @@ fn append_indexed(
 {
     let kept = numbers.counts.pending as usize;
     let first = line_uses::count_pendings(&pending[..kept]);
-    let e = made.emit;
-    let filled = line_uses::add_line(index, fill as usize, first, tokens, labels, e);
+    let filled = line_uses::add_line(index, fill as usize, first, tokens, labels, made.emit);
     let done = emit_made::append_line(tokens, data, pending, breakpoints, numbers, line, made);
-    let answer = done.answer;
-    let counts = done.counts;
     IndexedEmitted {
-        answer,
+        answer: done.answer,
         counts: IndexedCounts {
-            counts,
+            counts: done.counts,
             index: filled as u32,
         },
     }
@@ -141,14 +125,16 @@ fn append_or_refuse(
         line,
         made,
     ) {
-        let counts = numbers.counts;
-        return refused(refusal, position as u32, counts, fill);
+        return refused(refusal, position as u32, numbers.counts, fill);
     }
-    let e = made.emit;
-    let size = line_uses::size_with_line(&*index, fill as usize, tokens, labels, e);
+    let size = line_uses::size_with_line(&*index, fill as usize, tokens, labels, made.emit);
     if size > index.len() {
-        let counts = numbers.counts;
-        return refused(Refusal::NoIndexSpace(line), position as u32, counts, fill);
+        return refused(
+            Refusal::NoIndexSpace(line),
+            position as u32,
+            numbers.counts,
+            fill,
+        );
     }
     append_indexed(
         tokens,
@@ -185,17 +171,14 @@ fn emit_named(
         ≡ indexed_outcome_of result.answer result.counts (lent_of «data».new pending.new breakpoints.new) index.new }
 {
     let read = emit_core::read_line(job, tokens, mnemonic, descriptors, numbers.place.position);
-    let line = read.line;
     if !read.known {
-        let counts = numbers.counts;
         return refused(
-            Refusal::UnknownInstruction(line),
+            Refusal::UnknownInstruction(read.line),
             numbers.place.position,
-            counts,
+            numbers.counts,
             fill,
         );
     }
-    let made = read.made;
     append_or_refuse(
         tokens,
         data,
@@ -205,8 +188,8 @@ fn emit_named(
         index,
         numbers,
         fill,
-        line,
-        made,
+        read.line,
+        read.made,
     )
 }
 

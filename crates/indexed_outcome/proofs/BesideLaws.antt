@@ -139,23 +139,23 @@ module _ (job : Job) (x : IndexedCall) where
   beside (Ok tt) (Err r) d e f p q s t u =
       let k = layout_stop_lem 6 (label_layout x.labels) r q in
       added_stop r (stop_is ∙ ap₂ (λ (v w : Verdict). and_then v (and_then w (and_then index_well (and_then names_once labels_once)))) p q) (subst Added (sym k.1) (labels_bad k.0))
-  beside (Ok tt) (Ok tt) (Err r) e f p q s t u =
+  beside (Ok _) (Ok _) (Err r) e f p q s t u =
       let k = layout_stop_lem 7 (index_layout x.labels (filled_pending c.lent c.numbers.counts) x.fill x.index) r s in
       added_stop r
       (stop_is ∙ ap₂ (λ (v w : Verdict). and_then v (and_then w (and_then index_well (and_then names_once labels_once)))) p q ∙ ap (λ (v : Verdict). and_then v (and_then names_once labels_once)) s)
       (subst Added (sym k.1) (index_bad k.0))
-  beside (Ok tt) (Ok tt) (Ok tt) (Err r) f p q s t u =
+  beside (Ok _) (Ok _) (Ok _) (Err r) f p q s t u =
       both_stop r
       (stop_is ∙ ap₂ (λ (v w : Verdict). and_then v (and_then w (and_then index_well (and_then names_once labels_once)))) p q
       ∙ ap₂ (λ (v w : Verdict). and_then v (and_then w labels_once)) s t)
       (ap₂ and_then p t)
-  beside (Ok tt) (Ok tt) (Ok tt) (Ok tt) (Err r) p q s t u =
+  beside (Ok _) (Ok _) (Ok _) (Ok _) (Err r) p q s t u =
       let k = name_stop 6 (label_repeat x.labels) r u in
       added_stop r
       (stop_is ∙ ap₂ (λ (v w : Verdict). and_then v (and_then w (and_then index_well (and_then names_once labels_once)))) p q
       ∙ ap₂ (λ (v w : Verdict). and_then v (and_then w labels_once)) s t ∙ u)
       (subst Added (sym k.1) (labels_share k.0))
-  beside (Ok tt) (Ok tt) (Ok tt) (Ok tt) (Ok tt) p q s t u =
+  beside (Ok _) (Ok _) (Ok _) (Ok _) (Ok _) p q s t u =
       passed
       (stop_is ∙ ap₂ (λ (v w : Verdict). and_then v (and_then w (and_then index_well (and_then names_once labels_once)))) p q
       ∙ ap₂ (λ (v w : Verdict). and_then v (and_then w labels_once)) s t ∙ u)
@@ -174,7 +174,7 @@ module _ (job : Job) (x : IndexedCall) where
       (stop_is ∙ ap₂ (λ (v w : Verdict). and_then v (and_then w (and_then index_well (and_then names_once labels_once)))) p q
       ∙ ap₂ (λ (v w : Verdict). and_then v (and_then w labels_once)) s t)
       (ap₂ and_then p t)
-  well_same (Ok tt) (Ok tt) p t q s u b = go o.answer refl
+  well_same (Ok _) (Ok _) p t q s u b = go o.answer refl
     where
       passes : indexed_stop x ≡ Ok tt
       passes =

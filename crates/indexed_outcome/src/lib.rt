@@ -3,7 +3,6 @@
 #![tactic(auto)]
 
 use emit_outcome::{EmitAnswer, FillCounts};
-use refusal::Refusal;
 
 // The caller's four fill counts.
 #[derive(Clone, Copy)]
@@ -18,4 +17,3 @@ pub struct IndexedEmitted {
     pub answer: EmitAnswer,
     pub counts: IndexedCounts,
 }
-

@@ -22,6 +22,7 @@ use Rattle.line_uses.specs.LineIndex.{held_by, LabelGrows}
 use Rattle.line_uses.proofs.HasLaws.{place_has}
 use Rattle.std.specs.declared.cmp.Ordering.TheVariants.{Less, Equal, Greater}
 use Rattle.std.specs.declared.cmp.Ordering.{Ordering}
+use Rattle.std.specs.Ordering.{is_ne}
 
 -- ---- what a name stands for, by two scans
 pub standing_scanned : (s : List ℕ) (source : ℕ) (name : List ℕ) (own shared : Bool) → is_hit (first_owned 4 s source name) ≡ own → is_hit (first_owned 4 s for_all name) ≡ shared
@@ -63,6 +64,11 @@ module _ (labels names : List ℕ) (x : AddressLabel) (l : NamedLabel) (e : x �
     has_same f met t o g =
         sym (has_key_lem (key_with name standing) ∙ ap is_same (by_name Equal f
         ∙ sym (ap (λ (k : UseKey). then_by (known_order standing.known k.standing.known) (numbers standing.owner k.standing.owner)) t) ∙ g))
+
+    pub has_unlike : (o : Ordering) → order name other ≡ o → is_ne o ≡ true → false ≡ label_has labels names (key_with name standing) x
+    has_unlike Less f u = has_less f
+    has_unlike Greater f u = has_more f
+    has_unlike Equal f u = absurd cc
 
   -- ---- how much longer an index is with it
   module _ (standing : Standing) (t : key_with other standing ≡ key) (d : List ℕ) (fill : ℕ) (before : List InstructionPair) where

@@ -15,29 +15,30 @@ ghost use Rattle.line_uses.specs.LineIndex.{LabelGrows, PairGrows, SizeWithLine,
 use address_label::AddressLabel;
 use emit_pairs::EmitInstruction;
 use label_uses::Standing;
-use std::cmp::Ordering;
 use pending::InstructionLabel;
+
+// kept: that the labels have names stands in each contract. A struct of labels that says so would change what the public functions take.
 
 // What a name of a source stands for, by a scan of the labels.
 fn standing_by(labels: &[u8], source: u32, name: &[u8]) -> Standing
     requires { first_bad (has_owned_name 4 labels.now) (places labels.now) ≡ None }
     ensures { (key_with name.now result ≡ key_for labels.now source name.now) × (result.owner < 2 ^ 32) }
 {
-    match names::find_named(labels, 4, source, name) {
-        Some(_) => Standing {
+    if names::find_named(labels, 4, source, name).is_some() {
+        return Standing {
             known: true,
             owner: source,
-        },
-        None => match names::find_named(labels, 4, names::FOR_ALL, name) {
-            Some(_) => Standing {
-                known: true,
-                owner: names::FOR_ALL,
-            },
-            None => Standing {
-                known: false,
-                owner: source,
-            },
-        },
+        };
+    }
+    if names::find_named(labels, 4, names::FOR_ALL, name).is_some() {
+        return Standing {
+            known: true,
+            owner: names::FOR_ALL,
+        };
+    }
+    Standing {
+        known: false,
+        owner: source,
     }
 }
 
@@ -55,35 +56,30 @@ fn label_has(
     match label {
         AddressLabel::Constant(_) => false,
         AddressLabel::Label(l) => {
-            let location = l.location;
             let other = address_label::name_of(tokens, label);
-            match name_order::compare(name, other) {
-                Ordering::Less => false,
-                Ordering::Greater => false,
-                Ordering::Equal => {
-                    let met = standing_by(labels, location.source, other);
-                    match use_adding::order_standing(standing, met.known, met.owner) {
-                        Ordering::Less => false,
-                        Ordering::Greater => false,
-                        Ordering::Equal => true,
-                    }
-                }
+            if name_order::compare(name, other).is_ne() {
+                return false;
             }
+            let met = standing_by(labels, l.location.source, other);
+            use_adding::order_standing(standing, met.known, met.owner).is_eq()
         }
     }
 }
 
 // Whether what a word waits for is a name with that key.
-fn pair_has(tokens: &[u8], labels: &[u8], waits: Option<InstructionLabel>, name: &[u8], standing: Standing) -> bool
+fn pair_has(
+    tokens: &[u8],
+    labels: &[u8],
+    waits: Option<InstructionLabel>,
+    name: &[u8],
+    standing: Standing,
+) -> bool
     requires { first_bad (has_owned_name 4 labels.now) (places labels.now) ≡ None }
     ensures { result ≡ pair_has labels.now tokens.now (key_with name.now standing) waits }
 {
     match waits {
         None => false,
-        Some(x) => {
-            let label = x.label;
-            label_has(tokens, labels, label, name, standing)
-        }
+        Some(x) => label_has(tokens, labels, x.label, name, standing),
     }
 }
 
@@ -99,15 +95,10 @@ fn among(
     requires { (i ≤ 5) × (first_bad (has_owned_name 4 labels.now) (places labels.now) ≡ None) }
     ensures { result ≡ key_among labels.now tokens.now (key_with name.now standing) (take i e.instructions) }
 {
-    let pairs = e.instructions;
-    let mut j: usize = 0;
-    while j < i {
-        let pair = pairs[j];
-        let waits = pair.label;
-        if pair_has(tokens, labels, waits, name, standing) {
+    for pair in &e.instructions[..i] {
+        if pair_has(tokens, labels, pair.label, name, standing) {
             return true;
         }
-        j = j + 1;
     }
     false
 }
@@ -129,14 +120,10 @@ fn label_growth(
     match label {
         AddressLabel::Constant(_) => 0,
         AddressLabel::Label(l) => {
-            let location = l.location;
             let name = address_label::name_of(tokens, label);
-            let standing = standing_by(labels, location.source, name);
+            let standing = standing_by(labels, l.location.source, name);
             let place = use_adding::find_use(index, fill, name, standing);
-            if place.found {
-                return 2;
-            }
-            if among(tokens, labels, e, i, name, standing) {
+            if place.found || among(tokens, labels, e, i, name, standing) {
                 return 2;
             }
             13 + name.len()
@@ -160,10 +147,7 @@ fn pair_growth(
 {
     match waits {
         None => 0,
-        Some(x) => {
-            let label = x.label;
-            label_growth(index, fill, tokens, labels, e, i, label)
-        }
+        Some(x) => label_growth(index, fill, tokens, labels, e, i, x.label),
     }
 }
 
@@ -179,15 +163,9 @@ pub fn size_with_line(
     requires count_bound { (e.count ≤ 5) × (length tokens.now ≤ limit) × (first_bad (has_owned_name 4 labels.now) (places labels.now) ≡ None) }
     ensures { SizeWithLine labels.now tokens.now index.now fill (take e.count e.instructions) result }
 {
-    let pairs = e.instructions;
-    let n = e.count;
     let mut size = fill;
-    let mut i: usize = 0;
-    while i < n {
-        let pair = pairs[i];
-        let waits = pair.label;
-        size = size + pair_growth(index, fill, tokens, labels, e, i, waits);
-        i = i + 1;
+    for i in 0..e.count {
+        size += pair_growth(index, fill, tokens, labels, e, i, e.instructions[i].label);
     }
     size
 }
@@ -208,9 +186,8 @@ fn add_label(
     match label {
         AddressLabel::Constant(_) => fill,
         AddressLabel::Label(l) => {
-            let location = l.location;
             let name = address_label::name_of(tokens, label);
-            let standing = standing_by(labels, location.source, name);
+            let standing = standing_by(labels, l.location.source, name);
             use_adding::add_use(&mut *index, fill, name, standing, n)
         }
     }
@@ -231,10 +208,7 @@ fn add_pair(
 {
     match waits {
         None => fill,
-        Some(x) => {
-            let label = x.label;
-            add_label(&mut *index, fill, n, tokens, labels, label)
-        }
+        Some(x) => add_label(&mut *index, fill, n, tokens, labels, x.label),
     }
 }
 
@@ -251,17 +225,11 @@ pub fn add_line(
     requires count_bound { (e.count ≤ 5) × (first ≤ 60000) × RoomForLine labels.now tokens.now index.old fill (take e.count e.instructions) first }
     ensures { AddsLineTo labels.now tokens.now index.old index.new fill (take e.count e.instructions) first result }
 {
-    let pairs = e.instructions;
-    let count = e.count;
     let mut filled = fill;
     let mut n = first;
-    let mut i: usize = 0;
-    while i < count {
-        let pair = pairs[i];
-        let waits = pair.label;
-        filled = add_pair(&mut *index, filled, n, tokens, labels, waits);
-        n = next_number(n, waits);
-        i = i + 1;
+    for pair in &e.instructions[..e.count] {
+        filled = add_pair(&mut *index, filled, n, tokens, labels, pair.label);
+        n = next_number(n, pair.label);
     }
     filled
 }
@@ -271,10 +239,7 @@ fn next_number(n: u16, waits: Option<InstructionLabel>) -> u16
     requires { n ≤ 60005 }
     ensures { result ≡ next_number waits n }
 {
-    match waits {
-        None => n,
-        Some(_) => n + 1,
-    }
+    n + u16::from(waits.is_some())
 }
 
 // How many pendings a list has.
@@ -282,11 +247,5 @@ pub fn count_pendings(pending: &[u8]) -> u16
     requires { (first_bad (pending_ok 16 pending.now) (places pending.now) ≡ None) × (length pending.now ≤ limit) }
     ensures { (result ≡ length (places pending.now)) × (result ≤ 1820) }
 {
-    let mut at: usize = 0;
-    let mut n: u16 = 0;
-    while at < pending.len() {
-        n = n + 1;
-        at = record::next(pending, at);
-    }
-    n
+    record::places(pending).count() as u16
 }

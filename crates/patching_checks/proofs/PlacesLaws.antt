@@ -14,7 +14,7 @@ use Rattle.patching_outcome.specs.Patching.{has_patched}
 pub filled_place : (fill : ℕ) (s : List ℕ) (l : Option ℕ) (p : ℕ) → filled_layout fill s l ≡ Some p → (l ≡ Some p → p ≤ limit) → p ≤ limit
 filled_place fill s l p e k = go (leb (length s) limit) refl (leb fill (length s)) refl
   where
-    same : (a b : ℕ) → ◌≡◌ {A = (Option ℕ)} (Some a) (Some b) → a ≡ b
+    same : (a b : ℕ) → ◌≡◌ {A = Option ℕ} (Some a) (Some b) → a ≡ b
     same a b x = cc
 
     go : (b : Bool) → leb (length s) limit ≡ b → (d : Bool) → leb fill (length s) ≡ d → p ≤ limit
@@ -35,7 +35,7 @@ pub pendings_place : (fill patches regions : ℕ) (s : List ℕ) (p : ℕ)
 pendings_place fill patches regions s p e =
     filled_place fill s (has_patched patches (take fill s) (pending_layout regions (take fill s))) p e (λ h. by_layout (pending_layout regions (take fill s)) refl h)
   where
-    by_count : (b : Bool) → length (take fill s) ≤ limit → elim b [ true ↦ None | false ↦ Some (length (take fill s)) ] ≡ Some p → p ≤ limit
+    by_count : (b : Bool) → length (take fill s) ≤ limit → ◌≡◌ {A = Option ℕ} (elim b [ true ↦ None | false ↦ Some (length (take fill s)) ]) (Some p) → p ≤ limit
     by_count true w h = let z : ◌≡◌ {A = ℕ} 0 1 = cc in absurd (omega arith)
     by_count false w h = let z : length (take fill s) ≡ p = cc in omega arith
 

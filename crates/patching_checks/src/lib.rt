@@ -9,7 +9,6 @@ ghost use Rattle.breakpoints.specs.Breakpoints.{filled_layout};
 ghost use Rattle.binary_builder.specs.Steps.{PendingList, most_pendings};
 ghost use Rattle.patching_outcome.specs.Patching.{has_patched};
 
-
 // Whether the buffer is within the limit and the fill count within the buffer.
 fn filled(buffer: &[u8], fill: usize) -> Option<usize>
     ensures { result ≡ filled_layout fill buffer.now None }

@@ -26,8 +26,8 @@ use Rattle.patching_laws.proofs.StepLaws.{Opened, regions_pass, pendings_pass, k
 stop_then : (l n e x : Verdict) (r : Refusal) → and_then l (and_then n e) ≡ Err r → and_then l (and_then n (and_then e x)) ≡ Err r
 stop_then (Err s) n e x r h = h
 stop_then (Ok tt) (Err s) e x r h = h
-stop_then (Ok tt) (Ok tt) (Err s) x r h = h
-stop_then (Ok tt) (Ok tt) (Ok tt) x r h = let z : ◌≡◌ {A = ℕ} 0 1 = cc in absurd (omega arith)
+stop_then (Ok _) (Ok _) (Err s) x r h = h
+stop_then (Ok _) (Ok _) (Ok _) x r h = let z : ◌≡◌ {A = ℕ} 0 1 = cc in absurd (omega arith)
 
 module _ (job : Job) (labels : Table) (entry : List ℕ) where
   -- a step's checks, by the layouts of the lists
@@ -139,7 +139,7 @@ module _ (job : Job) (labels : Table) (entry : List ℕ) where
   pub build_is : (q b : Patching) → Held job labels entry q b → Opened job labels entry → build_verdict job labels entry (regions_of b) (pendings_of b) ≡ patches_verdict job labels (regions_of b) (pendings_of b)
   unfolding build_verdict layout_verdicts
   build_is q b h o =
-      let l : layout_verdicts labels entry (regions_of b) (pendings_of b) ≡ (Ok tt) =
+      let l : layout_verdicts labels entry (regions_of b) (pendings_of b) ≡ Ok tt =
       then_pass (layout_verdict 0 labels.layout) _ (ap (layout_verdict 0) o.labels_good)
       (then_pass (layout_verdict 1 (entry_layout entry)) _ (ap (layout_verdict 1) o.entry_good)
       (then_pass (layout_verdict 2 (region_layout (regions_of b))) _ (ap (layout_verdict 2) h.good) (ap (layout_verdict 3) h.pendings_good))) in

@@ -261,7 +261,7 @@ module _ (job : Job) (labels : Table) (entry : List ℕ) where
             let z : the_entry job labels entry ≡ a = cc in
             let w = (step_outcome job labels entry q).after in
             let all : take w.counts.patches (order_of b) ≡ order_of b = take_all w.counts.patches (order_of b) (omega (arith, n)) in
-            let v : patches_verdict job labels (regions_of b) (pendings_of b) ≡ (Ok tt) =
+            let v : patches_verdict job labels (regions_of b) (pendings_of b) ≡ Ok tt =
             all_pass (patch_verdict job labels (regions_of b) (pendings_of b)) (order_of b) (λ p k. t.held.passed p (subst (Memᴰ p) (sym all) k)) in
             let u = outcome_accepted job labels entry (regions_of b) (pendings_of b) (build_is job labels entry q b h o ∙ v) in
             let there : regions_of w ≡ regions_of q = ap₂ (λ (k : ℕ) (d : List ℕ). take k d) fill same in

@@ -47,7 +47,7 @@ module _ (region fill : ℕ) (s : List ℕ) where
   pub listed_place : (p : ℕ) → listed_in region fill s ≡ Some p → p ≤ limit
   listed_place p e = go (region_number_ok region) e
     where
-      go : (b : Bool) → elim b [ true ↦ filled_layout fill s (only_listed (is_listed (take fill s) region) (region_layout (take fill s))) | false ↦ Some 0 ] ≡ Some p → p ≤ limit
+      go : (b : Bool) → ◌≡◌ {A = Option ℕ} (elim b [ true ↦ filled_layout fill s (only_listed (is_listed (take fill s) region) (region_layout (take fill s))) | false ↦ Some 0 ]) (Some p) → p ≤ limit
       go true x =
           filled_place fill s (only_listed (is_listed (take fill s) region) (region_layout (take fill s))) p x
           (λ h. only_place (is_listed (take fill s) region) (region_layout (take fill s)) p (λ k. region_place_lem (take fill s) p k) h)
@@ -61,7 +61,7 @@ module _ (region fill : ℕ) (s : List ℕ) where
   pub listed_good : listed_in region fill s ≡ None → (fill ≤ length s) × (region_layout (take fill s) ≡ None) × (length (take fill s) ≡ fill)
   listed_good e = go (region_number_ok region) e
     where
-      go : (b : Bool) → elim b [ true ↦ filled_layout fill s (only_listed (is_listed (take fill s) region) (region_layout (take fill s))) | false ↦ Some 0 ] ≡ None
+      go : (b : Bool) → ◌≡◌ {A = Option ℕ} (elim b [ true ↦ filled_layout fill s (only_listed (is_listed (take fill s) region) (region_layout (take fill s))) | false ↦ Some 0 ]) None
           → (fill ≤ length s) × (region_layout (take fill s) ≡ None) × (length (take fill s) ≡ fill)
       go true x =
           let f = filled_good fill s (only_listed (is_listed (take fill s) region) (region_layout (take fill s))) x in

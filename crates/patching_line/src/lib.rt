@@ -311,7 +311,7 @@ fn emit_checked(
     position: u32,
     region: u16,
 ) -> Lined
-    requires { LayoutsAre tokens.now mnemonic.now descriptors.now region regions.old pending.old breakpoints.old counts Ok tt }
+    requires { LayoutsAre tokens.now mnemonic.now descriptors.now region regions.old pending.old breakpoints.old counts (Ok tt) }
     ensures { LineIs job (given_of tokens.now mnemonic.now descriptors.now position region)
         regions.old pending.old breakpoints.old counts
         result.answer result.counts regions.new pending.new breakpoints.new }

@@ -30,7 +30,7 @@ filled_good fill s l e =
     let g = go (leb fill (length s)) refl h.1 in
     ((h.0, g.0), g.1)
   where
-    go : (b : Bool) → leb fill (length s) ≡ b → elim b [ true ↦ l | false ↦ Some (length s) ] ≡ None → (fill ≤ length s) × (l ≡ None)
+    go : (b : Bool) → leb fill (length s) ≡ b → ◌≡◌ {A = Option ℕ} (elim b [ true ↦ l | false ↦ Some (length s) ]) None → (fill ≤ length s) × (l ≡ None)
     go true b x = (leb-true fill (length s) b, x)
     go false b x = let z : ◌≡◌ {A = ℕ} 0 1 = cc in absurd (omega arith)
 
@@ -62,7 +62,7 @@ unfolding listed_layout
 listed_is region p e = go (region_number_ok region) refl e
   where
     go : (b : Bool) → region_number_ok region ≡ b
-        → elim b [ true ↦ filled_layout p.counts.regions p.regions (only_listed (is_listed (regions_of p) region) (region_layout (regions_of p))) | false ↦ Some 0 ] ≡ None → ListedIs region p
+        → ◌≡◌ {A = Option ℕ} (elim b [ true ↦ filled_layout p.counts.regions p.regions (only_listed (is_listed (regions_of p) region) (region_layout (regions_of p))) | false ↦ Some 0 ]) None → ListedIs region p
     go true b x =
         let f = filled_good p.counts.regions p.regions (only_listed (is_listed (regions_of p) region) (region_layout (regions_of p))) x in
         let o = only_good (is_listed (regions_of p) region) (region_layout (regions_of p)) f.1 in
@@ -101,7 +101,7 @@ pub record PendingsAre (p : Patching) : Type 0 where
 patched_good : (n : ℕ) (s : List ℕ) (l : Option ℕ) → has_patched n s l ≡ None → (l ≡ None) × (n ≤ length (places s))
 patched_good n s None e = go (leb n (length (places s))) refl e
   where
-    go : (b : Bool) → leb n (length (places s)) ≡ b → elim b [ true ↦ None | false ↦ Some (length s) ] ≡ None → (◌≡◌ {A = (Option ℕ)} None None) × (n ≤ length (places s))
+    go : (b : Bool) → leb n (length (places s)) ≡ b → ◌≡◌ {A = Option ℕ} (elim b [ true ↦ None | false ↦ Some (length s) ]) None → (◌≡◌ {A = Option ℕ} None None) × (n ≤ length (places s))
     go true b x = (refl, leb-true n (length (places s)) b)
     go false b x = let z : ◌≡◌ {A = ℕ} 0 1 = cc in absurd (omega arith)
 patched_good n s (Some place) e = let z : ◌≡◌ {A = ℕ} 0 1 = cc in absurd (omega arith)

@@ -32,7 +32,7 @@ stop_inside : (job : Job) (g : Region) (q : Pending) (address : Option ℕ) → 
 stop_inside job g q address e = go (leb (q.offset + 4) g.size) refl e
   where
     go : (b : Bool) → leb (q.offset + 4) g.size ≡ b
-        → elim b [ true ↦ reach_verdict job q (pc_of g q) address | false ↦ Err (PatchPastEnd q.location) ] ≡ Ok tt → q.offset + 4 ≤ g.size
+        → ◌≡◌ {A = Verdict} (elim b [ true ↦ reach_verdict job q (pc_of g q) address | false ↦ Err (PatchPastEnd q.location) ]) (Ok tt) → q.offset + 4 ≤ g.size
     go true b x = leb-true (q.offset + 4) g.size b
     go false b x = let z : ◌≡◌ {A = ℕ} 0 1 = cc in absurd (omega arith)
 

@@ -175,7 +175,7 @@ fn step_indexed(
 ) -> Stepped
     requires indexed { Indexed labels.now index.now × StepLists regions.old pending.now kept.old counts × (entry_layout entry.now ≡ None) }
     requires most_pendings_in_bounds { most_pendings ≤ length found.old }
-    requires layouts_are { LayoutsAre (table_of labels.now) entry.now regions.old pending.now kept.old counts Ok tt }
+    requires layouts_are { LayoutsAre (table_of labels.now) entry.now regions.old pending.now kept.old counts (Ok tt) }
     ensures { StepIs job (table_of labels.now) entry.now regions.old pending.now kept.old counts
         result.answer result.counts regions.new kept.new }
 {
@@ -264,9 +264,7 @@ pub fn patch_step(
     ensures { StepIs job (table_of labels.now) entry.now regions.old pending.now kept.old counts
         result.answer result.counts regions.new kept.new }
 {
-    if let Err(refusal) = check_layouts(
-        labels, entry, counts, &*regions, pending, &*kept,
-    ) {
+    if let Err(refusal) = check_layouts(labels, entry, counts, &*regions, pending, &*kept) {
         return Stepped {
             answer: StepAnswer::Refused(refusal),
             counts,

@@ -1,12 +1,14 @@
 -- Laws of the walk to a key's place. Assumes nothing.
-use Rattle.std.specs.Prelude.{ℕ, ◌+◌, ◌*◌, ◌-◌, ◌≤◌, ◌<◌, Bool, true, false, ◌≡◌, refl, length, drop, eqb}
-use Rattle.std.proofs.Common.{arith, sym, ap, ap₂, ◌∙◌, subst, length-append, take-append-drop, length-take-le}
+use Rattle.std.specs.Prelude.{ℕ, ◌+◌, ◌*◌, ◌-◌, ◌≤◌, ◌<◌, Bool, true, false, ltb, ◌≡◌, refl, length, take, drop, eqb}
+use Rattle.std.proofs.Common.{arith, sym, ap, ap₂, ◌∙◌, subst, length-append, take-append-drop, length-take-le, take-take, ltb-true, ltb-false}
+use Rattle.record.proofs.OneMoreLaws.{is_whole}
 use mathlib.Core.List.Memᴰ
 use mathlib.Core.List.{List, [], ◌∷◌, ◌++◌, append_assoc, Memᴰ}
 use Rattle.record.specs.Bytes.{byte_at, le16, le32, part}
 use Rattle.record.specs.Stores.{le16_bytes, le32_bytes, append}
 use Rattle.record.proofs.StoresLaws.{append_then}
-use Rattle.record.specs.Records.{next, body_len}
+use Rattle.record.specs.Records.{next, body_len, whole, places_from}
+use Rattle.record.proofs.RecordsLaws.{places_step, places_cut, places_cons}
 use Rattle.name_order.specs.Order.{then_by, numbers, order}
 use Rattle.label_uses.specs.Uses.{UseKey, Use, known_order, use_order, one_use, more_use, insert_use}
 use Rattle.label_uses.specs.UseBytes.{flag_of, numbers_bytes, use_body, uses_bytes, use_bytes}
@@ -132,6 +134,71 @@ module _ (d : List ℕ) (fill : ℕ) (us : List Use) (key : UseKey) (at : ℕ) (
       go (u ∷ r) e =
           let n = fill_is d fill us x.before (u ∷ r) i e in
           absurd (omega (arith, x.place, ap length (uses_cons u r), length-append (use_bytes u) (uses_bytes r)))
+
+-- ---- the same over the places that a loop over the filled part has left
+pub record Walked (s : List ℕ) (us : List Use) (key : UseKey) (left : List ℕ) : Type 0 where
+  pub at : ℕ
+  pub reached : Reached us key at
+  pub left_are : left ≡ places_from s at
+
+-- a loop's turn, which takes the place p
+pub record WalkTurn (s : List ℕ) (us : List Use) (key : UseKey) (p : ℕ) (ps : List ℕ) : Type 0 where
+  pub reached : Reached us key p
+  pub within : p < length s
+  pub first : places_from s p ≡ p ∷ ps
+
+pub walk_turn : (s : List ℕ) (us : List Use) (key : UseKey) (p : ℕ) (left ps : List ℕ) → Walked s us key left → left ≡ p ∷ ps → WalkTurn s us key p ps
+walk_turn s us key p left ps w e =
+    let f : places_from s w.at ≡ p ∷ ps = sym w.left_are ∙ e in
+    let c = places_cons s w.at p ps f in
+    record {
+      reached = subst (Reached us key) (sym c.1) w.reached;
+      within = omega (arith, c.0, c.1);
+      first = subst (λ (k : ℕ). places_from s k ≡ p ∷ ps) (sym c.1) f;
+    }
+
+-- the filled part is an index that fills its buffer
+pub filled_part : (d : List ℕ) (fill : ℕ) (us : List Use) → IndexIn d fill us → IndexIn (take fill d) fill us
+filled_part d fill us i =
+    let n = length-take-le fill d i.holds.within in
+    record {
+      holds = record { filled = take-take fill fill d (omega arith) ∙ i.holds.filled; within = omega arith };
+      limited = omega (arith, i.holds.within, i.limited);
+      owners = i.owners;
+    }
+
+-- the places left behind a record
+pub left_behind : (s : List ℕ) (p : ℕ) (ps : List ℕ) → p < length s → whole s p ≡ true → places_from s p ≡ p ∷ ps → ps ≡ places_from s (next s p)
+left_behind s p ps h w f = let e : p ∷ ps ≡ p ∷ places_from s (next s p) = sym f ∙ places_step s p h w in cc
+
+-- none are left at the end alone
+pub left_none : (s : List ℕ) (at : ℕ) → places_from s at ≡ [] → length s ≤ at
+left_none s at e = go (ltb at (length s)) refl (whole s at) refl
+  where
+    go : (b : Bool) → ltb at (length s) ≡ b → (w : Bool) → whole s at ≡ w → length s ≤ at
+    go false b w v = ltb-false at (length s) b
+    go true b true v = let k : at ∷ places_from s (next s at) ≡ [] = sym (places_step s at (ltb-true at (length s) b) v) ∙ e in absurd cc
+    go true b false v = let k : at ∷ [] ≡ [] = sym (places_cut s at (ltb-true at (length s) b) v) ∙ e in absurd cc
+
+pub walk_next : (s : List ℕ) (fill : ℕ) (us : List Use) (key : UseKey) (p : ℕ) (ps : List ℕ) → IndexIn s fill us → length s ≡ fill → WalkTurn s us key p ps → use_order key (key_read s p) ≡ Greater
+    → Walked s us key ps
+walk_next s fill us key p ps i n t o =
+    let h : p < fill = omega (arith, t.within) in
+    let u : UseAt s p = met_at s fill us key p i t.reached h in
+    record {
+      at = next s p;
+      reached = reached_next s fill us key p i t.reached h o;
+      left_are = left_behind s p ps t.within (is_whole s p (omega (arith, u.room, u.within)) u.within) t.first;
+    }
+
+pub walk_end : (d : List ℕ) (fill : ℕ) (us : List Use) (key : UseKey) {left : List ℕ} → IndexIn d fill us → Walked (take fill d) us key left → left ≡ [] → PlaceIs us key fill false
+walk_end d fill us key i w e =
+    let n = length-take-le fill d i.holds.within in
+    let h : fill ≤ w.at = omega (arith, left_none (take fill d) w.at (sym w.left_are ∙ e)) in
+    let r = w.reached in
+    let m = fill_is d fill us r.before r.rest i r.split in
+    let k : w.at ≡ fill = omega (arith, r.place) in
+    subst (λ (at : ℕ). PlaceIs us key at false) k (reached_end d fill us key w.at i r h)
 
 -- ---- what is inserted at the place
 pub insert_new : (key : UseKey) (n : ℕ) (us l r : List Use) → us ≡ l ++ r → Passed key l → Heads key r → insert_use key n us ≡ l ++ (one_use key n ∷ r)

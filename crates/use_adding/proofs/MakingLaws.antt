@@ -1,14 +1,15 @@
 -- An index made afresh, pending by pending: what a name stands for, one pending's use, and the fold. Assumes nothing.
-use Rattle.std.specs.Prelude.{ℕ, ◌+◌, ◌*◌, ◌-◌, ◌≤◌, ◌<◌, ◌^◌, Bool, ◌≡◌, refl, take, drop, None}
+use Rattle.std.specs.Prelude.{ℕ, ◌+◌, ◌*◌, ◌-◌, ◌≤◌, ◌<◌, ◌^◌, Bool, ◌≡◌, refl, take, drop, None, Option, Some}
+use Rattle.std.specs.Option.{is_some}
 use Rattle.std.proofs.Common.{arith, ap₂, ◌∙◌, subst, take-append-drop, length-take-le, drop-drop}
 use mathlib.Core.List.Memᴰ
-use mathlib.Core.List.{List, [], ◌++◌, Memᴰ}
+use mathlib.Core.List.{List, [], ◌∷◌, ◌++◌, Memᴰ}
 use Rattle.std.proofs.Math.Path.{sym, ap}
 use Rattle.std.proofs.Math.ListN.{length}
 use Rattle.std.proofs.Math.Seq.{drop-append-add}
 use Rattle.record.specs.Bytes.{part}
 use Rattle.record.specs.Records.{next, places, places_from, first_bad}
-use Rattle.record.proofs.RecordsLaws.{places_all, places_step, places_end, good_ok, good_next}
+use Rattle.record.proofs.RecordsLaws.{places_all, places_step, places_end, places_cons, good_ok, good_next}
 use Rattle.record.specs.Stores.{append}
 use Rattle.names.specs.Owners.{for_all}
 use Rattle.name_index.specs.Index.{IndexOf, lookup}
@@ -172,3 +173,29 @@ module _ (d₀ labels pending : List ℕ) (room : length pending ≤ length d₀
     making_end h =
         let e : m.us ≡ uses_of labels pending = sym (ap (λ (ps : List ℕ). uses_from labels pending n ps m.us) (places_end pending at h)) ∙ m.rest in
         record { bytes = m.bytes ∙ ap (λ (y : List Use). append d₀ 0 (uses_bytes y)) e; filled = m.filled ∙ ap (λ (y : List Use). length (uses_bytes y)) e }
+
+-- ---- the same over the places that a loop has left
+pub record MakingLeft (d₀ labels pending d : List ℕ) (n fill : ℕ) (left : List ℕ) : Type 0 where
+  pub at : ℕ
+  pub making : Making d₀ labels pending d at n fill
+  pub left_are : left ≡ places_from pending at
+
+-- a loop's turn, which takes the place p
+pub record MakingTurn (d₀ labels pending d : List ℕ) (n fill p : ℕ) (ps : List ℕ) : Type 0 where
+  pub within : p < length pending
+  pub making : Making d₀ labels pending d p n fill
+  pub first : places_from pending p ≡ p ∷ ps
+
+pub left_turn : (d₀ labels pending d : List ℕ) (n fill p : ℕ) (left ps : List ℕ) → MakingLeft d₀ labels pending d n fill left → left ≡ p ∷ ps → MakingTurn d₀ labels pending d n fill p ps
+left_turn d₀ labels pending d n fill p left ps m e =
+    let f : places_from pending m.at ≡ p ∷ ps = sym m.left_are ∙ e in
+    let c = places_cons pending m.at p ps f in
+    record {
+      within = omega (arith, c.0, c.1);
+      making = subst (λ (k : ℕ). Making d₀ labels pending d k n fill) (sym c.1) m.making;
+      first = subst (λ (k : ℕ). places_from pending k ≡ p ∷ ps) (sym c.1) f;
+    }
+
+pub hit_is : (found : Option ℕ) → is_hit found ≡ is_some found
+hit_is (Some p) = refl
+hit_is None = refl

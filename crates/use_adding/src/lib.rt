@@ -23,7 +23,7 @@ use std::cmp::Ordering;
 // The record kind.
 const USE: u16 = 39;
 
-// The place of a key's record, or the one where it sorts.
+// The place of a key's record, or the one where it sorts: kept as a flag and a place, since the place means something with either flag.
 #[derive(Clone, Copy)]
 pub struct UsePlace {
     pub at: usize,
@@ -35,27 +35,18 @@ pub fn move_up(d: &mut [u8], at: usize, fill: usize, n: usize)
     requires { (at ≤ fill) × (fill + n ≤ length d.old) }
     ensures { d.new ≡ append d.old (at + n) (part d.old at (fill - at)) }
 {
-    let mut i = fill;
-    while at < i {
-        i = i - 1;
-        d[i + n] = d[i];
-    }
+    d.copy_within(at..fill, at + n);
 }
 
 // How a standing stands to a record's.
 pub fn order_standing(standing: Standing, known: bool, owner: u32) -> Ordering
     ensures { result ≡ then_by (known_order standing.known known) (numbers standing.owner owner) }
 {
-    if standing.known {
-        if known {
-            return name_order::compare_numbers(standing.owner, owner);
-        }
-        return Ordering::Less;
+    match (standing.known, known) {
+        (true, false) => Ordering::Less,
+        (false, true) => Ordering::Greater,
+        _ => name_order::compare_numbers(standing.owner, owner),
     }
-    if known {
-        return Ordering::Greater;
-    }
-    name_order::compare_numbers(standing.owner, owner)
 }
 
 // How a key stands to that of the record at `at`.
@@ -67,13 +58,12 @@ pub fn order_at(index: &[u8], at: usize, name: &[u8], standing: Standing) -> Ord
     let from = owner_at + 4;
     let end = record::next(index, at);
     match name_order::compare(name, &index[from..end]) {
-        Ordering::Less => Ordering::Less,
-        Ordering::Greater => Ordering::Greater,
         Ordering::Equal => order_standing(
             standing,
             index[at + 4] == 1,
             record::word_at(index, owner_at),
         ),
+        unlike => unlike,
     }
 }
 
@@ -82,21 +72,18 @@ pub fn find_use(index: &[u8], fill: usize, name: &[u8], standing: Standing) -> U
     requires { AnIndex index.now fill }
     ensures { Finds index.now fill (key_with name.now standing) result.at result.found }
 {
-    let mut at: usize = 0;
-    while at < fill {
-        match order_at(index, at, name, standing) {
-            Ordering::Less => {
-                return UsePlace { at, found: false };
-            }
-            Ordering::Equal => {
-                return UsePlace { at, found: true };
-            }
-            Ordering::Greater => {
-                at = record::next(index, at);
-            }
+    let filled = &index[..fill];
+    for at in record::places(filled) {
+        match order_at(filled, at, name, standing) {
+            Ordering::Less => return UsePlace { at, found: false },
+            Ordering::Equal => return UsePlace { at, found: true },
+            Ordering::Greater => {}
         }
     }
-    UsePlace { at, found: false }
+    UsePlace {
+        at: fill,
+        found: false,
+    }
 }
 
 // A number more behind those of the record at `at`: two bytes are put in, and its length and count grow.
@@ -118,11 +105,7 @@ fn put_flag(d: &mut [u8], at: usize, known: bool)
     requires { at + 1 ≤ length d.old }
     ensures { d.new ≡ append d.old at (flag_of known ∷ []) }
 {
-    if known {
-        d[at] = 1;
-        return;
-    }
-    d[at] = 0;
+    d[at] = u8::from(known);
 }
 
 // A record of one use, put in at `at`.
@@ -160,27 +143,27 @@ pub fn standing_of(labels: &[u8], index: &[u16], source: u32, name: &[u8]) -> St
     requires index_of { IndexOf 4 labels.now index.now × (length index.now < 65536) }
     ensures { key_with name.now result ≡ key_for labels.now source name.now }
 {
-    let own = name_index::find(labels, 4, index, source, name);
-    let named = own.named;
-    match named {
-        Some(_) => Standing {
+    if name_index::find(labels, 4, index, source, name)
+        .named
+        .is_some()
+    {
+        return Standing {
             known: true,
             owner: source,
-        },
-        None => {
-            let shared = name_index::find(labels, 4, index, names::FOR_ALL, name);
-            let named = shared.named;
-            match named {
-                Some(_) => Standing {
-                    known: true,
-                    owner: names::FOR_ALL,
-                },
-                None => Standing {
-                    known: false,
-                    owner: source,
-                },
-            }
-        }
+        };
+    }
+    if name_index::find(labels, 4, index, names::FOR_ALL, name)
+        .named
+        .is_some()
+    {
+        return Standing {
+            known: true,
+            owner: names::FOR_ALL,
+        };
+    }
+    Standing {
+        known: false,
+        owner: source,
     }
 }
 
@@ -200,14 +183,12 @@ fn add_pending(
     requires room_for_one { RoomForOne d.old labels.now pending.now fill (label_of pending.now at) n }
     ensures { AddsOneTo d.old d.new labels.now pending.now fill (label_of pending.now at) n result }
 {
-    let waits = pending::read_pending(pending, at);
-    let label = waits.label;
+    let label = pending::read_pending(pending, at).label;
     match label {
         AddressLabel::Constant(_) => fill,
         AddressLabel::Label(l) => {
-            let location = l.location;
             let name = address_label::name_of(pending, label);
-            let standing = standing_of(labels, index, location.source, name);
+            let standing = standing_of(labels, index, l.location.source, name);
             add_use(&mut *d, fill, name, standing, n)
         }
     }
@@ -221,13 +202,9 @@ pub fn fill_index(d: &mut [u8], pending: &[u8], labels: &[u8], index: &[u16]) ->
     requires index_of { IndexOf 4 labels.now index.now × (length index.now < 65536) }
     ensures { Made d.old d.new labels.now pending.now result }
 {
-    let mut at: usize = 0;
-    let mut n: u16 = 0;
     let mut fill: usize = 0;
-    while at < pending.len() {
-        fill = add_pending(&mut *d, fill, pending, at, n, labels, index);
-        n = n + 1;
-        at = record::next(pending, at);
+    for (n, at) in record::places(pending).enumerate() {
+        fill = add_pending(&mut *d, fill, pending, at, n as u16, labels, index);
     }
     fill
 }

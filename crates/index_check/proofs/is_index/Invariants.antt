@@ -1,9 +1,7 @@
-use Rattle.std.proofs.Common.{◌-◌}
-use Rattle.index_check.proofs.CheckingLaws.{Checked}
+use Rattle.record.specs.Left.{places_left}
+use Rattle.index_check.proofs.CheckingLaws.{CheckedLeft}
 use Rattle.index_check.proofs.is_index.Given as goal
 
+-- the records before those that are left have passed
 abbrev pub invariant-loop-at : goal.invariant-loop-at
-invariant-loop-at l = Checked l.labels l.pending l.index l.fill l.at l.last l.sum
-
-abbrev pub decreases-loop-at : goal.decreases-loop-at
-decreases-loop-at l = l.fill - l.at
+invariant-loop-at l = CheckedLeft l.labels l.pending l.index l.last l.sum (places_left l.at-iterator)

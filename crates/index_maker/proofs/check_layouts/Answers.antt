@@ -1,23 +1,53 @@
-use Rattle.std.proofs.Common.{refl, sym, arith}
+use Rattle.std.specs.Prelude.{◌≡◌, ℕ, List, Err, None}
+use Rattle.std.proofs.Common.{refl, sym, ap, ap₂, ◌∙◌, arith}
+use Rattle.std.proofs.lemmas.Result.{err_from_is_err_and}
+use Rattle.record.specs.Records.{within_limit}
 use Rattle.record.proofs.RecordsLaws.{limit_kept, limit_passed}
+use Rattle.refusal.specs.Verdicts.{and_then, layout_verdict, Verdict}
+use Rattle.breakpoints.specs.Breakpoints.{pending_buffer_layout}
+use Rattle.labels.specs.Labels.{label_layout}
 use Rattle.emit_checks.proofs.PlacesLaws.{pending_place}
+use Rattle.indexed_outcome.specs.Make.{make_layouts}
 use Rattle.indexed_outcome.proofs.MakeLaws.{label_place_lem, layouts_are}
 use Rattle.index_maker.proofs.check_layouts.Goals as goal
 
-pub overflow_cast-result : goal.overflow_cast-result
-overflow_cast-result c = omega (arith, pending_place _ _ _ (sym c.in-Some.ensures))
+-- the layouts' verdict by that of each buffer
+by_each : (fill : ℕ) (pending labels index : List ℕ) (u v w : Verdict) → layout_verdict 0 (pending_buffer_layout fill pending) ≡ u → layout_verdict 1 (label_layout labels) ≡ v
+    → layout_verdict 2 (within_limit index None) ≡ w → make_layouts fill pending labels index ≡ and_then u (and_then v w)
+by_each fill pending labels index u v w e f g =
+    layouts_are fill pending labels index _ _ _ refl refl refl
+    ∙ ap (λ (x : Verdict). and_then x (and_then (layout_verdict 1 (label_layout labels)) (layout_verdict 2 (within_limit index None)))) e
+    ∙ ap₂ (λ (x y : Verdict). and_then u (and_then x y)) f g
 
-pub returns-in-Some : goal.returns-in-Some
-returns-in-Some c = sym (layouts_are _ _ _ _ _ _ _ (sym c.in-Some.ensures) refl refl)
+pub check_layout-requires : goal.check_layout-requires
+check_layout-requires c p e = omega (arith, pending_place _ _ p (sym c.check_pending_buffer.ensures ∙ e))
 
-pub overflow_cast-result-in-Some-first_bad_label : goal.overflow_cast-result-in-Some-first_bad_label
-overflow_cast-result-in-Some-first_bad_label c = omega (arith, label_place_lem _ _ (sym c.in-Some-first_bad_label.ensures))
+pub returns-in_err-check_layout : goal.returns-in_err-check_layout
+returns-in_err-check_layout c =
+    let a = c.args in
+    let p = err_from_is_err_and _ c.from_residual.ensures.1 in
+    p.1 ∙ ap Err p.2
+    ∙ sym (by_each a.fill a.pending.now a.labels.now a.index.now _ _ _ (ap (layout_verdict 0) (sym c.check_pending_buffer.ensures) ∙ sym c.in_err-check_layout.ensures) refl refl)
 
-pub returns-in-Some-first_bad_label : goal.returns-in-Some-first_bad_label
-returns-in-Some-first_bad_label c = sym (layouts_are _ _ _ _ _ _ _ (sym c.in_default.ensures) (sym c.in-Some-first_bad_label.ensures) refl)
+pub check_layout-requires-2 : goal.check_layout-requires-2
+check_layout-requires-2 c p e = omega (arith, label_place_lem _ p (sym c.first_bad_label.ensures ∙ e))
+
+pub returns-in_err-check_layout-2 : goal.returns-in_err-check_layout-2
+returns-in_err-check_layout-2 c =
+    let a = c.args in
+    let p = err_from_is_err_and _ c.from_residual-in_err-check_layout-2.ensures.1 in
+    p.1 ∙ ap Err p.2
+    ∙ sym (by_each a.fill a.pending.now a.labels.now a.index.now _ _ _ (ap (layout_verdict 0) (sym c.check_pending_buffer.ensures) ∙ sym c.in_ok-check_layout.ensures)
+    (ap (layout_verdict 1) (sym c.first_bad_label.ensures) ∙ sym c.in_err-check_layout-2.ensures) refl)
 
 pub returns-then-index-gt-LIMIT : goal.returns-then-index-gt-LIMIT
-returns-then-index-gt-LIMIT c = sym (layouts_are _ _ _ _ _ _ _ (sym c.in_default.ensures) (sym c.in_default-first_bad_label.ensures) (limit_passed _ _ c.if-index-gt-LIMIT.true))
+returns-then-index-gt-LIMIT c =
+    let a = c.args in
+    sym (by_each a.fill a.pending.now a.labels.now a.index.now _ _ _ (ap (layout_verdict 0) (sym c.check_pending_buffer.ensures) ∙ sym c.in_ok-check_layout.ensures)
+    (ap (layout_verdict 1) (sym c.first_bad_label.ensures) ∙ sym c.in_ok-check_layout-2.ensures) (ap (layout_verdict 2) (limit_passed _ _ c.if-index-gt-LIMIT.true)))
 
 pub returns : goal.returns
-returns c = sym (layouts_are _ _ _ _ _ _ _ (sym c.in_default.ensures) (sym c.in_default-first_bad_label.ensures) (limit_kept _ _ c.if-index-gt-LIMIT.false))
+returns c =
+    let a = c.args in
+    sym (by_each a.fill a.pending.now a.labels.now a.index.now _ _ _ (ap (layout_verdict 0) (sym c.check_pending_buffer.ensures) ∙ sym c.in_ok-check_layout.ensures)
+    (ap (layout_verdict 1) (sym c.first_bad_label.ensures) ∙ sym c.in_ok-check_layout-2.ensures) (ap (layout_verdict 2) (limit_kept _ _ c.if-index-gt-LIMIT.false)))

@@ -1,39 +1,62 @@
-use Rattle.std.specs.Prelude.{Err, None, Ok, Some}
-use Rattle.std.proofs.Common.{refl, sym, ◌∙◌, arith, length-take, length-take-le}
+use Rattle.std.specs.Prelude.{◌≡◌, ℕ, List, Err, Ok, Result}
+use Rattle.std.proofs.Common.{refl, sym, ap, ◌∙◌, take, arith, length-take, length-take-le}
+use Rattle.std.proofs.lemmas.Result.{err_from_is_err_and}
+use Rattle.refusal.specs.declared.Refusal.{Refusal}
+use Rattle.refusal.specs.Verdicts.{and_then, name_verdict, Verdict}
+use Rattle.labels.specs.Labels.{label_repeat}
 use Rattle.labels.proofs.LabelsLaws.{labels_named}
 use Rattle.breakpoints.proofs.BreakpointsLaws.{pending_buffer_good}
+use Rattle.label_uses.specs.UseBytes.{index_of}
+use Rattle.indexed_outcome.specs.Make.{make_layouts, make_outcome, make_by, made_of, room_for}
 use Rattle.indexed_outcome.proofs.MakeLaws.{layouts_good, outcome_by, repeat_place}
 use Rattle.index_maker.proofs.make_index.Goals as goal
 
-pub returns-in-Err : goal.returns-in-Err
-returns-in-Err c = outcome_by _ _ _ _ (Err _) _ (sym c.in-Err.ensures) refl
+-- the outcome by the verdict of the labels' names, where the layouts are kept
+by_names : (fill : ℕ) (pending labels index : List ℕ) (v : Verdict) → make_layouts fill pending labels index ≡ Ok tt → name_verdict 1 (label_repeat labels) ≡ v
+    → let new = index_of labels (take fill pending) in make_outcome fill pending labels index ≡ make_by (and_then v (room_for new index)) new index
+by_names fill pending labels index v e f =
+    let new = index_of labels (take fill pending) in
+    outcome_by fill pending labels index (Ok tt) _ e refl ∙ ap (λ (x : Verdict). make_by (and_then x (room_for new index)) new index) f
+
+pub returns-in_err-check_layouts : goal.returns-in_err-check_layouts
+returns-in_err-check_layouts c =
+    let a = c.args in
+    let p = err_from_is_err_and _ c.from_residual.ensures.1 in
+    outcome_by _ _ _ _ (Err _) _ (sym c.in_err-check_layouts.ensures) refl ∙ ap (λ (r : Result ℕ Refusal). made_of r a.index.now) (sym (p.1 ∙ ap Err p.2))
 
 pub make_index-n-requires-clause-labels_value : goal.make_index-n-requires-clause-labels_value
-make_index-n-requires-clause-labels_value c = (layouts_good _ _ _ _ (sym c.in_default.ensures)).labels_good
+make_index-n-requires-clause-labels_value c = (layouts_good _ _ _ _ (sym c.in_ok-check_layouts.ensures)).labels_good
 
 pub first_repeat-requires-clause-labels_value : goal.first_repeat-requires-clause-labels_value
-first_repeat-requires-clause-labels_value c = (layouts_good _ _ _ _ (sym c.in_default.ensures)).labels_good
+first_repeat-requires-clause-labels_value c = (layouts_good _ _ _ _ (sym c.in_ok-check_layouts.ensures)).labels_good
 
-pub overflow_cast-result : goal.overflow_cast-result
-overflow_cast-result c = omega (arith, repeat_place _ _ (layouts_good _ _ _ _ (sym c.in_default.ensures)).labels_good (sym c.in-Some.ensures))
+pub check_names-requires : goal.check_names-requires
+check_names-requires c p e = omega (arith, repeat_place _ p (layouts_good _ _ _ _ (sym c.in_ok-check_layouts.ensures)).labels_good (sym c.first_repeat.ensures ∙ e))
 
-pub returns-in-Some : goal.returns-in-Some
-returns-in-Some c = outcome_by _ _ _ _ (Ok tt) (Some _) (sym c.in_default.ensures) (sym c.in-Some.ensures)
+pub returns-in_err-check_names : goal.returns-in_err-check_names
+returns-in_err-check_names c =
+    let a = c.args in
+    let p = err_from_is_err_and _ c.from_residual-in_err-check_names.ensures.1 in
+    by_names a.fill a.pending.now a.labels.now a.index.now _ (sym c.in_ok-check_layouts.ensures) (ap (name_verdict 1) (sym c.first_repeat.ensures) ∙ sym c.in_err-check_names.ensures)
+    ∙ ap (λ (r : Result ℕ Refusal). made_of r a.index.now) (sym (p.1 ∙ ap Err p.2))
 
 pub slice_bounds-fill_or_refuse-end : goal.slice_bounds-fill_or_refuse-end
-slice_bounds-fill_or_refuse-end c = sym (length-take-le _ _ (pending_buffer_good _ _ (layouts_good _ _ _ _ (sym c.in_default.ensures)).pending_good).1)
+slice_bounds-fill_or_refuse-end c = sym (length-take-le _ _ (pending_buffer_good _ _ (layouts_good _ _ _ _ (sym c.in_ok-check_layouts.ensures)).pending_good).1)
 
 pub fill_or_refuse-requires-clause-pending_value : goal.fill_or_refuse-requires-clause-pending_value
-fill_or_refuse-requires-clause-pending_value c = (pending_buffer_good _ _ (layouts_good _ _ _ _ (sym c.in_default.ensures)).pending_good).2
+fill_or_refuse-requires-clause-pending_value c = (pending_buffer_good _ _ (layouts_good _ _ _ _ (sym c.in_ok-check_layouts.ensures)).pending_good).2
 
 pub fill_or_refuse-requires-clause-pending_len_bound : goal.fill_or_refuse-requires-clause-pending_len_bound
 fill_or_refuse-requires-clause-pending_len_bound c =
-    let l = layouts_good _ _ _ _ (sym c.in_default.ensures) in
+    let l = layouts_good _ _ _ _ (sym c.in_ok-check_layouts.ensures) in
     let p = pending_buffer_good c.args.fill c.args.pending.now l.pending_good in
     (omega (arith, p.0, length-take c.args.fill c.args.pending.now), l.index_short)
 
 pub fill_or_refuse-requires-clause-labels_value : goal.fill_or_refuse-requires-clause-labels_value
-fill_or_refuse-requires-clause-labels_value c = labels_named _ (layouts_good _ _ _ _ (sym c.in_default.ensures)).labels_good
+fill_or_refuse-requires-clause-labels_value c = labels_named _ (layouts_good _ _ _ _ (sym c.in_ok-check_layouts.ensures)).labels_good
 
 pub returns : goal.returns
-returns c = outcome_by _ _ _ _ (Ok tt) None (sym c.in_default.ensures) (sym c.in_default-first_repeat.ensures) ∙ c.fill_or_refuse.ensures
+returns c =
+    let a = c.args in
+    by_names a.fill a.pending.now a.labels.now a.index.now _ (sym c.in_ok-check_layouts.ensures) (ap (name_verdict 1) (sym c.first_repeat.ensures) ∙ sym c.in_ok-check_names.ensures)
+    ∙ c.fill_or_refuse.ensures

@@ -1,9 +1,16 @@
-use Rattle.std.specs.Prelude.{Err, None, Ok, Some}
-use Rattle.std.proofs.Common.{refl, sym, ◌∙◌, arith, length-take, length-take-le}
+use Rattle.std.specs.Prelude.{ℕ, ◌≡◌, Err, Option}
+use Rattle.std.proofs.Common.{refl, sym, ap, ap₂, ◌∙◌, arith, length-take, length-take-le}
+use Rattle.std.proofs.lemmas.Result.{err_from_is_err_and}
+use Rattle.refusal.specs.Verdicts.{and_then, layout_verdict, name_verdict, Verdict}
+use Rattle.refusal.proofs.VerdictsLaws.{layout_pass}
+use Rattle.descriptors.specs.Descriptors.{descriptor_repeat}
+use Rattle.labels.specs.Labels.{label_layout, label_repeat}
 use Rattle.emit_outcome.specs.Call.{lent_of, call_of}
+use Rattle.emit_outcome.specs.Checks.{layout_stop}
 use Rattle.emit_checks.proofs.ListsLaws.{layouts_pass}
 use Rattle.emit_checks.proofs.PlacesLaws.{repeat_place as descriptor_place}
-use Rattle.indexed_outcome.specs.Indexed.{IndexedCall, indexed_call_of}
+use Rattle.label_uses.specs.UseBytes.{index_layout}
+use Rattle.indexed_outcome.specs.Indexed.{IndexedCall, filled_pending, indexed_call_of, indexed_stop}
 use Rattle.indexed_outcome.proofs.MakeLaws.{label_place_lem, repeat_place}
 use Rattle.indexed_core.proofs.ChecksLaws.{index_place, pending_passes, stops_are}
 use Rattle.indexed_core.proofs.check_lists.Goals as goal
@@ -14,57 +21,89 @@ call c =
     let a = c.args in
     indexed_call_of (call_of a.tokens.now a.mnemonic.now a.descriptors.now (lent_of a.«data».now a.pending.now a.breakpoints.now) a.counts.counts a.place) a.labels.now a.index.now a.counts.index
 
-pub returns-in-Err : goal.returns-in-Err
-returns-in-Err c = sym (stops_are (call (goal.at.returns-in-Err c).After-check_layouts) (Err _) _ _ _ _ (sym c.in-Err.ensures) refl refl refl refl)
+-- why the call stops, by the verdict of each check
+by_each : (x : IndexedCall) (s t u v w : Verdict) → let c = x.call in
+    layout_stop c.token_list c.mnemonic c.descriptors c.lent c.numbers.place.region c.numbers.counts ≡ s
+    → layout_verdict 6 (label_layout x.labels) ≡ t
+    → layout_verdict 7 (index_layout x.labels (filled_pending c.lent c.numbers.counts) x.fill x.index) ≡ u
+    → name_verdict 2 (descriptor_repeat c.descriptors) ≡ v
+    → name_verdict 6 (label_repeat x.labels) ≡ w
+    → indexed_stop x ≡ and_then s (and_then t (and_then u (and_then v w)))
+by_each x s t u v w hs ht hu hv hw =
+    let c = x.call in
+    let index = index_layout x.labels (filled_pending c.lent c.numbers.counts) x.fill x.index in
+    stops_are x s _ _ _ _ hs refl refl refl refl
+    ∙ ap₂ (λ (p q : Verdict). and_then s (and_then p (and_then q (and_then (name_verdict 2 (descriptor_repeat c.descriptors)) (name_verdict 6 (label_repeat x.labels)))))) ht hu
+    ∙ ap₂ (λ (p q : Verdict). and_then s (and_then t (and_then u (and_then p q)))) hv hw
 
-pub overflow_cast-result : goal.overflow_cast-result
-overflow_cast-result c = omega (arith, label_place_lem _ _ (sym c.in-Some.ensures))
+-- a check's verdict, by what it found
+verdict : (of : Option ℕ → Verdict) {bad found : Option ℕ} {v : Verdict} → bad ≡ found → v ≡ of bad → of found ≡ v
+verdict of e f = ap of (sym e) ∙ sym f
 
-pub returns-in-Some : goal.returns-in-Some
-returns-in-Some c = sym (stops_are (call (goal.at.returns-in-Some c).After-check_layouts) (Ok tt) (Some _) _ _ _ (sym c.in_default.ensures) (sym c.in-Some.ensures) refl refl refl)
+pub returns-in_err-check_layouts : goal.returns-in_err-check_layouts
+returns-in_err-check_layouts c =
+    let p = err_from_is_err_and _ c.from_residual.ensures.1 in
+    p.1 ∙ ap Err p.2
+    ∙ sym (by_each (call (goal.at.returns-in_err-check_layouts c).After-check_layouts) _ _ _ _ _ (sym c.in_err-check_layouts.ensures) refl refl refl refl)
+
+pub check_layout-requires : goal.check_layout-requires
+check_layout-requires c p e = omega (arith, label_place_lem _ p (sym c.first_bad_label.ensures ∙ e))
+
+pub returns-in_err-check_layout : goal.returns-in_err-check_layout
+returns-in_err-check_layout c =
+    let p = err_from_is_err_and _ c.from_residual-in_err-check_layout.ensures.1 in
+    p.1 ∙ ap Err p.2
+    ∙ sym (by_each (call (goal.at.returns-in_err-check_layout c).After-check_layouts) _ _ _ _ _ (sym c.in_ok-check_layouts.ensures)
+    (verdict (layout_verdict 6) c.first_bad_label.ensures c.in_err-check_layout.ensures) refl refl refl)
 
 pub slice_bounds-check_uses-end : goal.slice_bounds-check_uses-end
 slice_bounds-check_uses-end c =
     let a = c.args in
-    sym (length-take-le _ _ (pending_passes _ _ _ (lent_of a.«data».now a.pending.now a.breakpoints.now) a.place.region _ (sym c.in_default.ensures)).1)
+    sym (length-take-le _ _ (pending_passes _ _ _ (lent_of a.«data».now a.pending.now a.breakpoints.now) a.place.region _ (sym c.in_ok-check_layouts.ensures)).1)
 
 pub check_uses-uses-requires-clause-pending_value : goal.check_uses-uses-requires-clause-pending_value
 check_uses-uses-requires-clause-pending_value c =
     let a = c.args in
-    let p = pending_passes _ _ _ (lent_of a.«data».now a.pending.now a.breakpoints.now) a.place.region a.counts.counts (sym c.in_default.ensures) in
+    let p = pending_passes _ _ _ (lent_of a.«data».now a.pending.now a.breakpoints.now) a.place.region a.counts.counts (sym c.in_ok-check_layouts.ensures) in
     (p.2, omega (arith, p.0, length-take a.counts.counts.pending a.pending.now))
 
-pub overflow_cast-result-in-Some-layout : goal.overflow_cast-result-in-Some-layout
-overflow_cast-result-in-Some-layout c = omega (arith, index_place _ _ _ _ _ (sym c.check_uses-uses.ensures.0 ∙ c.in-Some-layout.is))
+pub check_uses-uses-requires-clause-labels_value : goal.check_uses-uses-requires-clause-labels_value
+check_uses-uses-requires-clause-labels_value c = sym c.first_bad_label.ensures ∙ layout_pass 6 _ (sym c.in_ok-check_layout.ensures)
 
-pub returns-in-Some-layout : goal.returns-in-Some-layout
-returns-in-Some-layout c =
-    sym (stops_are (call (goal.at.returns-in-Some-layout c).After-check_layouts) (Ok tt) None (Some _) _ _ (sym c.in_default.ensures) (sym c.in_default-first_bad_label.ensures) (sym c.check_uses-uses.ensures.0 ∙ c.in-Some-layout.is) refl refl)
+pub check_layout-requires-2 : goal.check_layout-requires-2
+check_layout-requires-2 c p e = omega (arith, index_place _ _ _ _ p (sym c.check_uses-uses.ensures.0 ∙ e))
+
+pub returns-in_err-check_layout-2 : goal.returns-in_err-check_layout-2
+returns-in_err-check_layout-2 c =
+    let p = err_from_is_err_and _ c.from_residual-in_err-check_layout-2.ensures.1 in
+    p.1 ∙ ap Err p.2
+    ∙ sym (by_each (call (goal.at.returns-in_err-check_layout-2 c).After-check_layouts) _ _ _ _ _ (sym c.in_ok-check_layouts.ensures)
+    (verdict (layout_verdict 6) c.first_bad_label.ensures c.in_ok-check_layout.ensures) (verdict (layout_verdict 7) c.check_uses-uses.ensures.0 c.in_err-check_layout-2.ensures) refl refl)
 
 pub first_repeat-requires : goal.first_repeat-requires
 first_repeat-requires c =
     let a = c.args in
-    (layouts_pass _ _ _ (lent_of a.«data».now a.pending.now a.breakpoints.now) a.place.region _ (sym c.in_default.ensures)).descriptors_good
+    (layouts_pass _ _ _ (lent_of a.«data».now a.pending.now a.breakpoints.now) a.place.region _ (sym c.in_ok-check_layouts.ensures)).descriptors_good
 
-pub overflow_cast-result-in-Some : goal.overflow_cast-result-in-Some
-overflow_cast-result-in-Some c =
+pub check_names-requires : goal.check_names-requires
+check_names-requires c p e =
     let a = c.args in
-    omega (arith, descriptor_place _ _ (layouts_pass _ _ _ (lent_of a.«data».now a.pending.now a.breakpoints.now) a.place.region _ (sym c.in_default.ensures)).descriptors_good (sym c.in-Some.ensures))
+    omega (arith, descriptor_place _ p (layouts_pass _ _ _ (lent_of a.«data».now a.pending.now a.breakpoints.now) a.place.region _ (sym c.in_ok-check_layouts.ensures)).descriptors_good (sym c.first_repeat.ensures ∙ e))
 
-pub returns-in-Some : goal.returns-in-Some
-returns-in-Some c =
-    sym (stops_are (call (goal.at.returns-in-Some c).After-check_layouts) (Ok tt) None None (Some _) _ (sym c.in_default.ensures) (sym c.in_default-first_bad_label.ensures) (sym c.check_uses-uses.ensures.0 ∙ c.in_default-layout.is)
-    (sym c.in-Some.ensures) refl)
+pub returns-in_err-check_names : goal.returns-in_err-check_names
+returns-in_err-check_names c =
+    let p = err_from_is_err_and _ c.from_residual-in_err-check_names.ensures.1 in
+    p.1 ∙ ap Err p.2
+    ∙ sym (by_each (call (goal.at.returns-in_err-check_names c).After-check_layouts) _ _ _ _ _ (sym c.in_ok-check_layouts.ensures)
+    (verdict (layout_verdict 6) c.first_bad_label.ensures c.in_ok-check_layout.ensures) (verdict (layout_verdict 7) c.check_uses-uses.ensures.0 c.in_ok-check_layout-2.ensures)
+    (verdict (name_verdict 2) c.first_repeat.ensures c.in_err-check_names.ensures) refl)
 
-pub overflow_cast-result-in-Some-repeat : goal.overflow_cast-result-in-Some-repeat
-overflow_cast-result-in-Some-repeat c = omega (arith, repeat_place _ _ (sym c.in_default-first_bad_label.ensures) (sym c.check_uses-uses.ensures.1 ∙ c.in-Some-repeat.is))
-
-pub returns-in-Some-repeat : goal.returns-in-Some-repeat
-returns-in-Some-repeat c =
-    sym (stops_are (call (goal.at.returns-in-Some-repeat c).After-check_layouts) (Ok tt) None None None (Some _) (sym c.in_default.ensures) (sym c.in_default-first_bad_label.ensures) (sym c.check_uses-uses.ensures.0 ∙ c.in_default-layout.is)
-    (sym c.in_default-first_repeat.ensures) (sym c.check_uses-uses.ensures.1 ∙ c.in-Some-repeat.is))
+pub check_names-requires-2 : goal.check_names-requires-2
+check_names-requires-2 c p e =
+    omega (arith, repeat_place _ p (sym c.first_bad_label.ensures ∙ layout_pass 6 _ (sym c.in_ok-check_layout.ensures)) (sym c.check_uses-uses.ensures.1 ∙ e))
 
 pub returns : goal.returns
 returns c =
-    sym (stops_are (call (goal.at.returns c).After-check_layouts) (Ok tt) None None None None (sym c.in_default.ensures) (sym c.in_default-first_bad_label.ensures) (sym c.check_uses-uses.ensures.0 ∙ c.in_default-layout.is)
-    (sym c.in_default-first_repeat.ensures) (sym c.check_uses-uses.ensures.1 ∙ c.in_default-repeat.is))
+    sym (by_each (call (goal.at.returns c).After-check_layouts) _ _ _ _ _ (sym c.in_ok-check_layouts.ensures)
+    (verdict (layout_verdict 6) c.first_bad_label.ensures c.in_ok-check_layout.ensures) (verdict (layout_verdict 7) c.check_uses-uses.ensures.0 c.in_ok-check_layout-2.ensures)
+    (verdict (name_verdict 2) c.first_repeat.ensures c.in_ok-check_names.ensures) (verdict (name_verdict 6) c.check_uses-uses.ensures.1 c.check_names-2.ensures))

@@ -8,7 +8,7 @@ use Rattle.line_uses.proofs.size_with_line.Goals as goal
 
 pub loop-i-init : goal.loop-i-init
 unfolding line_uses
-loop-i-init c = (omega arith, omega arith, λ us i r m. (held_is c.args.index.now c.args.fill us i).1)
+loop-i-init c = (omega arith, λ us i r m. (held_is c.args.index.now c.args.fill us i).1)
 
 pub loop-i-preserved : goal.loop-i-preserved
 loop-i-preserved c =
@@ -16,7 +16,6 @@ loop-i-preserved c =
     let l = c.loop-i in
     let g = c.pair_growth-size.ensures in
     let h : l.i < length a.e.instructions = omega arith in (
-      omega arith,
-      omega (arith, l.invariant.1, g.0),
-      λ us i r m. omega (arith, l.invariant.2 us i r m, g.1 us i r, size_next a.labels.now a.tokens.now (plain 0) (get_or a.e.instructions l.i (plain 0)).label m a.e.instructions l.i us (rise_all us r) h refl),
+      omega (arith, l.invariant.0, g.0),
+      λ us i r m. omega (arith, l.invariant.1 us i r m, g.1 us i r, size_next a.labels.now a.tokens.now (plain 0) (get_or a.e.instructions l.i (plain 0)).label m a.e.instructions l.i us (rise_all us r) h refl),
     )

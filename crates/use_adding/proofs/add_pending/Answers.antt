@@ -8,4 +8,4 @@ pub returns-in-Constant : goal.returns-in-Constant
 returns-in-Constant c =
     let a = c.args in
     constant_adds a.d.now a.labels.now a.pending.now a.fill a.n (label_of a.pending.now a.at) c.in-Constant.field-0
-    (sym (ap (λ (p : Pending). p.label) c.read_pending-waits.ensures) ∙ c.in-Constant.is)
+    (sym (ap (λ (p : Pending). p.label) c.read_pending-label.ensures) ∙ c.in-Constant.is)
