@@ -6,6 +6,7 @@ ghost use Rattle.text.specs.Text.{Put};
 ghost use Rattle.count_text.specs.CountText.{count_lines, answer_text, count_text};
 
 use form_counts::FormCounts;
+use program::Program;
 use refusal::Refusal;
 
 // Room for four counts, or for a refusal.
@@ -38,4 +39,13 @@ pub fn count_forms(input: &[u8], out: &mut [u8; MOST]) -> usize
     let start = input::word_or_zero(input, 0);
     let end = input::word_or_zero(input, 4);
     put_answer(out, form_counts::count_forms(start, end))
+}
+
+// `count_forms` as a program.
+pub struct CountFormsText;
+
+impl Program<{ MOST }> for CountFormsText {
+    fn print(&self, input: &[u8], out: &mut [u8; MOST]) -> usize {
+        count_forms(input, out)
+    }
 }

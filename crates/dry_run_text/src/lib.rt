@@ -7,6 +7,7 @@ ghost use Rattle.dry_run_text.specs.Lines.{run_text, outcome_text, machine_in, d
 
 use dry_run_outcome::{DryRun, RunAnswer};
 use machine::{Machine, Reason};
+use program::Program;
 
 mod lines;
 
@@ -24,11 +25,10 @@ fn put_run(out: &mut [u8], reason: Reason, steps: u32, machine: Machine) -> usiz
     requires { 400000 ≤ length out.old }
     ensures { Put out.old 0 (run_text reason steps machine) out.new result }
 {
-    let registers = machine.registers;
     let steps_at = lines::put_reason(&mut *out, 0, reason);
     let pc_at = text::put_number_line(&mut *out, steps_at, b"steps", steps as u64);
     let registers_at = lines::put_pc(&mut *out, pc_at, machine.pc);
-    lines::put_registers(out, registers_at, &registers)
+    lines::put_registers(out, registers_at, &machine.registers)
 }
 
 // The four lines of a run, or the refusal alone.
@@ -36,10 +36,8 @@ fn put_outcome(out: &mut [u8], run: DryRun) -> usize
     requires { 400000 ≤ length out.old }
     ensures { Put out.old 0 (outcome_text run.answer run.machine) out.new result }
 {
-    let answer = run.answer;
-    let machine = run.machine;
-    match answer {
-        RunAnswer::Stopped(reason, steps) => put_run(out, reason, steps, machine),
+    match run.answer {
+        RunAnswer::Stopped(reason, steps) => put_run(out, reason, steps, run.machine),
         RunAnswer::Refused(refusal) => text::put_refusal(out, 0, refusal::numbers(refusal)),
     }
 }
@@ -55,4 +53,13 @@ pub fn dry_run(input: &[u8], out: &mut [u8; text::MOST]) -> usize
         out,
         dry_run_core::dry_run(input::list_of(input, 0), machine, allowance),
     )
+}
+
+// `dry_run` as a program.
+pub struct DryRunText;
+
+impl Program<{ text::MOST }> for DryRunText {
+    fn print(&self, input: &[u8], out: &mut [u8; text::MOST]) -> usize {
+        dry_run(input, out)
+    }
 }

@@ -31,10 +31,8 @@ fn put_hex_fields(out: &mut [u8], at: usize, numbers: &[u32]) -> usize
     ensures { Put out.old at (hex_fields numbers.now) out.new result }
 {
     let mut end = at;
-    let mut i: usize = 0;
-    while i < numbers.len() {
-        end = put_hex_field(&mut *out, end, numbers[i]);
-        i += 1;
+    for &number in numbers {
+        end = put_hex_field(&mut *out, end, number);
     }
     end
 }

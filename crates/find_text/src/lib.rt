@@ -6,6 +6,7 @@ ghost use Rattle.text.specs.Text.{Put};
 ghost use Rattle.find_text.specs.FindText.{address_line, found_lines, answer_text, find_text};
 
 use labels::Found;
+use program::Program;
 use refusal::Refusal;
 
 // Room for two lines, or for a refusal.
@@ -53,4 +54,13 @@ pub fn find_label(input: &[u8], out: &mut [u8; MOST]) -> usize
         out,
         label_finder::find_label(input::list_of(input, 0), input::list_of(input, 1), source),
     )
+}
+
+// `find_label` as a program.
+pub struct FindLabelText;
+
+impl Program<{ MOST }> for FindLabelText {
+    fn print(&self, input: &[u8], out: &mut [u8; MOST]) -> usize {
+        find_label(input, out)
+    }
 }

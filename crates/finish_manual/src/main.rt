@@ -1,10 +1,8 @@
 // Builds the lists of standard input by the manual and prints the image or the refusal (document 02, P5; document 01, `finish`).
 #![tactic(auto)]
 
+use image_text::FinishManualText;
+
 fn main() {
-    let mut input = [0u8; input::MOST];
-    let mut out = [0u8; text::MOST];
-    let count = io::read_full(input::STDIN, &mut input);
-    let end = image_text::finish_manual(&input[..count], &mut out);
-    io::write_all(text::STDOUT, &out[..end]);
+    program::run(&FinishManualText);
 }

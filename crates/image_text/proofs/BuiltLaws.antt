@@ -25,8 +25,8 @@ module _ (job : Job) (labels : Table) (entry regions pending : List ℕ) where
 -- what was refused does not show what follows
 stopped : (a b v w : Verdict) (r : Refusal) (address : ℕ) (d₁ r₁ d₂ r₂ : List ℕ) → let o₁ = outcome_by (and_then (and_then a (and_then b (Err r))) v) address d₁ r₁ in
     let o₂ = outcome_by (and_then (and_then a (and_then b (Err r))) w) address d₂ r₂ in outcome_text o₁.answer o₁.regions ≡ outcome_text o₂.answer o₂.regions
-stopped (Ok tt) (Ok tt) v w r address d₁ r₁ d₂ r₂ = refl
-stopped (Ok tt) (Err b) v w r address d₁ r₁ d₂ r₂ = refl
+stopped (Ok _) (Ok _) v w r address d₁ r₁ d₂ r₂ = refl
+stopped (Ok _) (Err b) v w r address d₁ r₁ d₂ r₂ = refl
 stopped (Err a) b v w r address d₁ r₁ d₂ r₂ = refl
 
 module _ (job : Job) (labels entry pending : List ℕ) where

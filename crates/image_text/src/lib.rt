@@ -8,6 +8,7 @@ ghost use Rattle.text.specs.Text.{Put};
 ghost use Rattle.image_text.specs.Image.{data_lines, region_text, regions_text, build_text, finish_text_by, finish_text};
 
 use jobs::Job;
+use program::Program;
 
 mod lines;
 
@@ -20,14 +21,14 @@ fn put_data(out: &mut [u8], at: usize, address: u32, data: &[u8]) -> usize
     let mut end = at;
     let mut i = 0;
     while i + 4 <= data.len() {
-        let pc = std::num::wrapping_add_u32(address, i as u32);
+        let pc = address.wrapping_add(i as u32);
         end = lines::put_word(&mut *out, end, pc, record::word_at(data, i));
         i += 4;
     }
     if i == data.len() {
         return end;
     }
-    let pc = std::num::wrapping_add_u32(address, i as u32);
+    let pc = address.wrapping_add(i as u32);
     lines::put_part(out, end, pc, &data[i..])
 }
 
@@ -54,10 +55,8 @@ fn put_regions(out: &mut [u8], at: usize, regions: &[u8]) -> usize
 {
     let count = regions::region_count(regions);
     let mut end = at;
-    let mut number = 0;
-    while number < count {
+    for number in 0..count {
         end = put_region(&mut *out, end, regions, number);
-        number += 1;
     }
     end
 }
@@ -112,4 +111,22 @@ pub fn finish_manual(input: &[u8], out: &mut [u8; text::MOST]) -> usize
     ensures { Put out.old 0 (finish_text_by Job.Manual input.now) out.new result }
 {
     put_input(Job::Manual, input, out)
+}
+
+// `finish` as a program.
+pub struct FinishText;
+
+impl Program<{ text::MOST }> for FinishText {
+    fn print(&self, input: &[u8], out: &mut [u8; text::MOST]) -> usize {
+        finish(input, out)
+    }
+}
+
+// `finish_manual` as a program.
+pub struct FinishManualText;
+
+impl Program<{ text::MOST }> for FinishManualText {
+    fn print(&self, input: &[u8], out: &mut [u8; text::MOST]) -> usize {
+        finish_manual(input, out)
+    }
 }

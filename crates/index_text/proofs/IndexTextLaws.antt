@@ -23,7 +23,7 @@ over s h = rw (lt-leb (length s) limit h, within_limit)
 passed_last : (a b : Verdict) (r : Refusal) → and_then a (and_then b (Err r)) ≡ Ok tt → ◌≡◌ {A = ℕ} 0 1
 passed_last (Err x) b r e = cc
 passed_last (Ok tt) (Err x) r e = cc
-passed_last (Ok tt) (Ok tt) r e = cc
+passed_last (Ok _) (Ok _) r e = cc
 
 module _ (fill : ℕ) (pending labels : List ℕ) where
   abbrev shown : List ℕ → List ℕ

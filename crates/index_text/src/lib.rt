@@ -6,6 +6,7 @@ ghost use Rattle.indexed_outcome.specs.Make.{make_outcome};
 ghost use Rattle.text.specs.Text.{Put};
 ghost use Rattle.index_text.specs.IndexText.{made_text, outcome_text, make_index_text};
 
+use program::Program;
 
 // The fill count and the whole buffer.
 fn put_made(out: &mut [u8], fill: u32, index: &[u8]) -> usize
@@ -38,4 +39,13 @@ pub fn make_index(input: &[u8], out: &mut [u8; text::MOST]) -> usize
     let pending = input::list_of(input, 0);
     let labels = input::list_of(input, 1);
     put_outcome(out, pending, fill, labels, &mut index[..kept])
+}
+
+// `make_index` as a program.
+pub struct MakeIndexText;
+
+impl Program<{ text::MOST }> for MakeIndexText {
+    fn print(&self, input: &[u8], out: &mut [u8; text::MOST]) -> usize {
+        make_index(input, out)
+    }
 }

@@ -11,6 +11,7 @@ ghost use Rattle.indexed_text.specs.IndexedText.{fills_line, head_text, outcome_
 use emit_outcome::{EmitAnswer, FillCounts, LinePlace};
 use indexed_outcome::IndexedCounts;
 use jobs::Job;
+use program::Program;
 
 // Room for the text of four buffers, each of one byte more than its limit.
 pub const MOST: usize = 525_000;
@@ -143,4 +144,13 @@ pub fn emit_indexed(input: &[u8], out: &mut [u8; MOST]) -> usize
         &mut breakpoints[..b],
         &mut index[..u],
     )
+}
+
+// `emit_indexed` as a program.
+pub struct EmitIndexedText;
+
+impl Program<{ MOST }> for EmitIndexedText {
+    fn print(&self, input: &[u8], out: &mut [u8; MOST]) -> usize {
+        emit_indexed(input, out)
+    }
 }

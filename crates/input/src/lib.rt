@@ -15,7 +15,7 @@ pub const STDIN: i32 = 0;
 pub fn least(a: usize, b: usize) -> usize
     ensures { result ≡ min a b }
 {
-    if a < b { a } else { b }
+    a.min(b)
 }
 
 // Where the list that stands first ends.
@@ -25,7 +25,7 @@ fn list_end(input: &[u8]) -> usize
     if input.len() < 4 {
         return input.len();
     }
-    least(4 + record::word_at(input, 0) as usize, input.len())
+    input.len().min(4 + record::word_at(input, 0) as usize)
 }
 
 // What stands behind the first `count` lists.
@@ -33,11 +33,8 @@ pub fn behind_lists(input: &[u8], count: usize) -> &[u8]
     ensures { result.now ≡ behind_lists count input.now }
 {
     let mut rest = input;
-    let mut i = 0;
-    while i < count {
-        let end = list_end(rest);
-        rest = &rest[end..];
-        i += 1;
+    for _ in 0..count {
+        rest = &rest[list_end(rest)..];
     }
     rest
 }
@@ -47,19 +44,15 @@ pub fn list_of(input: &[u8], number: usize) -> &[u8]
     ensures { result.now ≡ list_of number input.now }
 {
     let rest = behind_lists(input, number);
-    let start = least(4, rest.len());
     let end = list_end(rest);
-    &rest[start..end]
+    &rest[end.min(4)..end]
 }
 
 // The 4-byte number at `at`, or 0 where bytes of it are missing.
 pub fn word_or_zero(input: &[u8], at: usize) -> u32
     ensures { result ≡ word_or_zero input.now at }
 {
-    if at > input.len() {
-        return 0;
-    }
-    if input.len() - at < 4 {
+    if at > input.len() || input.len() - at < 4 {
         return 0;
     }
     record::word_at(input, at)
@@ -69,10 +62,7 @@ pub fn word_or_zero(input: &[u8], at: usize) -> u32
 pub fn half_or_zero(input: &[u8], at: usize) -> u16
     ensures { result ≡ half_or_zero input.now at }
 {
-    if at > input.len() {
-        return 0;
-    }
-    if input.len() - at < 2 {
+    if at > input.len() || input.len() - at < 2 {
         return 0;
     }
     record::half_at(input, at) as u16
@@ -82,7 +72,7 @@ pub fn half_or_zero(input: &[u8], at: usize) -> u16
 pub fn byte_or_zero(input: &[u8], at: usize) -> u8
     ensures { result ≡ byte_at input.now at }
 {
-    if at < input.len() { input[at] } else { 0 }
+    input.get(at).copied().unwrap_or(0)
 }
 
 // Copies the list, or as much of it as there is room for, and answers how many bytes.
@@ -90,7 +80,7 @@ pub fn hold(space: &mut [u8], list: &[u8]) -> usize
     ensures value { result ≡ min (length list.now) (length space.old) }
     ensures space_after { space.new ≡ append space.old 0 (take result list.now) }
 {
-    let count = least(list.len(), space.len());
+    let count = list.len().min(space.len());
     record::put_all(space, 0, &list[..count]);
     count
 }

@@ -9,6 +9,7 @@ ghost use Rattle.line_text.specs.Line.{numbers_in, outcome_text, call_text, job_
 
 use emit_outcome::{Emitted, FillCounts, LineNumbers, LinePlace};
 use jobs::Job;
+use program::Program;
 
 pub mod lines;
 
@@ -126,5 +127,14 @@ pub fn emit_line(input: &[u8], out: &mut [u8; text::MOST]) -> usize
     match job_in(input) {
         Some(job) => put_job(job, input, out),
         None => text::put_text(out, 0, b"no such job\n"),
+    }
+}
+
+// `emit_line` as a program.
+pub struct EmitLineText;
+
+impl Program<{ text::MOST }> for EmitLineText {
+    fn print(&self, input: &[u8], out: &mut [u8; text::MOST]) -> usize {
+        emit_line(input, out)
     }
 }

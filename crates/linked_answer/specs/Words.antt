@@ -1,6 +1,8 @@
 -- The answer of a linked call: six words. Assumes nothing.
-use Rattle.std.specs.Prelude.{ℕ, ◌-◌, ◌%◌, ◌^◌, List, [], ◌∷◌, map, ℤ, pos, negsuc, get_or}
+use Rattle.std.specs.Prelude.{ℕ, ◌-◌, ◌%◌, ◌^◌, List, [], ◌∷◌, map, ℤ, pos, negsuc, get_or, Err, Ok, Result}
 use Rattle.record.specs.declared.Location.{Location}
+use Rattle.refusal.specs.Numbers.{zero_location, numbered}
+use Rattle.refusal.specs.declared.Refusal.{Refusal}
 use Rattle.emit_pairs.specs.Pairs.{plain}
 use Rattle.emit_bytes.specs.Appended.{word_bytes}
 
@@ -20,6 +22,11 @@ low_word (negsuc n) = 2 ^ 32 - 1 - n % 2 ^ 32
 -- number, source, index, a and b, and the last: a build's entry, a line's position or a text's fill
 abbrev pub answer_words : (number : ℕ) → Location → ℤ → (b last : ℕ) → List ℕ
 answer_words number location a b last = number ∷ location.source ∷ location.index ∷ low_word a ∷ b ∷ last ∷ []
+
+-- those of an answer that gives one number, as the last; a refusal gives none
+abbrev pub answered_words : Result ℕ Refusal → List ℕ
+answered_words (Ok last) = answer_words 0 zero_location (pos 0) 0 last
+answered_words (Err r) = let n = numbered r in answer_words n.number n.location n.a n.b 0
 
 -- the number, which the call returns too
 abbrev pub number_of : List ℕ → ℕ

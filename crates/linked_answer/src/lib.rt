@@ -4,7 +4,7 @@
 ghost use Rattle.std.specs.Prelude.{◌≡◌, ◌*◌, ◌≤◌, pos, length};
 ghost use Rattle.record.specs.Stores.{append};
 ghost use Rattle.refusal.specs.Numbers.{zero_location, numbered};
-ghost use Rattle.linked_answer.specs.Words.{low_word, answer_words, words_as_bytes};
+ghost use Rattle.linked_answer.specs.Words.{low_word, answer_words, answered_words, words_as_bytes};
 
 use refusal::Refusal;
 
@@ -14,7 +14,7 @@ pub const ANSWER_BYTES: usize = 24;
 // What a call returns that has no room for them. No refusal has this number.
 pub const TOO_SHORT: u32 = 0xFFFF_FFFF;
 
-// The number's low 32 bits.
+// The number's low 32 bits. Kept as the definition has it, by the sign and the size.
 fn low_word(a: i64) -> u32
     ensures { result ≡ low_word a }
 {
@@ -43,14 +43,22 @@ pub fn refusal_words(refusal: Refusal, last: u32) -> [u32; 6]
     [n.number, at.source, at.index, low_word(n.a), n.b, last]
 }
 
+// The words of an answer that gives one number, as the last; a refusal gives none.
+pub fn answered_words(answer: Result<u32, Refusal>) -> [u32; 6]
+    ensures { result ≡ answered_words answer }
+{
+    match answer {
+        Ok(last) => done_words(0, last),
+        Err(refusal) => refusal_words(refusal, 0),
+    }
+}
+
 // The words' bytes from the buffer's start on.
 pub fn store_words(d: &mut [u8], words: &[u32])
     requires { 4 * length words.now ≤ length d.old }
     ensures { d.new ≡ append d.old 0 (words_as_bytes words.now) }
 {
-    let mut i: usize = 0;
-    while i < words.len() {
-        record::put32(&mut *d, 4 * i, words[i]);
-        i += 1;
+    for (i, &word) in words.iter().enumerate() {
+        record::put32(&mut *d, 4 * i, word);
     }
 }

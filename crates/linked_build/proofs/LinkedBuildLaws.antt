@@ -1,14 +1,19 @@
 -- Laws of the linked call for a build: too short an answer, and an answered call. Assumes nothing.
-use Rattle.std.specs.Prelude.{ℕ, ◌≤◌, ◌<◌, ◌≡◌, List, length, Result}
+use Rattle.std.specs.Prelude.{ℕ, ◌≤◌, ◌<◌, ◌≡◌, List, length, refl, Err, Ok, Result}
 use Rattle.std.proofs.Common.{le-leb}
 use Rattle.std.proofs.lemmas.Bool.{lt-leb}
 use Rattle.jobs.specs.declared.Job.{Job}
 use Rattle.record.specs.Stores.{append}
-use Rattle.linked_answer.specs.Words.{answer_bytes, too_short, number_of, words_as_bytes}
+use Rattle.linked_answer.specs.Words.{answer_bytes, too_short, answered_words, number_of, words_as_bytes}
 use Rattle.labels.specs.Labels.{table_of}
 use Rattle.build_outcome.specs.Build.{build_outcome}
 use Rattle.linked_build.specs.LinkedBuild.{built_words, linked_build_by}
 use Rattle.refusal.specs.declared.Refusal.{Refusal}
+
+-- the words are those of an answer that gives one number
+pub words_are : (answer : Result ℕ Refusal) → answered_words answer ≡ built_words answer
+words_are (Ok last) = refl
+words_are (Err r) = refl
 
 module _ (job : Job) (labels entry regions pending answer : List ℕ) where
   pub build_short : length answer < answer_bytes → linked_build_by job labels entry regions pending answer ≡ (record { result = too_short; regions = regions; answer = answer })

@@ -2,21 +2,10 @@
 #![tactic(auto)]
 
 ghost use Rattle.std.specs.Prelude.{◌≡◌};
-ghost use Rattle.linked_build.specs.LinkedBuild.{built_words, linked_build_by};
+ghost use Rattle.linked_build.specs.LinkedBuild.{linked_build_by};
 
 use jobs::Job;
 use linked_answer::{ANSWER_BYTES, TOO_SHORT};
-use refusal::Refusal;
-
-// A refused build has no entry.
-fn built_words(built: Result<u32, Refusal>) -> [u32; 6]
-    ensures { result ≡ built_words built }
-{
-    match built {
-        Ok(address) => linked_answer::done_words(0, address),
-        Err(refusal) => linked_answer::refusal_words(refusal, 0),
-    }
-}
 
 // Patches the regions in place or refuses, writes the answer and returns its number: 0 for an accepted build.
 // Where the answer is too short it returns TOO_SHORT and changes nothing.
@@ -35,7 +24,7 @@ pub fn build(
         return TOO_SHORT;
     }
     let built = binary_builder::build_for(job, labels, entry, regions, pending);
-    let words = built_words(built);
+    let words = linked_answer::answered_words(built);
     linked_answer::store_words(answer, &words[..]);
     words[0]
 }

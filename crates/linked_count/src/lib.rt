@@ -37,9 +37,8 @@ fn put_form_counts(counts: &mut [u8], answer: Result<FormCounts, Refusal>)
     requires { form_count_bytes ≤ length counts.old }
     ensures { counts.new ≡ form_counts_after answer counts.old }
 {
-    match answer {
-        Ok(counted) => store_form_counts(counts, counted),
-        Err(_) => {}
+    if let Ok(counted) = answer {
+        store_form_counts(counts, counted);
     }
 }
 

@@ -12,8 +12,7 @@ use refusal::Refusal;
 fn found_words(found: Found) -> [u32; 6]
     ensures { result ≡ found_words found }
 {
-    let address = found.address;
-    match address {
+    match found.address {
         Some(value) => [0, 0, 0, 1, found.compared, value],
         None => [0, 0, 0, 0, found.compared, 0],
     }

@@ -2,20 +2,9 @@
 #![tactic(auto)]
 
 ghost use Rattle.std.specs.Prelude.{◌≡◌};
-ghost use Rattle.linked_macros.specs.LinkedMacros.{written_words, linked_macros};
+ghost use Rattle.linked_macros.specs.LinkedMacros.{linked_macros};
 
 use linked_answer::{ANSWER_BYTES, TOO_SHORT};
-use refusal::Refusal;
-
-// A refused list has no fill.
-fn written_words(answer: Result<u32, Refusal>) -> [u32; 6]
-    ensures { result ≡ written_words answer }
-{
-    match answer {
-        Ok(fill) => linked_answer::done_words(0, fill),
-        Err(refusal) => linked_answer::refusal_words(refusal, 0),
-    }
-}
 
 // Writes the list out or refuses, writes the answer and returns its number: 0 for a list that was written out.
 // Where the answer is too short it returns TOO_SHORT and changes nothing.
@@ -27,7 +16,7 @@ pub fn write_out(tokens: &[u8], macros: &[u8], out: &mut [u8], answer: &mut [u8]
         return TOO_SHORT;
     }
     let given = write_out::write_out(tokens, macros, out);
-    let words = written_words(given);
+    let words = linked_answer::answered_words(given);
     linked_answer::store_words(answer, &words[..]);
     words[0]
 }

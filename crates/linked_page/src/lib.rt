@@ -2,20 +2,9 @@
 #![tactic(auto)]
 
 ghost use Rattle.std.specs.Prelude.{◌≡◌};
-ghost use Rattle.linked_page.specs.LinkedPage.{page_words, linked_page};
+ghost use Rattle.linked_page.specs.LinkedPage.{linked_page};
 
 use linked_answer::{ANSWER_BYTES, TOO_SHORT};
-use refusal::Refusal;
-
-// A refused page has no length.
-fn page_words(answer: Result<u32, Refusal>) -> [u32; 6]
-    ensures { result ≡ page_words answer }
-{
-    match answer {
-        Ok(length) => linked_answer::done_words(0, length),
-        Err(refusal) => linked_answer::refusal_words(refusal, 0),
-    }
-}
 
 // Lays the image out or refuses, writes the answer and returns its number: 0 for a page.
 // Where the answer is too short it returns TOO_SHORT and changes nothing.
@@ -27,7 +16,7 @@ pub fn lay_out(labels: &[u8], regions: &[u8], page: &mut [u8], answer: &mut [u8]
         return TOO_SHORT;
     }
     let given = page_core::lay_out(labels, regions, page);
-    let words = page_words(given);
+    let words = linked_answer::answered_words(given);
     linked_answer::store_words(answer, &words[..]);
     words[0]
 }

@@ -6,6 +6,7 @@ ghost use Rattle.text.specs.Text.{Put};
 ghost use Rattle.written_out.specs.Outcome.{write_out_outcome};
 ghost use Rattle.macro_text.specs.MacroText.{outcome_text, expand_text};
 
+use program::Program;
 
 // The written-out tokens, or the refusal alone.
 fn put_written(out: &mut [u8], tokens: &[u8], macros: &[u8], written: &mut [u8]) -> usize
@@ -28,4 +29,13 @@ pub fn expand(input: &[u8], out: &mut [u8; text::MOST]) -> usize
     let tokens = input::list_of(input, 0);
     let macros = input::list_of(input, 1);
     put_written(out, tokens, macros, &mut written[..room])
+}
+
+// `expand` as a program.
+pub struct ExpandText;
+
+impl Program<{ text::MOST }> for ExpandText {
+    fn print(&self, input: &[u8], out: &mut [u8; text::MOST]) -> usize {
+        expand(input, out)
+    }
 }

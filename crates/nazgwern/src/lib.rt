@@ -3,8 +3,8 @@
 
 ghost use Rattle.std.specs.Prelude.{◌≡◌};
 ghost use Rattle.emit_outcome.specs.Call.{lent_of};
-ghost use Rattle.linked_build.specs.LinkedBuild.{linked_build_by, linked_build};
-ghost use Rattle.linked_line.specs.LinkedLine.{linked_line_by, linked_line};
+ghost use Rattle.linked_build.specs.LinkedBuild.{linked_build_by};
+ghost use Rattle.linked_line.specs.LinkedLine.{linked_line_by};
 ghost use Rattle.linked_count.specs.LinkedCount.{linked_count};
 ghost use Rattle.linked_text.specs.LinkedText.{linked_text};
 ghost use Rattle.linked_dry_run.specs.LinkedDryRun.{linked_dry_run};
@@ -18,36 +18,24 @@ ghost use Rattle.patching_line.specs.Contract.{given_of};
 use emit_outcome::LinePlace;
 use jobs::Job;
 
-// Patches the regions in place or refuses: linked_build says how.
+// Patches the regions in place or refuses: linked_build_by says how.
 pub fn nazgwern_build(
+    job: Job,
     labels: &[u8],
     entry: &[u8],
     regions: &mut [u8],
     pending: &[u8],
     answer: &mut [u8],
 ) -> u32
-    ensures { linked_build labels.now entry.now regions.old pending.now answer.old
+    ensures { linked_build_by job labels.now entry.now regions.old pending.now answer.old
         ≡ (record { result = result; regions = regions.new; answer = answer.new }) }
 {
-    linked_build::build(Job::Commit, labels, entry, regions, pending, answer)
+    linked_build::build(job, labels, entry, regions, pending, answer)
 }
 
-// The same by the manual.
-pub fn nazgwern_build_manual(
-    labels: &[u8],
-    entry: &[u8],
-    regions: &mut [u8],
-    pending: &[u8],
-    answer: &mut [u8],
-) -> u32
-    ensures { linked_build_by Job.Manual labels.now entry.now regions.old pending.now answer.old
-        ≡ (record { result = result; regions = regions.new; answer = answer.new }) }
-{
-    linked_build::build(Job::Manual, labels, entry, regions, pending, answer)
-}
-
-// Emits a line into the buffers or refuses it: linked_line says how.
+// Emits a line into the buffers or refuses it: linked_line_by says how.
 pub fn nazgwern_do_instruction(
+    job: Job,
     tokens: &[u8],
     mnemonic: &[u8],
     descriptors: &[u8],
@@ -60,7 +48,7 @@ pub fn nazgwern_do_instruction(
     address: u32,
     answer: &mut [u8],
 ) -> u32
-    ensures { linked_line tokens.now mnemonic.now descriptors.now
+    ensures { linked_line_by job tokens.now mnemonic.now descriptors.now
         (lent_of «data».old pending.old breakpoints.old) counts.old
         (record { position = position; region = region; address = address }) answer.old
         ≡ (record {
@@ -76,93 +64,7 @@ pub fn nazgwern_do_instruction(
         address,
     };
     linked_line::do_instruction(
-        Job::Commit,
-        tokens,
-        mnemonic,
-        descriptors,
-        data,
-        pending,
-        breakpoints,
-        counts,
-        place,
-        answer,
-    )
-}
-
-// The same in a job by the manual.
-pub fn nazgwern_do_manual_instruction(
-    tokens: &[u8],
-    mnemonic: &[u8],
-    descriptors: &[u8],
-    data: &mut [u8],
-    pending: &mut [u8],
-    breakpoints: &mut [u8],
-    counts: &mut [u8],
-    position: u32,
-    region: u16,
-    address: u32,
-    answer: &mut [u8],
-) -> u32
-    ensures { linked_line_by Job.Manual tokens.now mnemonic.now descriptors.now
-        (lent_of «data».old pending.old breakpoints.old) counts.old
-        (record { position = position; region = region; address = address }) answer.old
-        ≡ (record {
-          result = result;
-          lent = lent_of «data».new pending.new breakpoints.new;
-          counts = counts.new;
-          answer = answer.new;
-        }) }
-{
-    let place = LinePlace {
-        position,
-        region,
-        address,
-    };
-    linked_line::do_instruction(
-        Job::Manual,
-        tokens,
-        mnemonic,
-        descriptors,
-        data,
-        pending,
-        breakpoints,
-        counts,
-        place,
-        answer,
-    )
-}
-
-// The same in a job for a Release 6 board.
-pub fn nazgwern_do_release_6_instruction(
-    tokens: &[u8],
-    mnemonic: &[u8],
-    descriptors: &[u8],
-    data: &mut [u8],
-    pending: &mut [u8],
-    breakpoints: &mut [u8],
-    counts: &mut [u8],
-    position: u32,
-    region: u16,
-    address: u32,
-    answer: &mut [u8],
-) -> u32
-    ensures { linked_line_by Job.Release6 tokens.now mnemonic.now descriptors.now
-        (lent_of «data».old pending.old breakpoints.old) counts.old
-        (record { position = position; region = region; address = address }) answer.old
-        ≡ (record {
-          result = result;
-          lent = lent_of «data».new pending.new breakpoints.new;
-          counts = counts.new;
-          answer = answer.new;
-        }) }
-{
-    let place = LinePlace {
-        position,
-        region,
-        address,
-    };
-    linked_line::do_instruction(
-        Job::Release6,
+        job,
         tokens,
         mnemonic,
         descriptors,
@@ -223,6 +125,7 @@ pub fn nazgwern_lay_out(labels: &[u8], regions: &[u8], page: &mut [u8], answer: 
 
 // Patches one pending, ends or refuses: linked_patching says how.
 pub fn nazgwern_patch_step(
+    job: Job,
     labels: &[u8],
     entry: &[u8],
     regions: &mut [u8],
@@ -231,50 +134,16 @@ pub fn nazgwern_patch_step(
     state: &mut [u8],
     answer: &mut [u8],
 ) -> u32
-    ensures { linked_step Job.Commit labels.now entry.now regions.old pending.now kept.old
+    ensures { linked_step job labels.now entry.now regions.old pending.now kept.old
         state.old answer.old
         ≡ (record { result = result; regions = regions.new; kept = kept.new; state = state.new; answer = answer.new }) }
 {
-    linked_patching::patch_step(
-        Job::Commit,
-        labels,
-        entry,
-        regions,
-        pending,
-        kept,
-        state,
-        answer,
-    )
-}
-
-// The same by the manual.
-pub fn nazgwern_patch_step_manual(
-    labels: &[u8],
-    entry: &[u8],
-    regions: &mut [u8],
-    pending: &[u8],
-    kept: &mut [u8],
-    state: &mut [u8],
-    answer: &mut [u8],
-) -> u32
-    ensures { linked_step Job.Manual labels.now entry.now regions.old pending.now kept.old
-        state.old answer.old
-        ≡ (record { result = result; regions = regions.new; kept = kept.new; state = state.new; answer = answer.new }) }
-{
-    linked_patching::patch_step(
-        Job::Manual,
-        labels,
-        entry,
-        regions,
-        pending,
-        kept,
-        state,
-        answer,
-    )
+    linked_patching::patch_step(job, labels, entry, regions, pending, kept, state, answer)
 }
 
 // Appends a line while patching runs or refuses it: linked_patching says how.
 pub fn nazgwern_patch_line(
+    job: Job,
     tokens: &[u8],
     mnemonic: &[u8],
     descriptors: &[u8],
@@ -286,7 +155,7 @@ pub fn nazgwern_patch_line(
     region: u16,
     answer: &mut [u8],
 ) -> u32
-    ensures { linked_patch_line Job.Commit (given_of tokens.now mnemonic.now descriptors.now position region)
+    ensures { linked_patch_line job (given_of tokens.now mnemonic.now descriptors.now position region)
         regions.old pending.old breakpoints.old state.old answer.old
         ≡ (record {
           result = result;
@@ -298,85 +167,7 @@ pub fn nazgwern_patch_line(
         }) }
 {
     linked_patching::patch_line(
-        Job::Commit,
-        tokens,
-        mnemonic,
-        descriptors,
-        regions,
-        pending,
-        breakpoints,
-        state,
-        position,
-        region,
-        answer,
-    )
-}
-
-// The same in a job by the manual.
-pub fn nazgwern_patch_manual_line(
-    tokens: &[u8],
-    mnemonic: &[u8],
-    descriptors: &[u8],
-    regions: &mut [u8],
-    pending: &mut [u8],
-    breakpoints: &mut [u8],
-    state: &mut [u8],
-    position: u32,
-    region: u16,
-    answer: &mut [u8],
-) -> u32
-    ensures { linked_patch_line Job.Manual (given_of tokens.now mnemonic.now descriptors.now position region)
-        regions.old pending.old breakpoints.old state.old answer.old
-        ≡ (record {
-          result = result;
-          regions = regions.new;
-          pending = pending.new;
-          breakpoints = breakpoints.new;
-          state = state.new;
-          answer = answer.new;
-        }) }
-{
-    linked_patching::patch_line(
-        Job::Manual,
-        tokens,
-        mnemonic,
-        descriptors,
-        regions,
-        pending,
-        breakpoints,
-        state,
-        position,
-        region,
-        answer,
-    )
-}
-
-// The same in a job for a Release 6 board.
-pub fn nazgwern_patch_release_6_line(
-    tokens: &[u8],
-    mnemonic: &[u8],
-    descriptors: &[u8],
-    regions: &mut [u8],
-    pending: &mut [u8],
-    breakpoints: &mut [u8],
-    state: &mut [u8],
-    position: u32,
-    region: u16,
-    answer: &mut [u8],
-) -> u32
-    ensures { linked_patch_line Job.Release6 (given_of tokens.now mnemonic.now descriptors.now position region)
-        regions.old pending.old breakpoints.old state.old answer.old
-        ≡ (record {
-          result = result;
-          regions = regions.new;
-          pending = pending.new;
-          breakpoints = breakpoints.new;
-          state = state.new;
-          answer = answer.new;
-        }) }
-{
-    linked_patching::patch_line(
-        Job::Release6,
+        job,
         tokens,
         mnemonic,
         descriptors,

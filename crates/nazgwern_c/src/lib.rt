@@ -30,7 +30,7 @@ pub extern "C" fn nazgwern_build(
     ensures { linked_build labels.now entry.now regions.old pending.now answer.old
         ≡ (record { result = result; regions = regions.new; answer = answer.new }) }
 {
-    nazgwern::nazgwern_build(labels, entry, regions, pending, answer)
+    nazgwern::nazgwern_build(Job::Commit, labels, entry, regions, pending, answer)
 }
 
 // The same by the manual.
@@ -45,7 +45,7 @@ pub extern "C" fn nazgwern_build_manual(
     ensures { linked_build_by Job.Manual labels.now entry.now regions.old pending.now answer.old
         ≡ (record { result = result; regions = regions.new; answer = answer.new }) }
 {
-    nazgwern::nazgwern_build_manual(labels, entry, regions, pending, answer)
+    nazgwern::nazgwern_build(Job::Manual, labels, entry, regions, pending, answer)
 }
 
 // Emits a line into the buffers or refuses it: linked_line says how.
@@ -74,6 +74,7 @@ pub extern "C" fn nazgwern_do_instruction(
         }) }
 {
     nazgwern::nazgwern_do_instruction(
+        Job::Commit,
         tokens,
         mnemonic,
         descriptors,
@@ -113,7 +114,8 @@ pub extern "C" fn nazgwern_do_manual_instruction(
           answer = answer.new;
         }) }
 {
-    nazgwern::nazgwern_do_manual_instruction(
+    nazgwern::nazgwern_do_instruction(
+        Job::Manual,
         tokens,
         mnemonic,
         descriptors,
@@ -153,7 +155,8 @@ pub extern "C" fn nazgwern_do_release_6_instruction(
           answer = answer.new;
         }) }
 {
-    nazgwern::nazgwern_do_release_6_instruction(
+    nazgwern::nazgwern_do_instruction(
+        Job::Release6,
         tokens,
         mnemonic,
         descriptors,
@@ -254,7 +257,16 @@ pub extern "C" fn nazgwern_patch_step(
         state.old answer.old
         ≡ (record { result = result; regions = regions.new; kept = kept.new; state = state.new; answer = answer.new }) }
 {
-    nazgwern::nazgwern_patch_step(labels, entry, regions, pending, kept, state, answer)
+    nazgwern::nazgwern_patch_step(
+        Job::Commit,
+        labels,
+        entry,
+        regions,
+        pending,
+        kept,
+        state,
+        answer,
+    )
 }
 
 // The same by the manual.
@@ -272,7 +284,16 @@ pub extern "C" fn nazgwern_patch_step_manual(
         state.old answer.old
         ≡ (record { result = result; regions = regions.new; kept = kept.new; state = state.new; answer = answer.new }) }
 {
-    nazgwern::nazgwern_patch_step_manual(labels, entry, regions, pending, kept, state, answer)
+    nazgwern::nazgwern_patch_step(
+        Job::Manual,
+        labels,
+        entry,
+        regions,
+        pending,
+        kept,
+        state,
+        answer,
+    )
 }
 
 // Appends a line while patching runs or refuses it: linked_patching says how.
@@ -301,6 +322,7 @@ pub extern "C" fn nazgwern_patch_line(
         }) }
 {
     nazgwern::nazgwern_patch_line(
+        Job::Commit,
         tokens,
         mnemonic,
         descriptors,
@@ -339,7 +361,8 @@ pub extern "C" fn nazgwern_patch_manual_line(
           answer = answer.new;
         }) }
 {
-    nazgwern::nazgwern_patch_manual_line(
+    nazgwern::nazgwern_patch_line(
+        Job::Manual,
         tokens,
         mnemonic,
         descriptors,
@@ -378,7 +401,8 @@ pub extern "C" fn nazgwern_patch_release_6_line(
           answer = answer.new;
         }) }
 {
-    nazgwern::nazgwern_patch_release_6_line(
+    nazgwern::nazgwern_patch_line(
+        Job::Release6,
         tokens,
         mnemonic,
         descriptors,

@@ -50,8 +50,8 @@ append_part space text room h =
 
 -- a refusal of the page, behind which nothing is looked at
 stopped : (a b : Verdict) (r : Refusal) (x y : Verdict) → and_then (and_then a (and_then b (Err r))) x ≡ and_then (and_then a (and_then b (Err r))) y
-stopped (Ok tt) (Ok tt) r x y = refl
-stopped (Ok tt) (Err q) r x y = refl
+stopped (Ok _) (Ok _) r x y = refl
+stopped (Ok _) (Err q) r x y = refl
 stopped (Err q) b r x y = refl
 
 module _ (labels regions : List ℕ) where

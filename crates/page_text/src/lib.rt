@@ -6,6 +6,7 @@ ghost use Rattle.page_outcome.specs.Outcome.{page_outcome};
 ghost use Rattle.text.specs.Text.{Put};
 ghost use Rattle.page_text.specs.PageText.{length_in, outcome_text, page_text};
 
+use program::Program;
 
 // Room for a page buffer of one byte more than its limit.
 pub const MOST: usize = page_core::LIMIT + 1;
@@ -36,11 +37,20 @@ fn put_page(out: &mut [u8], room: usize, labels: &[u8], regions: &[u8]) -> usize
 pub fn page(input: &[u8], out: &mut [u8; MOST]) -> usize
     ensures { Put out.old 0 (page_text input.now) out.new result }
 {
-    let room = input::least(length_in(input::behind_lists(input, 2)), MOST);
+    let room = length_in(input::behind_lists(input, 2)).min(MOST);
     put_page(
         out,
         room,
         input::list_of(input, 0),
         input::list_of(input, 1),
     )
+}
+
+// `page` as a program.
+pub struct PageText;
+
+impl Program<{ MOST }> for PageText {
+    fn print(&self, input: &[u8], out: &mut [u8; MOST]) -> usize {
+        page(input, out)
+    }
 }

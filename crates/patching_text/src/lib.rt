@@ -9,6 +9,7 @@ ghost use Rattle.patching_text.specs.Turns.{Turns, StepTurns, LineTurns, goes_on
 
 use jobs::Job;
 use patching_outcome::PatchCounts;
+use program::Program;
 
 mod lines;
 
@@ -275,5 +276,14 @@ pub fn patch_steps(input: &[u8], out: &mut [u8; MOST]) -> usize
     match line_text::job_numbered(input::byte_or_zero(numbers, 12)) {
         Some(job) => put_job(job, input, out),
         None => text::put_text(out, 0, b"no such job\n"),
+    }
+}
+
+// `patch_steps` as a program.
+pub struct PatchStepsText;
+
+impl Program<{ MOST }> for PatchStepsText {
+    fn print(&self, input: &[u8], out: &mut [u8; MOST]) -> usize {
+        patch_steps(input, out)
     }
 }

@@ -9,6 +9,8 @@ ghost use Rattle.input.specs.Input.{list_of};
 ghost use Rattle.text.specs.Text.{Put};
 ghost use Rattle.replay_text.specs.Replay.{built_met, build_met, emitted_met, line_met, call_met, counted, tally_of, tally_text, replay_text};
 
+use jobs::Job;
+
 // Room for the list of calls.
 pub const MOST: usize = 0x40_0000;
 
@@ -41,6 +43,7 @@ fn is_built(call: &[u8], regions: &mut [u8]) -> bool
 {
     let mut answer = [0u8; 24];
     nazgwern::nazgwern_build(
+        Job::Commit,
         input::list_of(call, 0),
         input::list_of(call, 1),
         &mut *regions,
@@ -72,6 +75,7 @@ fn is_emitted(
     let mut answer = [0u8; 24];
     let place = input::list_of(call, 7);
     nazgwern::nazgwern_do_instruction(
+        Job::Commit,
         input::list_of(call, 0),
         input::list_of(call, 1),
         input::list_of(call, 2),

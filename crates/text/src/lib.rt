@@ -47,10 +47,8 @@ pub fn put_hex_bytes(out: &mut [u8], at: usize, bytes: &[u8]) -> usize
     ensures { Put out.old at (hex_bytes bytes.now) out.new result }
 {
     let mut end = at;
-    let mut i = 0;
-    while i < bytes.len() {
-        end = put_hex(&mut *out, end, bytes[i] as u32, 2);
-        i += 1;
+    for &byte in bytes {
+        end = put_hex(&mut *out, end, byte as u32, 2);
     }
     end
 }
@@ -118,10 +116,9 @@ pub fn put_refusal(out: &mut [u8], at: usize, n: Numbered) -> usize
     requires { at + length (refused_line n) ≤ length out.old }
     ensures { Put out.old at (refused_line n) out.new result }
 {
-    let location = n.location;
     let number_at = put_text(&mut *out, at, b"refused");
     let location_at = put_field(&mut *out, number_at, n.number as u64);
-    let a_at = put_location(&mut *out, location_at, location);
+    let a_at = put_location(&mut *out, location_at, n.location);
     let b_at = put_signed_field(&mut *out, a_at, n.a);
     put_last_field(out, b_at, n.b as u64)
 }

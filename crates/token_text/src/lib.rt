@@ -6,6 +6,7 @@ ghost use Rattle.text_reader.specs.Outcome.{read_text};
 ghost use Rattle.text.specs.Text.{Put};
 ghost use Rattle.token_text.specs.TokenText.{tokens_line, outcome_text, read_text_text};
 
+use program::Program;
 
 // The text, which stands behind the two numbers.
 fn text_of(input: &[u8]) -> &[u8]
@@ -45,4 +46,13 @@ pub fn read_text(input: &[u8], out: &mut [u8; text::MOST]) -> usize
     let mut tokens = [0u8; record::LIMIT + 1];
     let room = input::least(asked as usize, record::LIMIT + 1);
     put_read(out, text_of(input), source, &mut tokens[..room])
+}
+
+// `read_text` as a program.
+pub struct ReadTextText;
+
+impl Program<{ text::MOST }> for ReadTextText {
+    fn print(&self, input: &[u8], out: &mut [u8; text::MOST]) -> usize {
+        read_text(input, out)
+    }
 }

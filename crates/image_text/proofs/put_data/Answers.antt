@@ -1,4 +1,4 @@
-use Rattle.std.proofs.Common.{◌≡◌, ℕ, ◌+◌, ◌-◌, ◌<◌, ◌≤◌, List, ◌++◌, length, take, drop, arith, length-drop, take_all}
+use Rattle.std.proofs.Common.{◌≡◌, ℕ, ◌+◌, ◌-◌, ◌<◌, ◌≤◌, List, ◌++◌, length, take, drop, refl, arith, length-drop, take_all}
 use Rattle.record.specs.Bytes.{le32}
 use Rattle.patch.specs.Patches.{wrap32}
 use Rattle.text.specs.Text.{hex_bytes}
@@ -24,18 +24,18 @@ pub put_word-end-requires : goal.put_word-end-requires
 put_word-end-requires c =
     let l = c.loop-i in
     let a = c.args in
-    let pc = c.wrapping_add_u32-pc in
-    left_room l.out l.end (word_line pc.result (eight c.word_at.result)) (data_lines a.address (l.i + 4) (drop (l.i + 4) a.«data».now))
-    (turn _ _ a.«data».now _ l.end a.address l.i pc.result pc.ensures.value l.invariant.1 c.word_at.result c.loop-i-test.true c.word_at.ensures)
+    let pc = wrap32 (a.address + l.i) in
+    left_room l.out l.end (word_line pc (eight c.word_at.result)) (data_lines a.address (l.i + 4) (drop (l.i + 4) a.«data».now))
+    (turn _ _ a.«data».now _ l.end a.address l.i pc refl l.invariant.1 c.word_at.result c.loop-i-test.true c.word_at.ensures)
 
 pub loop-i-preserved : goal.loop-i-preserved
 loop-i-preserved c =
     let l = c.loop-i in
     let a = c.args in
-    let pc = c.wrapping_add_u32-pc in (
+    let pc = wrap32 (a.address + l.i) in (
       omega arith,
       left_next l.out l.end _ _ _ _
-          (turn _ _ a.«data».now _ l.end a.address l.i pc.result pc.ensures.value l.invariant.1 c.word_at.result c.loop-i-test.true c.word_at.ensures)
+          (turn _ _ a.«data».now _ l.end a.address l.i pc refl l.invariant.1 c.word_at.result c.loop-i-test.true c.word_at.ensures)
           c.put_word-end.ensures,
     )
 
@@ -46,13 +46,13 @@ pub put_part-requires : goal.put_part-requires
 put_part-requires c =
     let l = c.loop-i in
     let a = c.args in
-    let pc = c.wrapping_add_u32-pc-2 in
-    let t = last _ _ a.«data».now _ l.end a.address l.i pc.result pc.ensures.value l.invariant.1 (omega arith) (omega arith) in
+    let pc = wrap32 (a.address + l.i) in
+    let t = last _ _ a.«data».now _ l.end a.address l.i pc refl l.invariant.1 (omega arith) (omega arith) in
     omega (arith, t.fits, t.kept, t.ends)
 
 pub returns : goal.returns
 returns c =
     let l = c.loop-i in
     let a = c.args in
-    let pc = c.wrapping_add_u32-pc-2 in
-    left_last l.out l.end _ _ _ (last _ _ a.«data».now _ l.end a.address l.i pc.result pc.ensures.value l.invariant.1 (omega arith) (omega arith)) c.put_part.ensures
+    let pc = wrap32 (a.address + l.i) in
+    left_last l.out l.end _ _ _ (last _ _ a.«data».now _ l.end a.address l.i pc refl l.invariant.1 (omega arith) (omega arith)) c.put_part.ensures

@@ -3,16 +3,16 @@ use Rattle.input.specs.Input.{behind_lists}
 use Rattle.input.proofs.InputLaws.{behind_next}
 use Rattle.input.proofs.behind_lists.Goals as goal
 
-pub loop-i-init : goal.loop-i-init
+pub loop-init : goal.loop-init
 unfolding behind_lists
-loop-i-init c = (omega arith, refl)
+loop-init c = refl
 
-pub loop-i-preserved : goal.loop-i-preserved
-loop-i-preserved c =
-    let l = c.loop-i in
-    (omega arith, behind_next c.args.input.now l.rest.now l.i c.list_end-end.result l.invariant.1 c.list_end-end.ensures)
+pub loop-preserved : goal.loop-preserved
+loop-preserved c =
+    let l = c.loop in
+    behind_next c.args.input.now l.rest.now l.counter c.list_end.result l.invariant c.list_end.ensures
 
 pub returns : goal.returns
 returns c =
-    let n : c.loop-i.i ≡ c.args.count = omega arith in
-    c.loop-i.invariant.1 ∙ ap (λ (k : ℕ). behind_lists k c.args.input.now) n
+    let n : c.loop.counter ≡ c.args.count = omega arith in
+    c.loop.invariant ∙ ap (λ (k : ℕ). behind_lists k c.args.input.now) n

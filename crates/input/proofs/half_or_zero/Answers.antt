@@ -5,8 +5,5 @@ use Rattle.input.proofs.half_or_zero.Goals as goal
 pub returns-then-at-input : goal.returns-then-at-input
 returns-then-at-input c = sym (half_missing _ _ (omega arith))
 
-pub returns-then-input-at-lt2 : goal.returns-then-input-at-lt2
-returns-then-input-at-lt2 c = sym (half_missing _ _ (omega arith))
-
 pub returns : goal.returns
 returns c = c.half_at.ensures.0 ∙ sym (half_there _ _ (omega arith))

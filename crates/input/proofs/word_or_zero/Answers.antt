@@ -5,8 +5,5 @@ use Rattle.input.proofs.word_or_zero.Goals as goal
 pub returns-then-at-input : goal.returns-then-at-input
 returns-then-at-input c = sym (word_missing _ _ (omega arith))
 
-pub returns-then-input-at-lt4 : goal.returns-then-input-at-lt4
-returns-then-input-at-lt4 c = sym (word_missing _ _ (omega arith))
-
 pub returns : goal.returns
 returns c = c.word_at.ensures ∙ sym (word_there _ _ (omega arith))

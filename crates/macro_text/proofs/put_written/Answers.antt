@@ -4,19 +4,19 @@ use Rattle.token_text.proofs.TokenTextLaws.{line_length}
 use Rattle.written_out.specs.Outcome.{WriteOutOutcome}
 use Rattle.written_out.proofs.KeepsLayout.{fill_within}
 use Rattle.macro_text.proofs.put_written.Goals as goal
-use Rattle.macro_text.proofs.put_written.Goals.{In-Written}
+use Rattle.macro_text.proofs.put_written.Goals.{In-Ok}
 
 -- the fill is within the buffer
-within : (c : In-Written) → c.in-Ok.fill ≤ length c.write_out.new.out
+within : (c : In-Ok) → c.in-Ok.fill ≤ length c.write_out.new.out
 within c =
     let a = c.args in
     omega (arith, fill_within a.tokens.now a.macros.now a.written.now c.in-Ok.fill (ap (λ (o : WriteOutOutcome). o.answer) c.in-Ok.ensures))
 
 pub slice_bounds-put_tokens-end : goal.slice_bounds-put_tokens-end
-slice_bounds-put_tokens-end c = within (goal.at.slice_bounds-put_tokens-end c).In-Written
+slice_bounds-put_tokens-end c = within (goal.at.slice_bounds-put_tokens-end c).In-Ok
 
 pub slice_bounds-put_tokens-end-in-Ok : goal.slice_bounds-put_tokens-end-in-Ok
-slice_bounds-put_tokens-end-in-Ok c = sym (length-take-le _ _ (within (goal.at.slice_bounds-put_tokens-end-in-Ok c).In-Written))
+slice_bounds-put_tokens-end-in-Ok c = sym (length-take-le _ _ (within (goal.at.slice_bounds-put_tokens-end-in-Ok c).In-Ok))
 
 pub put_tokens-requires : goal.put_tokens-requires
 put_tokens-requires c =

@@ -16,5 +16,5 @@ text_is input labels regions rest space asked room l r b n e z = held_text label
 pub returns : goal.returns
 returns c =
     subst (λ (text : List ℕ). Put c.args.out.now 0 text c.put_page.new.out c.put_page.result)
-    (text_is c.args.input.now _ _ _ c.args.out.now _ _ c.list_of.ensures c.list_of-2.ensures c.behind_lists.ensures c.length_in.ensures c.least-room.ensures (search rules))
+    (text_is c.args.input.now _ _ _ c.args.out.now _ _ c.list_of.ensures c.list_of-2.ensures c.behind_lists.ensures c.length_in.ensures c.min-room.ensures (search rules))
     c.put_page.ensures

@@ -1,9 +1,0 @@
-use Rattle.std.proofs.Common.{◌+◌, ◌≤◌, length}
-use Rattle.input.specs.Input.{behind_lists}
-use Rattle.emit_indexed_cases.proofs.print_cases.Given as goal
-
-abbrev pub invariant-loop-number : goal.invariant-loop-number
-invariant-loop-number l = l.number + length (behind_lists l.number l.input) ≤ length l.input
-
-abbrev pub decreases-loop-number : goal.decreases-loop-number
-decreases-loop-number l = length (behind_lists l.number l.input)

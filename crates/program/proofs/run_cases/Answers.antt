@@ -1,0 +1,16 @@
+-- What is read is a part of its buffer.
+use Rattle.std.proofs.Common.{ℕ, sym}
+use Rattle.std.proofs.lemmas.List.{length-replicate}
+use Rattle.program.proofs.run_cases.Goals as goal
+
+pub slice_bounds-read_full-end : goal.slice_bounds-read_full-end
+slice_bounds-read_full-end g c = sym (length-replicate {A = ℕ} _ 0)
+
+pub slice_bounds-input-end : goal.slice_bounds-input-end
+slice_bounds-input-end g c = c.read_full-count.ensures.0
+
+pub slice_bounds-put_cases-end : goal.slice_bounds-put_cases-end
+slice_bounds-put_cases-end g c = c.read_full-count.ensures.1
+
+pub put_cases-requires : goal.put_cases-requires
+put_cases-requires g c = c.requires
