@@ -26,10 +26,7 @@ fn filled(buffer: &[u8], fill: usize) -> Option<usize>
 pub fn check_regions(buffer: &[u8], fill: usize) -> Option<usize>
     ensures { result ≡ filled_layout fill buffer.now (region_layout (take fill buffer.now)) }
 {
-    match filled(buffer, fill) {
-        Some(p) => Some(p),
-        None => regions::first_bad_region(&buffer[..fill]),
-    }
+    filled(buffer, fill).or_else(|| regions::first_bad_region(&buffer[..fill]))
 }
 
 // How many pendings a list has.
@@ -37,28 +34,18 @@ pub fn count_pendings(pending: &[u8]) -> usize
     requires { PendingList pending.now }
     ensures { (result ≡ length (places pending.now)) × (result ≤ most_pendings) }
 {
-    let mut count: usize = 0;
-    let mut at: usize = 0;
-    while at < pending.len() {
-        at = record::next(pending, at);
-        count = count + 1;
-    }
-    count
+    record::places(pending).count()
 }
 
 // The layout of a list of pendings, of which `patches` are patched.
 fn check_patched(pending: &[u8], regions: usize, patches: usize) -> Option<usize>
     ensures { result ≡ has_patched patches pending.now (pending_layout regions pending.now) }
 {
-    match pending::first_bad_pending(pending, regions) {
-        Some(p) => Some(p),
-        None => {
-            if patches <= count_pendings(pending) {
-                None
-            } else {
-                Some(pending.len())
-            }
-        }
+    let bad = pending::first_bad_pending(pending, regions);
+    if bad.is_some() || patches <= count_pendings(pending) {
+        bad
+    } else {
+        Some(pending.len())
     }
 }
 
@@ -67,10 +54,7 @@ pub fn check_pendings(buffer: &[u8], fill: usize, regions: usize, patches: usize
     ensures { result ≡ filled_layout fill buffer.now
         (has_patched patches (take fill buffer.now) (pending_layout regions (take fill buffer.now))) }
 {
-    match filled(buffer, fill) {
-        Some(p) => Some(p),
-        None => check_patched(&buffer[..fill], regions, patches),
-    }
+    filled(buffer, fill).or_else(|| check_patched(&buffer[..fill], regions, patches))
 }
 
 // Whether there are four bytes for each pending.

@@ -39,6 +39,12 @@ module _ (region fill : ℕ) (s : List ℕ) where
       let f = filled_good fill s (region_layout (take fill s)) e in
       rw (ok, listed_in) (ap (filled_layout fill s) (ap₂ only_listed h f.2) ∙ filled_kept fill s (only_listed b None) f.0 f.1)
 
+  -- where the list's own layout comes first, and the region selected after it
+  pub listed_or : region_number_ok region ≡ true → (given answer : Option ℕ) → given ≡ filled_layout fill s (region_layout (take fill s))
+      → (given ≡ None → answer ≡ only_listed (is_listed (take fill s) region) None) → ((p : ℕ) → given ≡ Some p → answer ≡ Some p) → answer ≡ listed_in region fill s
+  listed_or ok None answer e good bad = good refl ∙ sym (listed_by ok (sym e) (is_listed (take fill s) region) refl)
+  listed_or ok (Some p) answer e good bad = bad p refl ∙ sym (listed_bad ok p (sym e))
+
   only_place : (b : Bool) (l : Option ℕ) (p : ℕ) → (l ≡ Some p → p ≤ limit) → only_listed b l ≡ Some p → p ≤ limit
   only_place true l p k e = k e
   only_place false None p k e = let z : 0 ≡ p = cc in omega arith

@@ -1,6 +1,6 @@
 -- The layouts of a line's lists one after the other, and what they give where all are kept. Assumes nothing.
-use Rattle.std.specs.Prelude.{ℕ, ◌<◌, false, List, [], ◌≡◌, eqb, Ok, Option}
-use Rattle.refusal.specs.Verdicts.{and_then, layout_verdict}
+use Rattle.std.specs.Prelude.{ℕ, ◌<◌, false, List, [], ◌≡◌, eqb, Ok}
+use Rattle.refusal.specs.Verdicts.{and_then, layout_verdict, Verdict}
 use Rattle.lexer.specs.Tokens.{token_layout}
 use Rattle.descriptors.specs.Mnemonics.{mnemonic_layout}
 use Rattle.descriptors.specs.Descriptors.{descriptor_layout}
@@ -16,14 +16,13 @@ use Rattle.patching_line.specs.Contract.{given_of}
 use Rattle.patching_line.specs.Lists.{filled_regions, filled_pendings, listed_in, LayoutsAre, LineLists}
 
 module _ (tokens mnemonic descriptors : List ℕ) (region : ℕ) (regions pending breakpoints : List ℕ) (counts : PatchCounts) where
-  pub layouts_are : (t m d r p b : Option ℕ) → token_layout tokens ≡ t → mnemonic_layout mnemonic ≡ m → descriptor_layout descriptors ≡ d
-      → listed_in region counts.regions regions ≡ r
-      → filled_layout counts.pending pending (has_patched counts.patches (filled_pendings pending counts) (pending_layout (region_count (filled_regions regions counts)) (filled_pendings pending counts))) ≡ p
-      → breakpoint_buffer_layout counts.breakpoints breakpoints ≡ b
-      → LayoutsAre tokens mnemonic descriptors region regions pending breakpoints counts
-      (and_then (layout_verdict 0 t) (and_then (layout_verdict 1 m) (and_then (layout_verdict 2 d) (and_then (layout_verdict 3 r) (and_then (layout_verdict 4 p) (layout_verdict 5 b))))))
+  pub layouts_are : {t m d r p b : Verdict} → layout_verdict 0 (token_layout tokens) ≡ t → layout_verdict 1 (mnemonic_layout mnemonic) ≡ m
+      → layout_verdict 2 (descriptor_layout descriptors) ≡ d → layout_verdict 3 (listed_in region counts.regions regions) ≡ r
+      → layout_verdict 4 (filled_layout counts.pending pending (has_patched counts.patches (filled_pendings pending counts) (pending_layout (region_count (filled_regions regions counts)) (filled_pendings pending counts)))) ≡ p
+      → layout_verdict 5 (breakpoint_buffer_layout counts.breakpoints breakpoints) ≡ b
+      → LayoutsAre tokens mnemonic descriptors region regions pending breakpoints counts (and_then t (and_then m (and_then d (and_then r (and_then p b)))))
   unfolding line_layouts listed_layout pendings_layout
-  layouts_are t m d r p b ht hm hd hr hp hb position kept = rw (ht, hm, hd, hr, hp, hb)
+  layouts_are ht hm hd hr hp hb position kept = rw (ht, hm, hd, hr, hp, hb)
 
   module _ (pass : LayoutsAre tokens mnemonic descriptors region regions pending breakpoints counts (Ok tt)) where
     all_pass : LineListsPass (given_of tokens mnemonic descriptors 0 region) (patching_of regions pending breakpoints [] counts)

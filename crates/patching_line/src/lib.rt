@@ -44,16 +44,13 @@ fn check_listed(buffer: &[u8], fill: usize, region: u16) -> Option<usize>
     if !number_ok(region) {
         return Some(0);
     }
-    match patching_checks::check_regions(buffer, fill) {
-        Some(place) => Some(place),
-        None => {
-            if is_listed(&buffer[..fill], region) {
-                None
-            } else {
-                Some(0)
-            }
+    patching_checks::check_regions(buffer, fill).or_else(|| {
+        if is_listed(&buffer[..fill], region) {
+            None
+        } else {
+            Some(0)
         }
-    }
+    })
 }
 
 // Refusal 1: the first list that breaks its layout.
@@ -70,30 +67,18 @@ fn check_layouts(
     ensures { LayoutsAre tokens.now mnemonic.now descriptors.now region
         regions.now pending.now breakpoints.now counts result }
 {
-    if let Some(place) = lexer::first_bad_token(tokens) {
-        return Err(Refusal::BadLayout(0, place as u32));
-    }
-    if let Some(place) = descriptors::first_bad_mnemonic(mnemonic) {
-        return Err(Refusal::BadLayout(1, place as u32));
-    }
-    if let Some(place) = descriptors::first_bad_descriptor(descriptors) {
-        return Err(Refusal::BadLayout(2, place as u32));
-    }
+    refusal::check_layout(0, lexer::first_bad_token(tokens))?;
+    refusal::check_layout(1, descriptors::first_bad_mnemonic(mnemonic))?;
+    refusal::check_layout(2, descriptors::first_bad_descriptor(descriptors))?;
     let fill = counts.regions as usize;
-    if let Some(place) = check_listed(regions, fill, region) {
-        return Err(Refusal::BadLayout(3, place as u32));
-    }
+    refusal::check_layout(3, check_listed(regions, fill, region))?;
     let count = regions::region_count(&regions[..fill]);
     let filled = counts.pending as usize;
     let patches = counts.patches as usize;
-    if let Some(place) = patching_checks::check_pendings(pending, filled, count, patches) {
-        return Err(Refusal::BadLayout(4, place as u32));
-    }
+    let bad = patching_checks::check_pendings(pending, filled, count, patches);
+    refusal::check_layout(4, bad)?;
     let kept = counts.breakpoints as usize;
-    if let Some(place) = breakpoints::check_breakpoint_buffer(breakpoints, kept) {
-        return Err(Refusal::BadLayout(5, place as u32));
-    }
-    Ok(())
+    refusal::check_layout(5, breakpoints::check_breakpoint_buffer(breakpoints, kept))
 }
 
 // Whether patching has ended or was refused, or the region is below that of a patched pending: the last one patched has the greatest.

@@ -60,13 +60,13 @@ patched_layout n s None e = refl
 patched_layout n s (Some p) e = e
 
 module _ (labels : Table) (entry regions pending kept : List ℕ) (counts : PatchCounts) where
-  pub layouts_are : (a b c d e : Option ℕ) → labels.layout ≡ a → entry_layout entry ≡ b
-      → filled_layout counts.regions regions (region_layout (filled_regions regions counts)) ≡ c
-      → filled_layout counts.pending pending (has_patched counts.patches (filled_pendings pending counts) (pending_layout (region_count (filled_regions regions counts)) (filled_pendings pending counts))) ≡ d
-      → filled_layout (4 * length (places (filled_pendings pending counts))) kept None ≡ e
-      → LayoutsAre labels entry regions pending kept counts (and_then (layout_verdict 0 a) (and_then (layout_verdict 1 b) (and_then (layout_verdict 2 c) (and_then (layout_verdict 3 d) (layout_verdict 4 e)))))
+  pub layouts_are : {l e r p k : Verdict} → layout_verdict 0 labels.layout ≡ l → layout_verdict 1 (entry_layout entry) ≡ e
+      → layout_verdict 2 (filled_layout counts.regions regions (region_layout (filled_regions regions counts))) ≡ r
+      → layout_verdict 3 (filled_layout counts.pending pending (has_patched counts.patches (filled_pendings pending counts) (pending_layout (region_count (filled_regions regions counts)) (filled_pendings pending counts)))) ≡ p
+      → layout_verdict 4 (filled_layout (4 * length (places (filled_pendings pending counts))) kept None) ≡ k
+      → LayoutsAre labels entry regions pending kept counts (and_then l (and_then e (and_then r (and_then p k))))
   unfolding step_layouts regions_layout pendings_layout kept_layout
-  layouts_are a b c d e ha hb hc hd he breakpoints = rw (ha, hb, hc, hd, he)
+  layouts_are hl he hr hp hk breakpoints = rw (hl, he, hr, hp, hk)
 
   pub record ListsPass : Type 0 where
     pub labels_good : labels.layout ≡ None

@@ -34,9 +34,7 @@ fn put_back(regions: &mut [u8], fill: usize, pending: &[u8], order: &[u16], kept
     requires { FilledRegions fill regions.old × PatchesAt (take fill regions.old) pending.now order.now kept.now }
     ensures { regions.new ≡ put_back (take fill regions.old) pending.now kept.now 0 order.now regions.old }
 {
-    let mut left = order.len();
-    while 0 < left {
-        left = left - 1;
+    for left in (0..order.len()).rev() {
         let from = 4 * left;
         put_back_one(
             &mut *regions,
@@ -229,26 +227,18 @@ fn check_layouts(
 ) -> Result<(), Refusal>
     ensures { LayoutsAre (table_of labels.now) entry.now regions.now pending.now kept.now counts result }
 {
-    if let Some(place) = labels::first_bad_label(labels) {
-        return Err(Refusal::BadLayout(0, place as u32));
-    }
-    if let Some(place) = address_label::first_bad_entry(entry) {
-        return Err(Refusal::BadLayout(1, place as u32));
-    }
+    refusal::check_layout(0, labels::first_bad_label(labels))?;
+    refusal::check_layout(1, address_label::first_bad_entry(entry))?;
     let fill = counts.regions as usize;
-    if let Some(place) = patching_checks::check_regions(regions, fill) {
-        return Err(Refusal::BadLayout(2, place as u32));
-    }
+    refusal::check_layout(2, patching_checks::check_regions(regions, fill))?;
     let filled = counts.pending as usize;
     let count = regions::region_count(&regions[..fill]);
     let patches = counts.patches as usize;
-    if let Some(place) = patching_checks::check_pendings(pending, filled, count, patches) {
-        return Err(Refusal::BadLayout(3, place as u32));
-    }
-    if let Some(place) = patching_checks::check_kept(kept, &pending[..filled]) {
-        return Err(Refusal::BadLayout(4, place as u32));
-    }
-    Ok(())
+    refusal::check_layout(
+        3,
+        patching_checks::check_pendings(pending, filled, count, patches),
+    )?;
+    refusal::check_layout(4, patching_checks::check_kept(kept, &pending[..filled]))
 }
 
 // A step: it patches the next pending in patch order, ends where none is left, or refuses; a refusal 14 to 16 puts every patch back.
@@ -273,9 +263,9 @@ pub fn patch_step(
     let mut index = [0u16; labels::MOST];
     let mut spare = [0u16; labels::MOST];
     let n = labels::make_index(labels, &mut index, &mut spare);
-    if let Some(place) = labels::first_repeat(labels, &index[..n]) {
+    if let Err(refusal) = refusal::check_names(0, labels::first_repeat(labels, &index[..n])) {
         return Stepped {
-            answer: StepAnswer::Refused(Refusal::DuplicateName(0, place as u32)),
+            answer: StepAnswer::Refused(refusal),
             counts,
         };
     }

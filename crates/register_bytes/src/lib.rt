@@ -9,10 +9,8 @@ pub fn registers_in(bytes: &[u8]) -> [u32; 32]
     ensures { result ≡ registers_in bytes.now }
 {
     let mut registers = [0u32; 32];
-    let mut i: usize = 0;
-    while i < 32 {
+    for i in 0..32 {
         registers[i] = input::word_or_zero(bytes, 4 * i);
-        i += 1;
     }
     registers
 }

@@ -1,7 +1,6 @@
 // What writing macros out answers, and the definition of the whole call. This crate has types and no functions.
 #![tactic(auto)]
 
-
 // Where on its line the next token stands: before the head, at a label's Colon, behind a head that is no call, behind a call's name.
 #[derive(Clone, Copy)]
 pub enum Mode {

@@ -1,17 +1,16 @@
-use Rattle.std.specs.Prelude.{None}
-use Rattle.std.proofs.Common.{sym, ◌∙◌}
-use Rattle.std.proofs.Math.Seq.{length-take-le}
-use Rattle.breakpoints.proofs.BreakpointsLaws.{filled_kept, filled_good, filled_bad}
+use Rattle.std.specs.Prelude.{None, Some}
+use Rattle.std.proofs.Common.{ℕ, ◌≡◌, take, rules, sym, ◌∙◌}
+use Rattle.regions.specs.Regions.{region_layout}
+use Rattle.breakpoints.proofs.BreakpointsLaws.{filled_good, filled_or}
 use Rattle.patching_checks.proofs.check_regions.Goals as goal
 
-pub slice_bounds-first_bad_region-end : goal.slice_bounds-first_bad_region-end
-slice_bounds-first_bad_region-end c =
-    sym (length-take-le c.args.fill c.args.buffer.now (filled_good c.args.fill c.args.buffer.now None (sym c.filled.ensures ∙ c.in-None.is)).1)
+pub or_else-requires : goal.or_else-requires
+or_else-requires c = λ e. let r = filled_good c.args.fill c.args.buffer.now None (sym c.filled.ensures ∙ e) in search rules
 
-pub returns-in-Some : goal.returns-in-Some
-returns-in-Some c = sym (filled_bad c.args.fill c.args.buffer.now _ c.in-Some.p (sym c.filled.ensures ∙ c.in-Some.is))
-
-pub returns-in-None : goal.returns-in-None
-returns-in-None c =
-    let f = filled_good c.args.fill c.args.buffer.now None (sym c.filled.ensures ∙ c.in-None.is) in
-    c.first_bad_region.ensures ∙ sym (filled_kept c.args.fill c.args.buffer.now _ f.0 f.1)
+pub returns : goal.returns
+returns c =
+    let a = c.args in
+    let l = take a.fill a.buffer.now in
+    let good : c.filled.result ≡ None → c.or_else.result ≡ region_layout l = λ e. search rules in
+    let bad : (p : ℕ) → c.filled.result ≡ Some p → c.or_else.result ≡ Some p = λ p e. search rules in
+    filled_or a.fill a.buffer.now _ _ _ c.filled.ensures good bad

@@ -1,7 +1,11 @@
-use Rattle.std.specs.Prelude.{Option}
-use Rattle.std.proofs.Common.{◌≡◌, ℕ, List, refl, sym, ap, ◌∙◌, arith, length-take}
+-- The first list that breaks its layout is the one that is named, and its place is at most 65,536.
+use Rattle.std.specs.Prelude.{◌≡◌, ℕ, List, Err, None, Ok, Option}
+use Rattle.std.proofs.Common.{refl, sym, ap, ◌∙◌, arith, length-take}
+use Rattle.std.proofs.lemmas.Result.{err_from_is_err_and}
 use Rattle.labels.proofs.LabelsLaws.{label_place_lem}
 use Rattle.pending.specs.Pendings.{pending_layout}
+use Rattle.refusal.specs.Verdicts.{layout_verdict, Verdict}
+use Rattle.refusal.proofs.VerdictsLaws.{layout_pass}
 use Rattle.breakpoints.specs.Breakpoints.{filled_layout}
 use Rattle.breakpoints.proofs.BreakpointsLaws.{filled_good}
 use Rattle.binary_builder.proofs.PlacesLaws.{entry_place}
@@ -12,69 +16,81 @@ use Rattle.patching_step.specs.Steps.{filled_pendings}
 use Rattle.patching_step.proofs.StepLaws.{patched_layout, layouts_are}
 use Rattle.patching_step.proofs.check_layouts.Goals as goal
 
+-- a list's verdict is what its check gave
+verdict : (buffer : ℕ) {bad layout : Option ℕ} {v : Verdict} → bad ≡ layout → v ≡ layout_verdict buffer bad → layout_verdict buffer layout ≡ v
+verdict buffer e f = ap (layout_verdict buffer) (sym e) ∙ sym f
+
+-- and where it passed, the list keeps its layout
+passed : (buffer : ℕ) {bad layout : Option ℕ} → layout ≡ bad → layout_verdict buffer bad ≡ Ok tt → layout ≡ None
+passed buffer e f = e ∙ layout_pass buffer _ f
+
 -- the layout of the pendings, by the count of the regions
-pendings_are : (pending : List ℕ) (counts : PatchCounts) (regions n : ℕ) (l : Option ℕ)
+pendings_are : (pending : List ℕ) (counts : PatchCounts) (regions n : ℕ) {l : Option ℕ}
     → l ≡ filled_layout counts.pending pending (has_patched counts.patches (filled_pendings pending counts) (pending_layout n (filled_pendings pending counts))) → n ≡ regions
-    → filled_layout counts.pending pending (has_patched counts.patches (filled_pendings pending counts) (pending_layout regions (filled_pendings pending counts))) ≡ l
-pendings_are pending counts regions n l e k =
-    sym (e ∙ ap (λ (m : ℕ). filled_layout counts.pending pending (has_patched counts.patches (filled_pendings pending counts) (pending_layout m (filled_pendings pending counts)))) k)
+    → l ≡ filled_layout counts.pending pending (has_patched counts.patches (filled_pendings pending counts) (pending_layout regions (filled_pendings pending counts)))
+pendings_are pending counts regions n e k =
+    e ∙ ap (λ (m : ℕ). filled_layout counts.pending pending (has_patched counts.patches (filled_pendings pending counts) (pending_layout m (filled_pendings pending counts)))) k
 
-pub overflow_cast-result : goal.overflow_cast-result
-overflow_cast-result c = omega (arith, label_place_lem _ _ (sym c.first_bad_label.ensures ∙ c.in-Some.is))
+pub check_layout-requires : goal.check_layout-requires
+check_layout-requires c p e = omega (arith, label_place_lem _ p (sym c.first_bad_label.ensures ∙ e))
 
-pub returns-in-Some : goal.returns-in-Some
-returns-in-Some c = layouts_are _ _ _ _ _ _ _ _ _ _ _ (sym c.first_bad_label.ensures ∙ c.in-Some.is) refl refl refl refl
+pub returns-in_err-check_layout : goal.returns-in_err-check_layout
+returns-in_err-check_layout c breakpoints =
+    let p = err_from_is_err_and _ c.from_residual.ensures.1 in
+    layouts_are _ _ _ _ _ _ (verdict 0 c.first_bad_label.ensures c.in_err-check_layout.ensures) refl refl refl refl breakpoints ∙ sym (p.1 ∙ ap Err p.2)
 
-pub overflow_cast-result-in-Some-first_bad_entry : goal.overflow_cast-result-in-Some-first_bad_entry
-overflow_cast-result-in-Some-first_bad_entry c = omega (arith, entry_place _ _ (sym c.first_bad_entry.ensures ∙ c.in-Some-first_bad_entry.is))
+pub check_layout-requires-2 : goal.check_layout-requires-2
+check_layout-requires-2 c p e = omega (arith, entry_place _ p (sym c.first_bad_entry.ensures ∙ e))
 
-pub returns-in-Some-first_bad_entry : goal.returns-in-Some-first_bad_entry
-returns-in-Some-first_bad_entry c =
-    layouts_are _ _ _ _ _ _ _ _ _ _ _ (sym c.first_bad_label.ensures ∙ c.in_default.is) (sym c.first_bad_entry.ensures ∙ c.in-Some-first_bad_entry.is) refl refl refl
+pub returns-in_err-check_layout-2 : goal.returns-in_err-check_layout-2
+returns-in_err-check_layout-2 c breakpoints =
+    let p = err_from_is_err_and _ c.from_residual-in_err-check_layout-2.ensures.1 in
+    layouts_are _ _ _ _ _ _ (verdict 0 c.first_bad_label.ensures c.in_ok-check_layout.ensures) (verdict 1 c.first_bad_entry.ensures c.in_err-check_layout-2.ensures) refl refl refl breakpoints
+    ∙ sym (p.1 ∙ ap Err p.2)
 
-pub overflow_cast-result-in-Some-check_regions : goal.overflow_cast-result-in-Some-check_regions
-overflow_cast-result-in-Some-check_regions c = omega (arith, regions_place _ _ _ (sym c.check_regions.ensures ∙ c.in-Some-check_regions.is))
+pub check_layout-requires-3 : goal.check_layout-requires-3
+check_layout-requires-3 c p e = omega (arith, regions_place _ _ p (sym c.check_regions.ensures ∙ e))
 
-pub returns-in-Some-check_regions : goal.returns-in-Some-check_regions
-returns-in-Some-check_regions c =
-    layouts_are _ _ _ _ _ _ _ _ _ _ _ (sym c.first_bad_label.ensures ∙ c.in_default.is) (sym c.first_bad_entry.ensures ∙ c.in_default-first_bad_entry.is)
-    (sym c.check_regions.ensures ∙ c.in-Some-check_regions.is) refl refl
+pub returns-in_err-check_layout-3 : goal.returns-in_err-check_layout-3
+returns-in_err-check_layout-3 c breakpoints =
+    let p = err_from_is_err_and _ c.from_residual-in_err-check_layout-3.ensures.1 in
+    layouts_are _ _ _ _ _ _ (verdict 0 c.first_bad_label.ensures c.in_ok-check_layout.ensures) (verdict 1 c.first_bad_entry.ensures c.in_ok-check_layout-2.ensures)
+    (verdict 2 c.check_regions.ensures c.in_err-check_layout-3.ensures) refl refl breakpoints
+    ∙ sym (p.1 ∙ ap Err p.2)
 
 pub slice_bounds-region_count-end : goal.slice_bounds-region_count-end
 slice_bounds-region_count-end c =
-    omega (arith, filled_good c.args.counts.regions c.args.regions.now _ (sym c.check_regions.ensures ∙ c.in_default-check_regions.is), length-take {A = ℕ})
+    omega (arith, filled_good c.args.counts.regions c.args.regions.now _ (passed 2 (sym c.check_regions.ensures) (sym c.in_ok-check_layout-3.ensures)), length-take {A = ℕ})
 
 pub region_count-count-requires : goal.region_count-count-requires
-region_count-count-requires c = (filled_good c.args.counts.regions c.args.regions.now _ (sym c.check_regions.ensures ∙ c.in_default-check_regions.is)).2
+region_count-count-requires c = (filled_good c.args.counts.regions c.args.regions.now _ (passed 2 (sym c.check_regions.ensures) (sym c.in_ok-check_layout-3.ensures))).2
 
-pub overflow_cast-result-in-Some-check_pendings : goal.overflow_cast-result-in-Some-check_pendings
-overflow_cast-result-in-Some-check_pendings c = omega (arith, pendings_place _ _ _ _ _ (sym c.check_pendings.ensures ∙ c.in-Some-check_pendings.is))
+pub check_layout-requires-4 : goal.check_layout-requires-4
+check_layout-requires-4 c p e = omega (arith, pendings_place _ _ _ _ p (sym c.check_pendings.ensures ∙ e))
 
-pub returns-in-Some-check_pendings : goal.returns-in-Some-check_pendings
-returns-in-Some-check_pendings c =
-    layouts_are _ _ _ _ _ _ _ _ _ _ _ (sym c.first_bad_label.ensures ∙ c.in_default.is) (sym c.first_bad_entry.ensures ∙ c.in_default-first_bad_entry.is) (sym c.check_regions.ensures ∙ c.in_default-check_regions.is)
-    (pendings_are c.args.pending.now c.args.counts _ _ _ c.check_pendings.ensures c.region_count-count.ensures.0 ∙ c.in-Some-check_pendings.is) refl
+pub returns-in_err-check_layout-4 : goal.returns-in_err-check_layout-4
+returns-in_err-check_layout-4 c breakpoints =
+    let p = err_from_is_err_and _ c.from_residual-in_err-check_layout-4.ensures.1 in
+    layouts_are _ _ _ _ _ _ (verdict 0 c.first_bad_label.ensures c.in_ok-check_layout.ensures) (verdict 1 c.first_bad_entry.ensures c.in_ok-check_layout-2.ensures)
+    (verdict 2 c.check_regions.ensures c.in_ok-check_layout-3.ensures)
+    (verdict 3 (pendings_are c.args.pending.now c.args.counts _ _ c.check_pendings.ensures c.region_count-count.ensures.0) c.in_err-check_layout-4.ensures) refl breakpoints
+    ∙ sym (p.1 ∙ ap Err p.2)
 
 pub slice_bounds-check_kept-end : goal.slice_bounds-check_kept-end
 slice_bounds-check_kept-end c =
-    omega (arith, filled_good c.args.counts.pending c.args.pending.now _ (sym c.check_pendings.ensures ∙ c.in_default-check_pendings.is), length-take {A = ℕ})
+    omega (arith, filled_good c.args.counts.pending c.args.pending.now _ (passed 3 (sym c.check_pendings.ensures) (sym c.in_ok-check_layout-4.ensures)), length-take {A = ℕ})
 
 pub check_kept-requires : goal.check_kept-requires
 check_kept-requires c =
-    let f = filled_good c.args.counts.pending c.args.pending.now _ (sym c.check_pendings.ensures ∙ c.in_default-check_pendings.is) in
+    let f = filled_good c.args.counts.pending c.args.pending.now _ (passed 3 (sym c.check_pendings.ensures) (sym c.in_ok-check_layout-4.ensures)) in
     record { regions = _; kept = patched_layout c.args.counts.patches (filled_pendings c.args.pending.now c.args.counts) _ f.2 }
 
-pub overflow_cast-result-in-Some-check_kept : goal.overflow_cast-result-in-Some-check_kept
-overflow_cast-result-in-Some-check_kept c = omega (arith, kept_place _ _ _ (sym c.check_kept.ensures ∙ c.in-Some-check_kept.is))
-
-pub returns-in-Some-check_kept : goal.returns-in-Some-check_kept
-returns-in-Some-check_kept c =
-    layouts_are _ _ _ _ _ _ _ _ _ _ _ (sym c.first_bad_label.ensures ∙ c.in_default.is) (sym c.first_bad_entry.ensures ∙ c.in_default-first_bad_entry.is) (sym c.check_regions.ensures ∙ c.in_default-check_regions.is)
-    (pendings_are c.args.pending.now c.args.counts _ _ _ c.check_pendings.ensures c.region_count-count.ensures.0 ∙ c.in_default-check_pendings.is)
-    (sym c.check_kept.ensures ∙ c.in-Some-check_kept.is)
+pub check_layout-requires-5 : goal.check_layout-requires-5
+check_layout-requires-5 c p e = omega (arith, kept_place _ _ p (sym c.check_kept.ensures ∙ e))
 
 pub returns : goal.returns
 returns c =
-    layouts_are _ _ _ _ _ _ _ _ _ _ _ (sym c.first_bad_label.ensures ∙ c.in_default.is) (sym c.first_bad_entry.ensures ∙ c.in_default-first_bad_entry.is) (sym c.check_regions.ensures ∙ c.in_default-check_regions.is)
-    (pendings_are c.args.pending.now c.args.counts _ _ _ c.check_pendings.ensures c.region_count-count.ensures.0 ∙ c.in_default-check_pendings.is)
-    (sym c.check_kept.ensures ∙ c.in_default-check_kept.is)
+    layouts_are _ _ _ _ _ _ (verdict 0 c.first_bad_label.ensures c.in_ok-check_layout.ensures) (verdict 1 c.first_bad_entry.ensures c.in_ok-check_layout-2.ensures)
+    (verdict 2 c.check_regions.ensures c.in_ok-check_layout-3.ensures)
+    (verdict 3 (pendings_are c.args.pending.now c.args.counts _ _ c.check_pendings.ensures c.region_count-count.ensures.0) c.in_ok-check_layout-4.ensures)
+    (verdict 4 c.check_kept.ensures c.check_layout-5.ensures)

@@ -7,6 +7,3 @@ abbrev pub invariant-loop-left : goal.invariant-loop-left
 invariant-loop-left l =
     let regions = take l.fill l.initial.regions in
     Undoing regions l.pending l.kept l.order (put_back regions l.pending l.kept 0 l.order l.initial.regions) l.fill l.left l.regions × (length l.regions ≡ length l.initial.regions)
-
-abbrev pub decreases-loop-left : goal.decreases-loop-left
-decreases-loop-left l = l.left
