@@ -26,7 +26,7 @@ use Rattle.emit_dispatch.specs.Lines.{Line, pseudo_pairs, pseudo_form, line_by, 
 use Rattle.emit_outcome.specs.Call.{Call, EmitOutcome}
 use Rattle.emit_outcome.specs.Checks.{list_stop}
 use Rattle.emit_outcome.specs.Room.{room_stop}
-use Rattle.emit_outcome.specs.declared.EmitAnswer.{EmitAnswer}
+use Rattle.emit_outcome.specs.Answer.{EmitAnswer}
 use Rattle.emit_outcome.specs.Dispatch.{meaning}
 use Rattle.emit_outcome.specs.Emit.{start_of, accept_or, line_outcome, call_line, meaning_outcome, list_outcome, emit_outcome}
 use Rattle.emit_outcome.specs.declared.Meaning.{Meaning}

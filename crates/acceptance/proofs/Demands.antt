@@ -11,8 +11,8 @@ use Rattle.loading.specs.Run.{Registers}
 use Rattle.loading.proofs.Loading.{Loads, loads}
 use Rattle.lexer.specs.declared.Token.{Token}
 use Rattle.operand_list.specs.OperandLists.{read_operands}
-use Rattle.emit_dispatch.specs.declared.LineAnswer.TheVariants.{Made}
-use Rattle.emit_outcome.specs.declared.EmitAnswer.TheVariants.{Done, Refused as LineRefused}
+use Rattle.emit_dispatch.specs.LineAnswers.{Made}
+use Rattle.emit_outcome.specs.Answer.{done_at, refused_at}
 use Rattle.emit_outcome.specs.Call.{Call}
 use Rattle.emit_outcome.specs.Checks.{list_stop}
 use Rattle.emit_outcome.specs.Emit.{refuse, list_outcome, emit_outcome}
@@ -42,7 +42,7 @@ lists_of c = list_stop c.token_list c.mnemonic c.descriptors c.lent c.numbers.pl
 -- 1. "If a record list is damaged, cut short or senseless, each public entry returns the numbered refusal of document 01 and changes no lent byte."
 pub record Demand1 : Type 0 where
   pub line_lists : (job : Job) (c : Call) (r : Refusal) → lists_of c ≡ Err r → emit_outcome job c ≡ refuse c.numbers.counts c.lent c.numbers.place.position r
-  pub line_refused : (job : Job) (c : Call) (r : Refusal) (p : ℕ) → (emit_outcome job c).answer ≡ LineRefused r p → emit_outcome job c ≡ refuse c.numbers.counts c.lent p r
+  pub line_refused : (job : Job) (c : Call) (r : Refusal) (p : ℕ) → (emit_outcome job c).answer ≡ refused_at r p → emit_outcome job c ≡ refuse c.numbers.counts c.lent p r
   pub build_refused : (job : Job) (labels : Table) (entry regions pending : List ℕ) (r : Refusal) → build_verdict job labels entry regions pending ≡ Err r
       → build_outcome job labels entry regions pending ≡ record { answer = Err r; regions = regions }
 
@@ -69,7 +69,7 @@ pub record Demand3 : Type 0 where
   pub straight_back : (job : Job) (labels entry regions pending : List ℕ) → WithoutOwners labels → StraightPremises job (table_of labels) entry regions pending
       → readings (image_of (build_outcome job (table_of labels) entry regions pending).regions) pending ≡ destinations (table_of labels) pending
   pub constants : (c t : ℕ) (g : Registers) → t < 32 → length g ≡ 32 → Loads c t g
-  pub lines : (job : Job) (c : Call) (position : ℕ) (loaded : LoadForm) → (emit_outcome job c).answer ≡ Done position loaded → (l : LoadedConstant) → call_loads c ≡ Some l → ConstantAppended job c l
+  pub lines : (job : Job) (c : Call) (position : ℕ) (loaded : LoadForm) → (emit_outcome job c).answer ≡ done_at position loaded → (l : LoadedConstant) → call_loads c ≡ Some l → ConstantAppended job c l
 
 -- 3 again, of what emit calls leave: lines accepted one after the other on empty buffers, of any jobs, in any regions in any order. The premises on
 -- patches hold of themselves, and what is still asked a loft sees in its text and in its regions' addresses.

@@ -28,7 +28,7 @@ use Rattle.operand_list.specs.OperandLists.{AskedAll, read_operands}
 use Rattle.operands.specs.Operands.{with_sign}
 use Rattle.emit_pairs.specs.declared.Fault.TheVariants.{Immediate as ImmediateFault, ShiftAmount, ConditionCode, Dropped}
 use Rattle.emit_pairs.specs.Pairs.{is_immediate}
-use Rattle.emit_dispatch.specs.declared.LineAnswer.TheVariants.{Made}
+use Rattle.emit_dispatch.specs.LineAnswers.{Made}
 use Rattle.emit_dispatch.specs.Wants.{encoding_wants, pseudo_wants}
 use Rattle.emit_dispatch.specs.Lines.{is_given, encoding_range, range_answer, encoding_line}
 use Rattle.emit_dispatch.proofs.LinesLaws.{within_made}

@@ -1,6 +1,6 @@
 -- Where a job by the manual has none of the points that document 02 lists, P5: "equality is with the Rust except for what is listed here".
 -- Assumes nothing.
-use Rattle.std.specs.Prelude.{ℕ, ◌+◌, ◌/◌, ◌≤◌, ◌≡◌, List, Some}
+use Rattle.std.specs.Prelude.{Ok, Err, ℕ, ◌+◌, ◌/◌, ◌≤◌, ◌≡◌, List, Some}
 use Rattle.instructions.specs.declared.Size.{Size}
 use Rattle.instructions.specs.declared.Size.TheVariants.{Word}
 use Rattle.instructions.specs.declared.Encoding.{Encoding}
@@ -21,8 +21,7 @@ use Rattle.emit_dispatch.specs.Wants.{encoding_wants}
 use Rattle.emit_outcome.specs.Call.{Call}
 use Rattle.emit_outcome.specs.Dispatch.{meaning}
 use Rattle.emit_outcome.specs.Emit.{start_of, emit_outcome}
-use Rattle.emit_outcome.specs.declared.EmitAnswer.{EmitAnswer}
-use Rattle.emit_outcome.specs.declared.EmitAnswer.TheVariants.{Done, Refused}
+use Rattle.emit_outcome.specs.Answer.{EmitAnswer}
 use Rattle.emit_outcome.specs.declared.Meaning.{Meaning}
 use Rattle.emit_outcome.specs.declared.Meaning.TheVariants.{Table, Builtin, Neither}
 
@@ -61,8 +60,8 @@ UnlistedRead e (Missed m) = Unit {0}
 
 -- "abs first emits": a refused line emits nothing
 abbrev pub IsRefused : EmitAnswer → Type 0
-IsRefused (Done position loaded) = ⊥
-IsRefused (Refused r position) = Unit {0}
+IsRefused (Ok done) = ⊥
+IsRefused (Err refused) = Unit {0}
 
 abbrev pub UnlistedMeaning : Call → Meaning → Type 0
 UnlistedMeaning c (Table p) =

@@ -3,16 +3,16 @@
 
 ghost use Rattle.std.specs.Prelude.{◌≡◌};
 ghost use Rattle.lexer.specs.Tokens.{tokens};
-ghost use Rattle.cursor.specs.Reads.{Placed, ReadAs};
+ghost use Rattle.cursor.specs.Reads.{Reads};
 ghost use Rattle.operand.specs.Answers.{answer_of, given};
 ghost use Rattle.operand.specs.Held.{held_answer};
 ghost use Rattle.assembler_util.specs.LabelOperands.{is_met, named, plus_constant, symbol_label, to_label, get_label};
 ghost use Rattle.assembler_util.specs.LabelOperands.{or_zero, unbraced, closed_seen, braced, get_offset_or_label};
 
 use address_label::{AddressLabel, NamedLabel};
-use cursor::Cursor;
-use lexer::{Text, Token};
-use operand::{Miss, Operand, OperandRead, Want};
+use cursor::LexerCursor;
+use lexer::{Text, Token, TokenKind};
+use operand::{Miss, Operand, Want};
 use record::Location;
 use registers::RegisterSlot;
 
@@ -34,26 +34,23 @@ fn is_met(number: u8, seen: Option<Token>) -> bool
     seen.is_some_and(|token| lexer::strip(token.kind) == number)
 }
 
-// The Symbol `text` at `location`, with the position behind it: an optional Plus and constant follow.
-fn symbol_label(text: Text, location: Location, list: &[u8], from: Cursor) -> OperandRead
-    requires { Placed list.now from }
-    ensures { ReadAs list.now
-        (given Want.Label (symbol_label text location (tokens list.now) from.index))
-        result.answer result.cursor }
+// The Symbol `text` at `location`, which the cursor stands behind: an optional Plus and constant follow.
+#[tactic(auto, unfolding(crate::specs::LabelOperands::symbol_label))]
+fn symbol_label(
+    text: Text,
+    location: Location,
+    cursor: &mut LexerCursor<'_>,
+) -> Result<Operand, Miss>
+    ensures { Reads cursor.old
+        (given Want.Label (symbol_label text location (tokens cursor.old.list) cursor.old.index)) result cursor.new }
 {
-    let ahead = cursor::peek_adjacent(list, from);
-    if is_met(lexer::PLUS, ahead.answer) {
-        let read = operands::get_constant(list, cursor::next(list, ahead.cursor));
-        let answer = plus_constant(text, location, read.answer);
-        OperandRead {
-            answer,
-            cursor: read.cursor,
-        }
+    let start = cursor.position();
+    if is_met(lexer::PLUS, cursor.seek_without()) {
+        cursor.next();
+        plus_constant(text, location, operands::get_constant(cursor))
     } else {
-        OperandRead {
-            answer: Ok(Operand::Label(named(text, location, 0))),
-            cursor: from,
-        }
+        cursor.set_position(start);
+        Ok(Operand::Label(named(text, location, 0)))
     }
 }
 
@@ -68,41 +65,26 @@ fn plus_constant(
     Ok(Operand::Label(named(text, location, offset)))
 }
 
-// The label whose first token is `first`, with the position behind that token.
-fn to_label(first: Token, list: &[u8], from: Cursor) -> OperandRead
-    requires { Placed list.now from }
-    ensures { ReadAs list.now
-        (given Want.Label (to_label first (tokens list.now) from.index))
-        result.answer result.cursor }
+// The label whose first token is `first`, which the cursor stands behind.
+#[tactic(auto, unfolding(crate::specs::LabelOperands::to_label))]
+fn to_label(first: Token, cursor: &mut LexerCursor<'_>) -> Result<Operand, Miss>
+    ensures { Reads cursor.old (given Want.Label (to_label first (tokens cursor.old.list) cursor.old.index)) result cursor.new }
 {
-    let read = operands::get_integer(first, list, from);
-    match read.answer {
-        Some(n) => OperandRead {
-            answer: Ok(Operand::Label(AddressLabel::Constant(n))),
-            cursor: read.cursor,
-        },
-        None => match lexer::as_symbol(first.kind) {
-            Some(text) => symbol_label(text, first.location, list, read.cursor),
-            None => OperandRead {
-                answer: Err(Miss::ExpectedLabel(lexer::strip(first.kind), first.location)),
-                cursor: read.cursor,
-            },
+    match operands::get_integer(first, &mut *cursor) {
+        Some(n) => Ok(Operand::Label(AddressLabel::Constant(n))),
+        None => match first.kind {
+            TokenKind::Symbol(text) => symbol_label(text, first.location, cursor),
+            _ => Err(Miss::ExpectedLabel(lexer::strip(first.kind), first.location)),
         },
     }
 }
 
-pub fn get_label(list: &[u8], from: Cursor) -> OperandRead
-    requires { Placed list.now from }
-    ensures { ReadAs list.now (given Want.Label (get_label (tokens list.now) from.index)) result.answer result.cursor }
+#[tactic(auto, unfolding(crate::specs::LabelOperands::get_label, operands::specs::Operands::get_token))]
+pub fn get_label(cursor: &mut LexerCursor<'_>) -> Result<Operand, Miss>
+    ensures { Reads cursor.old (given Want.Label (get_label (tokens cursor.old.list) cursor.old.index)) result cursor.new }
 {
-    let read = cursor::next_adjacent(list, from);
-    match read.answer {
-        Some(token) => to_label(token, list, read.cursor),
-        None => OperandRead {
-            answer: Err(Miss::EndOfFile),
-            cursor: read.cursor,
-        },
-    }
+    let token = operands::get_token(&mut *cursor)?;
+    to_label(token, cursor)
 }
 
 fn or_zero(label: Result<Operand, Miss>) -> AddressLabel
@@ -118,25 +100,12 @@ fn unbraced(label: Result<Operand, Miss>) -> Result<Operand, Miss>
 }
 
 // The register and the right brace behind a left brace.
-fn braced(label: AddressLabel, list: &[u8], from: Cursor) -> OperandRead
-    requires { Placed list.now from }
-    ensures { ReadAs list.now
-        (given Want.OffsetOrLabel (braced label (tokens list.now) from.index))
-        result.answer result.cursor }
+#[tactic(auto, unfolding(crate::specs::LabelOperands::braced))]
+fn braced(label: AddressLabel, cursor: &mut LexerCursor<'_>) -> Result<Operand, Miss>
+    ensures { Reads cursor.old (given Want.OffsetOrLabel (braced label (tokens cursor.old.list) cursor.old.index)) result cursor.new }
 {
-    let read = operands::get_register(list, from);
-    match read.answer {
-        Ok(operand) => {
-            let slot = operand::slot_in(operand);
-            let right = cursor::next_adjacent(list, read.cursor);
-            let answer = closed_seen(label, slot, right.answer);
-            OperandRead {
-                answer,
-                cursor: right.cursor,
-            }
-        }
-        Err(_) => read,
-    }
+    let slot = operand::slot_in(operands::get_register(&mut *cursor)?);
+    closed_seen(label, slot, cursor.next_adjacent())
 }
 
 fn closed_seen(
@@ -155,24 +124,15 @@ fn closed_seen(
     }
 }
 
-pub fn get_offset_or_label(list: &[u8], from: Cursor) -> OperandRead
-    requires { Placed list.now from }
-    ensures { ReadAs list.now
-        (given Want.OffsetOrLabel (get_offset_or_label (tokens list.now) from.index))
-        result.answer result.cursor }
+#[tactic(auto, unfolding(crate::specs::LabelOperands::get_offset_or_label, crate::specs::LabelOperands::after_label))]
+pub fn get_offset_or_label(cursor: &mut LexerCursor<'_>) -> Result<Operand, Miss>
+    ensures { Reads cursor.old (given Want.OffsetOrLabel (get_offset_or_label (tokens cursor.old.list) cursor.old.index)) result cursor.new }
 {
-    let label = get_label(list, from);
-    let ahead = cursor::peek_adjacent(list, label.cursor);
-    if is_met(lexer::LEFT_BRACE, ahead.answer) {
-        braced(
-            or_zero(label.answer),
-            list,
-            cursor::next(list, ahead.cursor),
-        )
+    let label = get_label(&mut *cursor);
+    if is_met(lexer::LEFT_BRACE, cursor.seek_without()) {
+        cursor.next();
+        braced(or_zero(label), cursor)
     } else {
-        OperandRead {
-            answer: unbraced(label.answer),
-            cursor: ahead.cursor,
-        }
+        unbraced(label)
     }
 }

@@ -1,3 +1,4 @@
 pub mod Contract
 pub mod Layouts
+pub mod PatchLists
 pub mod Steps

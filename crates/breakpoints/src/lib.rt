@@ -37,7 +37,7 @@ impl record::Layout for Breakpoints {
 
 // Whether the buffer is within the limit and the fill count within the buffer.
 #[tactic(auto, unfolding(crate::specs::Breakpoints::filled_layout, record::specs::Records::within_limit))]
-fn filled(buffer: &[u8], fill: usize) -> Option<usize>
+pub fn filled(buffer: &[u8], fill: usize) -> Option<usize>
     ensures { result ≡ filled_layout fill buffer.now None }
 {
     if buffer.len() > record::LIMIT {

@@ -132,7 +132,7 @@ keep_in pending r p (q ∷ ps) m = go (eqb (region_of pending q) r) refl (keep_i
         below (inr t) = Memᴰ.tail (ih t)
     go false e ih = Memᴰ.tail (ih (rw (keep_other pending r q ps (eqb-false (region_of pending q) r e)) at m))
 
-order_in : (n : ℕ) (pending : List ℕ) (r p : ℕ) → Memᴰ p (order_from n pending r) → Memᴰ p (places pending)
+pub order_in : (n : ℕ) (pending : List ℕ) (r p : ℕ) → Memᴰ p (order_from n pending r) → Memᴰ p (places pending)
 unfolding order_from
 order_in zero pending r p m = elim m [ ]
 order_in (suc n) pending r p m = go (Memᴰ.append_cases (keep pending r (places pending)) m) (order_in n pending (r + 1) p)

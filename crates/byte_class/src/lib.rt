@@ -2,6 +2,7 @@
 #![tactic(auto)]
 
 ghost use Rattle.std.specs.Prelude.{◌≡◌};
+ghost use Rattle.std.proofs.Props.{props};
 ghost use Rattle.byte_class.specs.Class.{class_of, word_byte, blank_byte};
 ghost use Rattle.byte_class.specs.Letters.{letter_of, letters};
 
@@ -42,57 +43,59 @@ const CLASSES: [u8; 256] = *b"\
     ~~~~~~~~~~~~~~~~~~~~~~~~~~~~~~~~\
     ~~~~~~~~~~~~~~~~~~~~~~~~~~~~~~~~";
 
-// The table as a value: a constant is made anew wherever it stands, so whoever reads a text takes it once.
-pub fn table() -> [u8; 256]
-    ensures { result ≡ letters }
-{
-    CLASSES
+// The table as a value: a constant is made anew wherever it stands, so whoever reads a text makes one and lends it.
+#[derive(Clone, Copy)]
+pub struct ByteClasses {
+    table: [u8; 256],
+    ghost of_bytes: { table ≡ letters } by { Prim.hlevel props },
 }
 
-// The table's letter for a byte.
-fn letter_of(table: &[u8; 256], byte: u8) -> u8
-    requires { table.now ≡ letters }
-    ensures { result ≡ letter_of (class_of byte) }
-{
-    table[usize::from(byte)]
-}
-
-pub fn class_of(table: &[u8; 256], byte: u8) -> Class
-    requires { table.now ≡ letters }
-    ensures { result ≡ class_of byte }
-{
-    match letter_of(table, byte) {
-        b'b' => Class::Blank,
-        b'n' => Class::Newline,
-        b'0' => Class::Digit,
-        b'a' => Class::Letter,
-        b'#' => Class::Mark(Mark::Comment),
-        b'.' => Class::Mark(Mark::Directive),
-        b'%' => Class::Mark(Mark::Parameter),
-        b'$' => Class::Mark(Mark::Register),
-        b'"' => Class::Mark(Mark::StringLiteral),
-        b'+' => Class::Mark(Mark::Plus),
-        b'-' => Class::Mark(Mark::Minus),
-        b',' => Class::Mark(Mark::Comma),
-        b':' => Class::Mark(Mark::Colon),
-        b'(' => Class::Mark(Mark::LeftBrace),
-        b')' => Class::Mark(Mark::RightBrace),
-        _ => Class::Nothing,
+impl ByteClasses {
+    pub fn new() -> Self {
+        ByteClasses { table: CLASSES }
     }
-}
 
-// Whether the byte is a letter or a digit.
-pub fn is_word_byte(table: &[u8; 256], byte: u8) -> bool
-    requires { table.now ≡ letters }
-    ensures { result ≡ word_byte byte }
-{
-    matches!(letter_of(table, byte), b'a' | b'0')
-}
+    // The table's letter for a byte.
+    fn letter_of(&self, byte: u8) -> u8
+        ensures { result ≡ letter_of (class_of byte) }
+    {
+        self.table[usize::from(byte)]
+    }
 
-// Whether the byte is a blank.
-pub fn is_blank(table: &[u8; 256], byte: u8) -> bool
-    requires { table.now ≡ letters }
-    ensures { result ≡ blank_byte byte }
-{
-    letter_of(table, byte) == b'b'
+    pub fn class_of(&self, byte: u8) -> Class
+        ensures { result ≡ class_of byte }
+    {
+        match self.letter_of(byte) {
+            b'b' => Class::Blank,
+            b'n' => Class::Newline,
+            b'0' => Class::Digit,
+            b'a' => Class::Letter,
+            b'#' => Class::Mark(Mark::Comment),
+            b'.' => Class::Mark(Mark::Directive),
+            b'%' => Class::Mark(Mark::Parameter),
+            b'$' => Class::Mark(Mark::Register),
+            b'"' => Class::Mark(Mark::StringLiteral),
+            b'+' => Class::Mark(Mark::Plus),
+            b'-' => Class::Mark(Mark::Minus),
+            b',' => Class::Mark(Mark::Comma),
+            b':' => Class::Mark(Mark::Colon),
+            b'(' => Class::Mark(Mark::LeftBrace),
+            b')' => Class::Mark(Mark::RightBrace),
+            _ => Class::Nothing,
+        }
+    }
+
+    // Whether the byte is a letter or a digit.
+    pub fn is_word_byte(&self, byte: u8) -> bool
+        ensures { result ≡ word_byte byte }
+    {
+        matches!(self.letter_of(byte), b'a' | b'0')
+    }
+
+    // Whether the byte is a blank.
+    pub fn is_blank(&self, byte: u8) -> bool
+        ensures { result ≡ blank_byte byte }
+    {
+        self.letter_of(byte) == b'b'
+    }
 }

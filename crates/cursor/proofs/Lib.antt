@@ -1,1 +1,2 @@
 pub mod CursorsLaws
+pub mod ReadsLaws

@@ -16,3 +16,13 @@ pub record ReadAs {A : Type 0} (s : List ℕ) (x : At A) (answer : A) (cursor : 
   pub answer_is : answer ≡ x.answer
   pub cursor_is : cursor ≡ cursor_at s x.index
   pub placed : Placed s cursor
+
+-- a cursor over its token list, by the count of tokens before it
+pub record CursorIn : Type 0 where
+  pub list : List ℕ
+  pub index : ℕ
+
+-- the answer is the definition's, and the cursor then stands in the same list behind what was read
+pub record Reads {A : Type 0} (before : CursorIn) (x : At A) (answer : A) (after : CursorIn) : Type 0 where
+  pub answer_is : answer ≡ x.answer
+  pub after_is : after ≡ record { list = before.list; index = x.index }

@@ -1,26 +1,36 @@
 // `LexerCursor`, made over a borrowed token list (cursor.rs). Its methods are thin: the work is done on slice and position.
 ghost use Rattle.std.specs.Prelude.{◌≡◌};
 ghost use Rattle.lexer.specs.Tokens.{tokens};
-ghost use Rattle.cursor.specs.Cursors.{cursor_at, peek, step, seek};
-ghost use Rattle.cursor.specs.Reads.{Placed};
+ghost use Rattle.cursor.specs.Cursors.{cursor_at, peek, step, seek, next_adjacent, peek_adjacent};
+ghost use Rattle.cursor.specs.Reads.{Placed, Reads};
 
 use crate::Cursor;
 use lexer::Token;
+use std::marker::Model;
 
 // The list, the count of tokens before the position, and its byte place.
-#[derive(Clone, Copy)]
+#[derive(Drop)]
 pub struct LexerCursor<'a> {
-    pub tokens: &'a [u8],
-    pub index: usize,
-    pub at: usize,
+    tokens: &'a [u8],
+    index: usize,
+    at: usize,
+}
+
+impl<'a> Model for LexerCursor<'a> {
+    ghost use Rattle.cursor.specs.Reads.{CursorIn, Placed};
+
+    ghost Value = { CursorIn };
+
+    ghost view = { λ cursor. record { list = cursor.tokens.now; index = cursor.index } };
+
+    ghost invariant = { λ cursor. Placed cursor.tokens.now (record { index = cursor.index; at = cursor.at }) };
 }
 
 impl<'a> LexerCursor<'a> {
-    ghost use Rattle.cursor.specs.Position.{position_of};
-
     // A cursor at a position of the list. The Rust starts at the first token, and is then set to a position.
     pub fn new(tokens: &'a [u8], position: Cursor) -> Self
-        ensures { (result.tokens ≡ tokens.entry) × (position_of result ≡ position) }
+        requires { Placed tokens.now position }
+        ensures { result ≡ (record { list = tokens.now; index = position.index }) }
     {
         Self {
             tokens,
@@ -29,9 +39,8 @@ impl<'a> LexerCursor<'a> {
         }
     }
 
-    // Its position, by value.
-    pub fn position(self) -> Cursor
-        ensures { result ≡ position_of self.entry }
+    pub fn position(&self) -> Cursor
+        ensures { (result ≡ cursor_at self.now.list self.now.index) × Placed self.now.list result }
     {
         Cursor {
             index: self.index,
@@ -39,38 +48,53 @@ impl<'a> LexerCursor<'a> {
         }
     }
 
+    pub fn set_position(&mut self, position: Cursor)
+        requires { Placed self.old.list position }
+        ensures { self.new ≡ (record { list = self.old.list; index = position.index }) }
+    {
+        self.index = position.index;
+        self.at = position.at;
+    }
+
     // What stands at its position.
-    pub fn peek(self) -> Option<Token>
-        requires { Placed self.tokens.now (position_of self) }
-        ensures { result ≡ peek (tokens self.entry.tokens.now) self.entry.index }
+    pub fn peek(&self) -> Option<Token>
+        ensures { result ≡ peek (tokens self.now.list) self.now.index }
     {
         crate::peek(self.tokens, self.position())
     }
 
-    // The cursor at the next token that is not passed over, or at the list's end.
-    pub fn seek_without(self) -> Self
-        requires { Placed self.tokens.now (position_of self) }
-        ensures { (result.tokens ≡ self.entry.tokens)
-            × (position_of result ≡ cursor_at self.entry.tokens.now (seek (tokens self.entry.tokens.now) self.entry.index))
-            × Placed self.entry.tokens.now (position_of result) }
+    // The token at its position, behind which it then stands; at the list's end it stays.
+    pub fn next(&mut self) -> Option<Token>
+        ensures { Reads self.old (record { answer = peek (tokens self.old.list) self.old.index; index = step (tokens self.old.list) self.old.index })
+            result self.new }
     {
-        Self::new(
-            self.tokens,
-            crate::seek_without(self.tokens, self.position()),
-        )
+        let seen = self.peek();
+        self.set_position(crate::next(self.tokens, self.position()));
+        seen
     }
 
-    // The token, with the cursor moved past it where it lies.
-    pub fn next(&mut self) -> Option<Token>
-        requires { Placed self.old.tokens.now (position_of self.old) }
-        ensures { (result ≡ peek (tokens self.old.tokens.now) self.old.index)
-            × (self.new.tokens ≡ self.old.tokens)
-            × (position_of self.new ≡ cursor_at self.old.tokens.now
-            (step (tokens self.old.tokens.now) self.old.index))
-            × Placed self.old.tokens.now (position_of self.new) }
+    // Moves to the next token that is not passed over, or to the list's end.
+    fn seek(&mut self)
+        ensures { self.new ≡ (record { list = self.old.list; index = seek (tokens self.old.list) self.old.index }) }
     {
-        let read = crate::step_at(self.tokens, self.position());
-        *self = Self::new(self.tokens, read.cursor);
-        read.answer
+        self.set_position(crate::seek_without(self.tokens, self.position()));
+    }
+
+    // The next token that is not passed over, at which it then stands.
+    #[tactic(auto, unfolding(crate::specs::Cursors::peek_adjacent))]
+    pub fn seek_without(&mut self) -> Option<Token>
+        ensures { Reads self.old (peek_adjacent (tokens self.old.list) self.old.index) result self.new }
+    {
+        self.seek();
+        self.peek()
+    }
+
+    // The next token that is not passed over, behind which it then stands.
+    #[tactic(auto, unfolding(crate::specs::Cursors::next_adjacent))]
+    pub fn next_adjacent(&mut self) -> Option<Token>
+        ensures { Reads self.old (next_adjacent (tokens self.old.list) self.old.index) result self.new }
+    {
+        self.seek();
+        self.next()
     }
 }

@@ -3,26 +3,19 @@
 
 ghost use Rattle.std.specs.Prelude.{◌≡◌};
 ghost use Rattle.lexer.specs.Tokens.{token_layout, tokens};
-ghost use Rattle.cursor.specs.Cursors.{cursor_at, start_index, is_adjacent_kind, peek, step, seek, next_adjacent, peek_adjacent};
-ghost use Rattle.cursor.specs.Reads.{Placed, ReadAs};
+ghost use Rattle.cursor.specs.Cursors.{cursor_at, start_index, is_adjacent_kind, peek, step, seek};
+ghost use Rattle.cursor.specs.Reads.{Placed};
 
 mod lexer_cursor;
 
 use lexer::{Token, TokenKind};
-use lexer_cursor::LexerCursor;
+pub use lexer_cursor::LexerCursor;
 
 // The count of tokens before the position, and its byte place.
 #[derive(Clone, Copy)]
 pub struct Cursor {
     pub index: usize,
     pub at: usize,
-}
-
-// What was read, and the position behind it.
-#[derive(Clone, Copy)]
-pub struct TokenRead {
-    pub answer: Option<Token>,
-    pub cursor: Cursor,
 }
 
 // The position of a token number, or the list's end.
@@ -56,7 +49,7 @@ fn peek(list: &[u8], position: Cursor) -> Option<Token>
 }
 
 // The position behind it; at the list's end it stays.
-pub fn next(list: &[u8], position: Cursor) -> Cursor
+fn next(list: &[u8], position: Cursor) -> Cursor
     requires { Placed list.now position }
     ensures { (result ≡ cursor_at list.now (step (tokens list.now) position.index)) × Placed list.now result }
 {
@@ -87,41 +80,4 @@ fn seek_without(list: &[u8], position: Cursor) -> Cursor
         cursor = next(list, cursor);
     }
     cursor
-}
-
-// What stands at a position, and the position behind it.
-fn step_at(list: &[u8], position: Cursor) -> TokenRead
-    requires { Placed list.now position }
-    ensures { (result.answer ≡ peek (tokens list.now) position.index)
-        × (result.cursor ≡ cursor_at list.now (step (tokens list.now) position.index))
-        × Placed list.now result.cursor }
-{
-    TokenRead {
-        answer: peek(list, position),
-        cursor: next(list, position),
-    }
-}
-
-// The next token that is not passed over, and the position behind it. Plain parameters: its callers need no proof by hand.
-pub fn next_adjacent(list: &[u8], position: Cursor) -> TokenRead
-    requires { Placed list.now position }
-    ensures { ReadAs list.now (next_adjacent (tokens list.now) position.index) result.answer result.cursor }
-{
-    let mut found = LexerCursor::new(list, position).seek_without();
-    TokenRead {
-        answer: found.next(),
-        cursor: found.position(),
-    }
-}
-
-// The next token that is not passed over, and its own position.
-pub fn peek_adjacent(list: &[u8], position: Cursor) -> TokenRead
-    requires { Placed list.now position }
-    ensures { ReadAs list.now (peek_adjacent (tokens list.now) position.index) result.answer result.cursor }
-{
-    let found = LexerCursor::new(list, position).seek_without();
-    TokenRead {
-        answer: found.peek(),
-        cursor: found.position(),
-    }
 }

@@ -8,7 +8,10 @@ ghost use Rattle.descriptors.specs.Descriptors.{most_size, most_flag, most_prese
 mod numbers;
 
 use instructions::{Encoding, Opcode, Size};
+use name_index::NameIndex;
+use names::Named;
 use record::Location;
+use std::marker::Model;
 
 // The kinds of the two records.
 const MNEMONIC: usize = 32;
@@ -82,21 +85,88 @@ pub fn read_mnemonic(list: &[u8]) -> Mnemonic
     }
 }
 
-// Whether the fixed fields of the record at `at` are those of a descriptor.
-#[tactic(auto, unfolding(crate::specs::Descriptors::fields_ok))]
-fn fields_ok(list: &[u8], at: usize) -> bool
-    requires { at + 12 ≤ length list.now }
-    ensures { result ≡ fields_ok list.now at }
-{
-    let encoding = list[at + 6];
-    let present = list[at + 9];
-    list[at + 4] <= numbers::COP1I
-        && encoding <= numbers::FP_BRANCH
-        && list[at + 7] <= most_size(encoding)
-        && list[at + 8] <= most_flag(encoding)
-        && present <= most_present(encoding)
-        && list[at + 10] <= most_alternative(present, numbers::COP1I)
-        && list[at + 11] <= most_alternative(present, 255)
+// The fixed fields of a descriptor, at its record's place in a list.
+#[derive(Clone, Copy)]
+pub struct Descriptor<'a> {
+    list: &'a [u8],
+    at: usize,
+    ghost fits: { at + 12 ≤ length list.now },
+}
+
+impl<'a> Descriptor<'a> {
+    pub fn new(list: &'a [u8], at: usize) -> Self
+        requires { at + 12 ≤ length list.now }
+        ensures { (result.list.now ≡ list.now) × (result.at ≡ at) }
+    {
+        Descriptor { list, at }
+    }
+
+    // Whether the fields are those of a descriptor.
+    #[tactic(auto, unfolding(crate::specs::Descriptors::fields_ok))]
+    fn fields_ok(self) -> bool
+        ensures { result ≡ fields_ok self.entry.list.now self.entry.at }
+    {
+        let encoding = self.list[self.at + 6];
+        let present = self.list[self.at + 9];
+        self.list[self.at + 4] <= numbers::COP1I
+            && encoding <= numbers::FP_BRANCH
+            && self.list[self.at + 7] <= most_size(encoding)
+            && self.list[self.at + 8] <= most_flag(encoding)
+            && present <= most_present(encoding)
+            && self.list[self.at + 10] <= most_alternative(present, numbers::COP1I)
+            && self.list[self.at + 11] <= most_alternative(present, 255)
+    }
+
+    fn alternative(self) -> Option<Opcode>
+        ensures { result ≡ alternative_at self.entry.list.now self.entry.at }
+    {
+        if self.list[self.at + 9] == 1 {
+            Some(opcode_from(self.list[self.at + 10], self.list[self.at + 11]))
+        } else {
+            None
+        }
+    }
+
+    // The encoding, with what it carries.
+    fn encoding(self) -> Encoding
+        ensures { result ≡ (instruction_at self.entry.list.now self.entry.at).encoding }
+    {
+        let size = size_from(self.list[self.at + 7]);
+        let flag = self.list[self.at + 8] == 1;
+        let alternative = self.alternative();
+        match self.list[self.at + 6] {
+            numbers::REGISTER => Encoding::Register,
+            numbers::REGISTER_SHIFT => Encoding::RegisterShift,
+            numbers::SOURCE => Encoding::Source,
+            numbers::DESTINATION => Encoding::Destination,
+            numbers::INPUTS => Encoding::Inputs,
+            numbers::SHAM => Encoding::Sham,
+            numbers::SPECIAL_BRANCH => Encoding::SpecialBranch,
+            numbers::IMMEDIATE => Encoding::Immediate(alternative),
+            numbers::LOAD_IMMEDIATE => Encoding::LoadImmediate,
+            numbers::JUMP => Encoding::Jump,
+            numbers::BRANCH => Encoding::Branch,
+            numbers::BRANCH_ZERO => Encoding::BranchZero,
+            numbers::PARAMETERLESS => Encoding::Parameterless,
+            numbers::OFFSET => Encoding::Offset,
+            numbers::FP_OFFSET => Encoding::FPOffset,
+            numbers::FP_3REGISTER => Encoding::FP3Register(size),
+            numbers::FP_2REGISTER => Encoding::FP2Register(size),
+            numbers::FP_MOVE => Encoding::FPMove { size, flag },
+            numbers::FP_COND => Encoding::FPCond(size),
+            numbers::FP_CROSS_MOVE => Encoding::FPCrossMove { flag },
+            _ => Encoding::FPBranch { flag },
+        }
+    }
+
+    pub fn instruction(self) -> Instruction
+        ensures { result ≡ instruction_at self.entry.list.now self.entry.at }
+    {
+        Instruction {
+            opcode: opcode_from(self.list[self.at + 4], self.list[self.at + 5]),
+            encoding: self.encoding(),
+        }
+    }
 }
 
 fn most_size(encoding: u8) -> u8
@@ -132,9 +202,9 @@ fn most_alternative(present: u8, most: u8) -> u8
 
 // The layout of a list of descriptors.
 #[derive(Clone, Copy)]
-struct Descriptors;
+struct DescriptorLayout;
 
-impl record::Layout for Descriptors {
+impl record::Layout for DescriptorLayout {
     ghost keeps = { λ self s at. descriptor_ok s at };
 
     #[tactic(auto, unfolding(crate::specs::Descriptors::descriptor_ok))]
@@ -143,7 +213,7 @@ impl record::Layout for Descriptors {
             && record::half_at(list, at + 2) == DESCRIPTOR
             && record::half_at(list, at) >= 9
             && record::half_at(list, at) <= 24
-            && fields_ok(list, at)
+            && Descriptor::new(list, at).fields_ok()
             && record::all_text(&list[at + 12..record::next(list, at)])
     }
 }
@@ -153,37 +223,67 @@ impl record::Layout for Descriptors {
 pub fn first_bad_descriptor(list: &[u8]) -> Option<usize>
     ensures { result ≡ descriptor_layout list.now }
 {
-    record::first_bad_within(&Descriptors, list)
+    record::first_bad_within(&DescriptorLayout, list)
 }
 
-// The first descriptor that shares its name with an earlier one, by an index of the list.
-fn repeat_by_index(list: &[u8]) -> Option<usize>
-    requires { descriptor_layout list.now ≡ None }
-    ensures { result ≡ descriptor_repeat list.now }
-{
-    let mut index = [0u16; MOST];
-    let mut spare = [0u16; MOST];
-    let n = name_index::make(list, 8, &mut index, &mut spare);
-    name_index::first_repeat(list, 8, &index[..n])
+// A list of descriptors that keeps its layout.
+#[derive(Drop)]
+pub struct Descriptors<'a> {
+    list: &'a [u8],
 }
 
-// The first descriptor that shares its name with an earlier one: there is none where the names rise.
-pub fn first_repeat(list: &[u8]) -> Option<usize>
-    requires { descriptor_layout list.now ≡ None }
-    ensures { result ≡ descriptor_repeat list.now }
-{
-    if name_index::rises(list, 8) {
-        return None;
+impl<'a> Model for Descriptors<'a> {
+    ghost use Rattle.std.specs.Prelude.{◌≡◌, ℕ, List, None};
+    ghost use Rattle.descriptors.specs.Descriptors.{descriptor_layout};
+
+    ghost Value = { List ℕ };
+
+    ghost view = { λ descriptors. descriptors.list.now };
+
+    ghost invariant = { λ descriptors. descriptor_layout descriptors.list.now ≡ None };
+}
+
+impl<'a> Descriptors<'a> {
+    pub fn new(list: &'a [u8]) -> Self
+        requires { descriptor_layout list.now ≡ None }
+        ensures { result ≡ list.now }
+    {
+        Descriptors { list }
     }
-    repeat_by_index(list)
-}
 
-// The place of the descriptor of that name.
-pub fn find(list: &[u8], name: &[u8]) -> Option<usize>
-    requires { descriptor_layout list.now ≡ None }
-    ensures { result ≡ find_descriptor list.now name.now }
-{
-    names::find_named(list, 8, names::FOR_ALL, name)
+    // The records with their names.
+    fn named(&self) -> Named<'a, 8>
+        ensures value { result ≡ self.now }
+        ensures layout { descriptor_layout self.now ≡ None }
+    {
+        Named::new(self.list)
+    }
+
+    // The first descriptor that shares its name with an earlier one, by an index of the list.
+    fn repeat_by_index(&self) -> Option<usize>
+        ensures { result ≡ descriptor_repeat self.now }
+    {
+        let mut order = [0u16; MOST];
+        let mut spare = [0u16; MOST];
+        NameIndex::make(self.named(), &mut order, &mut spare).first_repeat()
+    }
+
+    // The first descriptor that shares its name with an earlier one: there is none where the names rise.
+    pub fn first_repeat(&self) -> Option<usize>
+        ensures { result ≡ descriptor_repeat self.now }
+    {
+        if name_index::rises(&self.named()) {
+            return None;
+        }
+        self.repeat_by_index()
+    }
+
+    // The place of the descriptor of that name.
+    pub fn find(&self, name: &[u8]) -> Option<usize>
+        ensures { result ≡ find_descriptor self.now name.now }
+    {
+        self.named().find(names::FOR_ALL, name)
+    }
 }
 
 fn opcode_from(class: u8, key: u8) -> Opcode
@@ -206,60 +306,5 @@ fn size_from(n: u8) -> Size
         numbers::SINGLE => Size::Single,
         numbers::DOUBLE => Size::Double,
         _ => Size::Word,
-    }
-}
-
-fn alternative_at(list: &[u8], at: usize) -> Option<Opcode>
-    requires { at + 12 ≤ length list.now }
-    ensures { result ≡ alternative_at list.now at }
-{
-    if list[at + 9] == 1 {
-        Some(opcode_from(list[at + 10], list[at + 11]))
-    } else {
-        None
-    }
-}
-
-// The encoding of the descriptor at `at`, with what it carries.
-fn encoding_at(list: &[u8], at: usize) -> Encoding
-    requires { at + 12 ≤ length list.now }
-    ensures { result ≡ (instruction_at list.now at).encoding }
-{
-    let size = size_from(list[at + 7]);
-    let flag = list[at + 8] == 1;
-    let alternative = alternative_at(list, at);
-    match list[at + 6] {
-        numbers::REGISTER => Encoding::Register,
-        numbers::REGISTER_SHIFT => Encoding::RegisterShift,
-        numbers::SOURCE => Encoding::Source,
-        numbers::DESTINATION => Encoding::Destination,
-        numbers::INPUTS => Encoding::Inputs,
-        numbers::SHAM => Encoding::Sham,
-        numbers::SPECIAL_BRANCH => Encoding::SpecialBranch,
-        numbers::IMMEDIATE => Encoding::Immediate(alternative),
-        numbers::LOAD_IMMEDIATE => Encoding::LoadImmediate,
-        numbers::JUMP => Encoding::Jump,
-        numbers::BRANCH => Encoding::Branch,
-        numbers::BRANCH_ZERO => Encoding::BranchZero,
-        numbers::PARAMETERLESS => Encoding::Parameterless,
-        numbers::OFFSET => Encoding::Offset,
-        numbers::FP_OFFSET => Encoding::FPOffset,
-        numbers::FP_3REGISTER => Encoding::FP3Register(size),
-        numbers::FP_2REGISTER => Encoding::FP2Register(size),
-        numbers::FP_MOVE => Encoding::FPMove { size, flag },
-        numbers::FP_COND => Encoding::FPCond(size),
-        numbers::FP_CROSS_MOVE => Encoding::FPCrossMove { flag },
-        _ => Encoding::FPBranch { flag },
-    }
-}
-
-// The descriptor at `at`, of a list that keeps its layout.
-pub fn instruction_at(list: &[u8], at: usize) -> Instruction
-    requires { at + 12 ≤ length list.now }
-    ensures { result ≡ instruction_at list.now at }
-{
-    Instruction {
-        opcode: opcode_from(list[at + 4], list[at + 5]),
-        encoding: encoding_at(list, at),
     }
 }

@@ -1,16 +1,15 @@
 // The dry run of a region list.
 #![tactic(auto)]
 
-ghost use Rattle.std.specs.Prelude.{◌≡◌};
-ghost use Rattle.record.specs.Records.{places};
-ghost use Rattle.regions.specs.Regions.{region_layout};
+ghost use Rattle.std.specs.Prelude.{◌≡◌, MatchResult};
 ghost use Rattle.reading.specs.Reading.{image_of};
-ghost use Rattle.dry_run_outcome.specs.DryRun.{can_start, started, dry_run_outcome};
-ghost use Rattle.dry_run_outcome.specs.DryRun.{refused_run};
+ghost use Rattle.dry_run_outcome.specs.DryRun.{can_start, started, dry_run_verdict, dry_run_outcome};
 
-use dry_run_outcome::{DryRun, RunAnswer};
+use dry_run_outcome::{DryRun, Stopped};
+use image::Placed;
 use machine::Machine;
 use refusal::Refusal;
+use regions::Regions;
 
 mod image;
 mod steps;
@@ -19,45 +18,42 @@ mod steps;
 pub fn dry_run(regions: &[u8], machine: Machine, allowance: u32) -> DryRun
     ensures { result ≡ dry_run_outcome regions.now machine allowance }
 {
-    match regions::first_bad_region(regions) {
-        Some(place) => refused(machine, Refusal::BadLayout(0, place as u32)),
-        None => run_good(regions, machine, allowance),
+    match check(regions, machine.pc) {
+        Err(refusal) => DryRun {
+            machine,
+            answer: Err(refusal),
+        },
+        Ok(image) => {
+            let ran = steps::run(&image, start(machine), allowance);
+            DryRun {
+                machine: ran.machine,
+                answer: Ok(Stopped {
+                    reason: ran.reason,
+                    steps: ran.steps,
+                }),
+            }
+        }
     }
 }
 
-fn refused(machine: Machine, refusal: Refusal) -> DryRun
-    ensures { result ≡ refused_run machine refusal }
+// The image, where a run may start from that pc.
+fn check(regions: &[u8], pc: u32) -> Result<Placed<'_>, Refusal>
+    ensures { MatchResult result
+        (λ image. (dry_run_verdict regions.now pc ≡ Ok tt) × (image ≡ image_of regions.now))
+        (λ refusal. dry_run_verdict regions.now pc ≡ Err refusal) }
 {
-    DryRun {
-        machine,
-        answer: RunAnswer::Refused(refusal),
+    refusal::check_layout(0, regions::first_bad_region(regions))?;
+    let image = Placed::new(Regions::new(regions));
+    if !can_start(&image, pc) {
+        return Err(Refusal::BadStart);
     }
+    Ok(image)
 }
 
-// The run of a region list that keeps its layout.
-fn run_good(regions: &[u8], machine: Machine, allowance: u32) -> DryRun
-    requires { region_layout regions.now ≡ None }
-    ensures { result ≡ dry_run_outcome regions.now machine allowance }
+fn can_start(image: &Placed<'_>, pc: u32) -> bool
+    ensures { result ≡ can_start image.now pc }
 {
-    let places = image::region_places(regions);
-    let at = places.at;
-    let count = places.count;
-    if !can_start(regions, &at[..count], machine.pc) {
-        return refused(machine, Refusal::BadStart);
-    }
-    let ran = steps::run(regions, &at[..count], start(machine), allowance);
-    DryRun {
-        machine: ran.machine,
-        answer: RunAnswer::Stopped(ran.reason, ran.steps),
-    }
-}
-
-fn can_start(regions: &[u8], found: &[usize], pc: u32) -> bool
-    requires regions_value { region_layout regions.now ≡ None }
-    requires found_value { found.now ≡ places regions.now }
-    ensures { result ≡ can_start (image_of regions.now) pc }
-{
-    pc % 4 == 0 && image::fetch(regions, found, pc).is_some()
+    pc % 4 == 0 && image.fetch(pc).is_some()
 }
 
 // $zero is 0, whatever was given for it.

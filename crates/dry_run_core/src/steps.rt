@@ -1,17 +1,15 @@
 // The steps of a run.
 ghost use Rattle.std.specs.Prelude.{◌≡◌};
-ghost use Rattle.record.specs.Records.{places};
-ghost use Rattle.regions.specs.Regions.{region_layout};
-ghost use Rattle.reading.specs.Reading.{image_of};
 ghost use Rattle.machine.specs.Step.{Zero};
 ghost use Rattle.dry_run_outcome.specs.Run.{run};
 ghost use Rattle.dry_run_outcome.specs.Run.{ran_for};
 
-use crate::image;
+use crate::image::Placed;
 use dry_run_outcome::Ran;
 use machine::effects::Operands;
 use machine::{Effect, Machine, Reason, effects, words};
 
+// kept: a constructor; each return of `run` written out would be longer.
 fn ran(machine: Machine, reason: Reason, steps: u32) -> Ran
     ensures { result ≡ ran_for steps machine reason }
 {
@@ -23,17 +21,16 @@ fn ran(machine: Machine, reason: Reason, steps: u32) -> Ran
 }
 
 // Runs the words from the machine's pc on, one a step, until the allowance is used up or a word stops the run.
-pub(crate) fn run(regions: &[u8], found: &[usize], machine: Machine, allowance: u32) -> Ran
-    requires regions_value { region_layout regions.now ≡ None }
-    requires found_value { found.now ≡ places regions.now }
-    requires zero { Zero machine.registers }
-    ensures { result ≡ run allowance (image_of regions.now) machine }
+pub(crate) fn run(image: &Placed<'_>, machine: Machine, allowance: u32) -> Ran
+    requires { Zero machine.registers }
+    ensures { result ≡ run allowance image.now machine }
 {
     let mut m = machine;
+    // kept: the count of the steps is a part of the answer, wherever a turn returns
     let mut steps: u32 = 0;
     while steps < allowance {
         let pc = m.pc;
-        let Some(word) = image::fetch(regions, found, pc) else {
+        let Some(word) = image.fetch(pc) else {
             return ran(m, Reason::Pc, steps);
         };
         let i = words::rs(word);

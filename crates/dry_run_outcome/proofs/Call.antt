@@ -1,5 +1,5 @@
 -- What holds of a run, said of the whole call: its steps and reason, its stopping word, $zero and the registers. Assumes nothing.
-use Rattle.std.specs.Prelude.{ℕ, List, Bool, true, false, ◌≡◌, refl, None, Option, Some}
+use Rattle.std.specs.Prelude.{ℕ, List, Bool, true, false, ◌≡◌, refl, Err, None, Option, Some}
 use Rattle.std.proofs.Common.{arith, sym, ap, subst, ◌∙◌, length-set}
 use Rattle.refusal.specs.declared.Refusal.{Refusal}
 use Rattle.refusal.specs.declared.Refusal.TheVariants.{BadLayout, BadStart}
@@ -13,14 +13,14 @@ use Rattle.machine.proofs.StepLaws.{HoldsZero}
 use Rattle.machine.specs.Fits.{Fits}
 use Rattle.machine.proofs.FitsLaws.{set_fits, word_fits}
 use Rattle.dry_run_outcome.specs.declared.Ran.{Ran}
-use Rattle.dry_run_outcome.specs.declared.RunAnswer.TheVariants.{Stopped, Refused}
+use Rattle.dry_run_outcome.specs.declared.Stopped.{Stopped}
 use Rattle.dry_run_outcome.specs.declared.DryRun.{DryRun}
 use Rattle.dry_run_outcome.specs.Run.{step, run, ran_for}
 use Rattle.dry_run_outcome.proofs.RunLaws.{run_keeps}
 use Rattle.dry_run_outcome.proofs.Counted.{Counted, counted}
 use Rattle.dry_run_outcome.proofs.Stopping.{StopsAt, stopping}
 use Rattle.dry_run_outcome.proofs.Zero.{run_zero, started_zero}
-use Rattle.dry_run_outcome.specs.DryRun.{can_start, started, dry_run_outcome, refused_run}
+use Rattle.dry_run_outcome.specs.DryRun.{can_start, started, stopped, dry_run_outcome, refused_run}
 use Rattle.dry_run_outcome.proofs.DryRunLaws.{stopped_run, outcome_layout, outcome_start, outcome_run}
 
 module _ (regions : List ℕ) (m : Machine) (allowance : ℕ) where
@@ -43,14 +43,14 @@ module _ (regions : List ℕ) (m : Machine) (allowance : ℕ) where
       by_layout None e = by_start e (can_start (image_of regions) m.pc) refl
       by_layout (Some place) e = not_run (BadLayout 0 place) (outcome_layout regions m allowance place e)
 
-  pub call_refused : (r : Refusal) → call.answer ≡ Refused r → call.machine ≡ m
+  pub call_refused : (r : Refusal) → call.answer ≡ Err r → call.machine ≡ m
   call_refused r e = go called
     where
       go : Called → call.machine ≡ m
       go (not_run q o) = ap (λ (d : DryRun). d.machine) o
       go (is_run g s o) = let z : ◌≡◌ {A = ℕ} 0 1 = cc in absurd (omega arith)
 
-  module _ (reason : Reason) (steps : ℕ) (stopped : call.answer ≡ Stopped reason steps) where
+  module _ (reason : Reason) (steps : ℕ) (ends : call.answer ≡ stopped reason steps) where
     -- the run of a call that is not refused
     pub record Runs : Type 0 where
       pub good : region_layout regions ≡ None
@@ -65,8 +65,9 @@ module _ (regions : List ℕ) (m : Machine) (allowance : ℕ) where
         go (is_run g s o) =
             let r = run allowance (image_of regions) (started m) in
             let left : r.machine ≡ call.machine = sym (ap (λ (d : DryRun). d.machine) o) in
-            let why : r.reason ≡ reason = cc in
-            let many : r.steps ≡ steps = cc in record {
+            let same : ◌≡◌ {A = Stopped} (record { reason = r.reason; steps = r.steps }) (record { reason = reason; steps = steps }) = cc in
+            let why : r.reason ≡ reason = ap (λ (k : Stopped). k.reason) same in
+            let many : r.steps ≡ steps = ap (λ (k : Stopped). k.steps) same in record {
               good = g;
               starts = s;
               ran = ap (λ (n : ℕ). ran_for n r.machine r.reason) many ∙ ap (λ (q : Reason). ran_for steps r.machine q) why ∙ ap (λ (k : Machine). ran_for steps k reason) left;

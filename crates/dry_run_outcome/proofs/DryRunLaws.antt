@@ -5,13 +5,12 @@ use Rattle.regions.specs.Regions.{region_layout}
 use Rattle.reading.specs.Reading.{image_of}
 use Rattle.machine.specs.declared.Machine.{Machine}
 use Rattle.dry_run_outcome.specs.declared.Ran.{Ran}
-use Rattle.dry_run_outcome.specs.declared.RunAnswer.TheVariants.{Stopped}
 use Rattle.dry_run_outcome.specs.declared.DryRun.{DryRun}
 use Rattle.dry_run_outcome.specs.Run.{run}
-use Rattle.dry_run_outcome.specs.DryRun.{can_start, started, dry_run_outcome, refused_run}
+use Rattle.dry_run_outcome.specs.DryRun.{can_start, started, stopped, dry_run_outcome, refused_run}
 
 abbrev pub stopped_run : Ran → DryRun
-stopped_run r = record { machine = r.machine; answer = Stopped r.reason r.steps }
+stopped_run r = record { machine = r.machine; answer = stopped r.reason r.steps }
 
 module _ (regions : List ℕ) (m : Machine) (allowance : ℕ) where
   pub outcome_layout : (place : ℕ) → region_layout regions ≡ Some place → dry_run_outcome regions m allowance ≡ refused_run m (BadLayout 0 place)

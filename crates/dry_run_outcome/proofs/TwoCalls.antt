@@ -1,6 +1,6 @@
 -- Two calls are one, unless the second is refused with 28: it starts where the first left off, and behind a last word there is none to start
 -- from. Assumes nothing.
-use Rattle.std.specs.Prelude.{ℕ, zero, suc, ◌+◌, ◌%◌, List, Bool, true, false, ◌&&◌, ◌≡◌, refl, eqb, None, Option, Some}
+use Rattle.std.specs.Prelude.{ℕ, zero, suc, ◌+◌, ◌%◌, List, Bool, true, false, ◌&&◌, ◌≡◌, refl, eqb, Err, None, Ok, Option, Some}
 use Rattle.std.proofs.Common.{add-zero, arith, sym, ap, subst, ◌∙◌, eq-eqb, eqb-true}
 use Rattle.std.proofs.lemmas.Bool.{false≢true}
 use Rattle.std.proofs.Math.Bool.{and-eq-true_iff}
@@ -16,15 +16,13 @@ use Rattle.machine.proofs.StepLaws.{HoldsZero}
 use Rattle.machine.specs.Fits.{Aligned}
 use Rattle.machine.proofs.FitsLaws.{word_aligned}
 use Rattle.dry_run_outcome.specs.declared.Ran.{Ran}
-use Rattle.dry_run_outcome.specs.declared.RunAnswer.{RunAnswer}
-use Rattle.dry_run_outcome.specs.declared.RunAnswer.TheVariants.{Stopped, Refused}
 use Rattle.dry_run_outcome.specs.declared.DryRun.{DryRun}
 use Rattle.dry_run_outcome.specs.Fetch.{fetch}
 use Rattle.dry_run_outcome.specs.Run.{step, ended, later, run, ran_for}
 use Rattle.dry_run_outcome.proofs.RunLaws.{run_stops, run_keeps}
 use Rattle.dry_run_outcome.proofs.Split.{go_on_by, run_split}
 use Rattle.dry_run_outcome.proofs.Zero.{set_held, run_zero, started_zero}
-use Rattle.dry_run_outcome.specs.DryRun.{is_word, can_start, started, dry_run_outcome}
+use Rattle.dry_run_outcome.specs.DryRun.{RunAnswer, is_word, can_start, started, stopped, dry_run_outcome}
 use Rattle.dry_run_outcome.proofs.DryRunLaws.{stopped_run, outcome_layout, outcome_start, outcome_run}
 use Rattle.dry_run_outcome.proofs.Call.{call_runs}
 
@@ -37,16 +35,19 @@ ends_for (suc b) = Pc
 
 -- the second call's steps are counted on; where it is refused, the run ends where it was to start
 abbrev pub counted_on : (steps b : ℕ) → RunAnswer → RunAnswer
-counted_on steps b (Stopped reason more) = Stopped reason (steps + more)
-counted_on steps b (Refused r) = Stopped (ends_for b) steps
+counted_on steps b (Ok s) = stopped s.reason (steps + s.steps)
+counted_on steps b (Err r) = stopped (ends_for b) steps
 
 -- a second call goes on only where the first stopped for the allowance
+abbrev pub joined_for : Reason → (steps b : ℕ) → (first second : DryRun) → DryRun
+joined_for Allowance steps b first second = record { machine = second.machine; answer = counted_on steps b second.answer }
+joined_for Pc steps b first second = first
+joined_for Word steps b first second = first
+joined_for Overflow steps b first second = first
+
 abbrev pub joined_by : RunAnswer → (b : ℕ) → (first second : DryRun) → DryRun
-joined_by (Stopped Allowance steps) b first second = record { machine = second.machine; answer = counted_on steps b second.answer }
-joined_by (Stopped Pc steps) b first second = first
-joined_by (Stopped Word steps) b first second = first
-joined_by (Stopped Overflow steps) b first second = first
-joined_by (Refused r) b first second = first
+joined_by (Ok s) b first second = joined_for s.reason s.steps b first second
+joined_by (Err r) b first second = first
 
 abbrev pub joined : (b : ℕ) → (first second : DryRun) → DryRun
 joined b first second = joined_by first.answer b first second
@@ -102,7 +103,7 @@ module _ (regions : List ℕ) (m : Machine) (a b : ℕ) where
         ∙ ap (λ (n : ℕ). stopped_run (ran_for n r.machine (ends_for b))) (add-zero r.steps)
         ∙ ap (λ (d : DryRun). record { machine = d.machine; answer = counted_on r.steps b d.answer }) (sym o)
 
-    by_reason : (reason : Reason) → stopped_run (go_on_by reason r (run b (image_of regions))) ≡ joined_by (Stopped reason r.steps) b (stopped_run r) behind
+    by_reason : (reason : Reason) → stopped_run (go_on_by reason r (run b (image_of regions))) ≡ joined_by (stopped reason r.steps) b (stopped_run r) behind
     by_reason Allowance = goes_on (can_start (image_of regions) r.machine.pc) refl
     by_reason Pc = refl
     by_reason Word = refl
@@ -126,20 +127,20 @@ module _ (regions : List ℕ) (m : Machine) (a b : ℕ) where
 
   -- ---- where the first stopped for the allowance
 
-  module _ (steps : ℕ) (stopped : first.answer ≡ Stopped Allowance steps) where
+  module _ (steps : ℕ) (ends : first.answer ≡ stopped Allowance steps) where
     -- two calls are one
-    pub one_of_two : (reason : Reason) (more : ℕ) → second.answer ≡ Stopped reason more
-        → dry_run_outcome regions m (a + b) ≡ (record { machine = second.machine; answer = Stopped reason (steps + more) })
+    pub one_of_two : (reason : Reason) (more : ℕ) → second.answer ≡ stopped reason more
+        → dry_run_outcome regions m (a + b) ≡ (record { machine = second.machine; answer = stopped reason (steps + more) })
     one_of_two reason more e =
-        two_calls ∙ ap (λ (x : RunAnswer). joined_by x b first second) stopped
+        two_calls ∙ ap (λ (x : RunAnswer). joined_by x b first second) ends
         ∙ ap (λ (x : RunAnswer). record { machine = second.machine; answer = counted_on steps b x }) e
 
     -- unless the second is refused, and 28 is all that it is refused with
-    pub only_28 : (q : Refusal) → second.answer ≡ Refused q → q ≡ BadStart
+    pub only_28 : (q : Refusal) → second.answer ≡ Err q → q ≡ BadStart
     only_28 q e = go (can_start (image_of regions) first.machine.pc) refl
       where
         good : region_layout regions ≡ None
-        good = (call_runs regions m a Allowance steps stopped).good
+        good = (call_runs regions m a Allowance steps ends).good
 
         go : (c : Bool) → can_start (image_of regions) first.machine.pc ≡ c → q ≡ BadStart
         go true k =

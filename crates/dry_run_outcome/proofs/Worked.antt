@@ -1,5 +1,5 @@
 -- The definition, computed: why a run stops or does not start, which word is read, and what is taken for $zero. Assumes nothing.
-use Rattle.std.specs.Prelude.{ℕ, ◌+◌, List, [], ◌∷◌, ◌++◌, ◌≡◌, refl, length, replicate}
+use Rattle.std.specs.Prelude.{ℕ, ◌+◌, List, [], ◌∷◌, ◌++◌, ◌≡◌, refl, length, replicate, Err}
 use Rattle.field.specs.Field.{get_field}
 use Rattle.record.specs.Records.{places, places_from, places_f, first_bad_of, within_limit}
 use Rattle.record.specs.Stores.{le16_bytes, le32_bytes}
@@ -12,12 +12,10 @@ use Rattle.machine.specs.declared.Reason.TheVariants.{Allowance, Pc, Word, Overf
 use Rattle.machine.specs.Instructions.{table, instruction_of}
 use Rattle.machine.specs.Effects.{effect_of}
 use Rattle.machine.specs.Step.{at, step_word}
-use Rattle.dry_run_outcome.specs.declared.RunAnswer.{RunAnswer}
-use Rattle.dry_run_outcome.specs.declared.RunAnswer.TheVariants.{Stopped, Refused}
 use Rattle.dry_run_outcome.specs.declared.DryRun.{DryRun}
 use Rattle.dry_run_outcome.specs.Fetch.{fetch}
 use Rattle.dry_run_outcome.specs.Run.{step, run}
-use Rattle.dry_run_outcome.specs.DryRun.{dry_run_outcome}
+use Rattle.dry_run_outcome.specs.DryRun.{RunAnswer, stopped, dry_run_outcome}
 
 -- a region record with those bytes
 abbrev pub region : ℕ → List ℕ → List ℕ
@@ -39,28 +37,28 @@ abbrev pub one : ℕ → DryRun
 one w = dry_run_outcome (region 0x00400000 (le32_bytes w)) (holding 7 1 0x7FFFFFFF 0x00400000) 2
 
 pub record Worked : Type 0 where
-  pub counts_down : dry_run_outcome loop (holding 0 2 0 0x00400000) 9 ≡ ends (holding 0 0 0 0x00400008) (Stopped Pc 4)
-  pub allowance_first : dry_run_outcome loop (holding 0 2 0 0x00400000) 4 ≡ ends (holding 0 0 0 0x00400008) (Stopped Allowance 4)
+  pub counts_down : dry_run_outcome loop (holding 0 2 0 0x00400000) 9 ≡ ends (holding 0 0 0 0x00400008) (stopped Pc 4)
+  pub allowance_first : dry_run_outcome loop (holding 0 2 0 0x00400000) 4 ≡ ends (holding 0 0 0 0x00400008) (stopped Allowance 4)
   -- add $at,$at,$at, and then there is no word; add $at,$at,$v0; lui $at,1 with 1 in rs; sll $at,$at,1; sltu with function 41
-  pub adds : one 0x00210820 ≡ ends (holding 0 2 0x7FFFFFFF 0x00400004) (Stopped Pc 1)
-  pub overflows : one 0x00220820 ≡ ends (holding 0 1 0x7FFFFFFF 0x00400000) (Stopped Overflow 0)
-  pub no_lui : one 0x3C210001 ≡ ends (holding 0 1 0x7FFFFFFF 0x00400000) (Stopped Word 0)
-  pub no_sll : one 0x00010840 ≡ ends (holding 0 1 0x7FFFFFFF 0x00400000) (Stopped Word 0)
-  pub no_sltu : one 0x00220829 ≡ ends (holding 0 1 0x7FFFFFFF 0x00400000) (Stopped Word 0)
+  pub adds : one 0x00210820 ≡ ends (holding 0 2 0x7FFFFFFF 0x00400004) (stopped Pc 1)
+  pub overflows : one 0x00220820 ≡ ends (holding 0 1 0x7FFFFFFF 0x00400000) (stopped Overflow 0)
+  pub no_lui : one 0x3C210001 ≡ ends (holding 0 1 0x7FFFFFFF 0x00400000) (stopped Word 0)
+  pub no_sll : one 0x00010840 ≡ ends (holding 0 1 0x7FFFFFFF 0x00400000) (stopped Word 0)
+  pub no_sltu : one 0x00220829 ≡ ends (holding 0 1 0x7FFFFFFF 0x00400000) (stopped Word 0)
   -- the one call of nine steps made as two, of four and of five: the second is refused
-  pub second_refused : dry_run_outcome loop (holding 0 0 0 0x00400008) 5 ≡ ends (holding 0 0 0 0x00400008) (Refused BadStart)
+  pub second_refused : dry_run_outcome loop (holding 0 0 0 0x00400008) 5 ≡ ends (holding 0 0 0 0x00400008) (Err BadStart)
   -- refused with allowance 0 too, and $zero is left as it was
-  pub odd_start : dry_run_outcome loop (holding 7 2 0 0x00400002) 0 ≡ ends (holding 7 2 0 0x00400002) (Refused BadStart)
-  pub no_word : dry_run_outcome loop (holding 7 2 0 0x00400008) 0 ≡ ends (holding 7 2 0 0x00400008) (Refused BadStart)
-  pub no_regions : dry_run_outcome [] (holding 7 2 0 0x00400002) 9 ≡ ends (holding 7 2 0 0x00400002) (Refused (BadLayout 0 0))
+  pub odd_start : dry_run_outcome loop (holding 7 2 0 0x00400002) 0 ≡ ends (holding 7 2 0 0x00400002) (Err BadStart)
+  pub no_word : dry_run_outcome loop (holding 7 2 0 0x00400008) 0 ≡ ends (holding 7 2 0 0x00400008) (Err BadStart)
+  pub no_regions : dry_run_outcome [] (holding 7 2 0 0x00400002) 9 ≡ ends (holding 7 2 0 0x00400002) (Err (BadLayout 0 0))
   -- two regions with a word at one pc, and two of which the first has only a part of it
   pub lowest : dry_run_outcome (region 0x00400000 (le32_bytes 0x24010005) ++ region 0x00400000 (le32_bytes 0x24010006)) (holding 0 0 0 0x00400000) 1
-      ≡ ends (holding 0 5 0 0x00400004) (Stopped Allowance 1)
+      ≡ ends (holding 0 5 0 0x00400004) (stopped Allowance 1)
   pub lowest_whole : dry_run_outcome (region 0x00400000 (5 ∷ 0 ∷ 1 ∷ []) ++ region 0x00400000 (le32_bytes 0x24010006)) (holding 0 0 0 0x00400000) 1
-      ≡ ends (holding 0 6 0 0x00400004) (Stopped Allowance 1)
+      ≡ ends (holding 0 6 0 0x00400004) (stopped Allowance 1)
   -- a region that starts between two words, and one that goes round from the last address to the first
-  pub between : dry_run_outcome (region 0x003FFFFE (0 ∷ 0 ∷ le32_bytes 0x24010005)) (holding 0 0 0 0x00400000) 1 ≡ ends (holding 0 5 0 0x00400004) (Stopped Allowance 1)
-  pub round : dry_run_outcome (region 0xFFFFFFFC (le32_bytes 0 ++ le32_bytes 0x24010005)) (holding 0 0 0 0xFFFFFFFC) 2 ≡ ends (holding 0 5 0 0x00000004) (Stopped Allowance 2)
+  pub between : dry_run_outcome (region 0x003FFFFE (0 ∷ 0 ∷ le32_bytes 0x24010005)) (holding 0 0 0 0x00400000) 1 ≡ ends (holding 0 5 0 0x00400004) (stopped Allowance 1)
+  pub round : dry_run_outcome (region 0xFFFFFFFC (le32_bytes 0 ++ le32_bytes 0x24010005)) (holding 0 0 0 0xFFFFFFFC) 2 ≡ ends (holding 0 5 0 0x00000004) (stopped Allowance 2)
 
 pub worked : Worked
 unfolding dry_run_outcome region_layout region_records region_ok places places_from places_f first_bad_of within_limit image_of fetch run step step_word instruction_of table effect_of read_register write_register signed16 get_field

@@ -1,5 +1,5 @@
 -- A whole dry run: its answer and its state, from the region list, the registers, the pc and the allowance (document 02, P10). Assumes nothing.
-use Rattle.std.specs.Prelude.{ℕ, ◌%◌, List, Bool, true, false, ◌&&◌, cond, eqb, set, Err, None, Ok, Option, Some}
+use Rattle.std.specs.Prelude.{ℕ, ◌%◌, List, Bool, true, false, ◌&&◌, cond, eqb, set, Err, None, Ok, Option, Some, Result}
 use Rattle.refusal.specs.Verdicts.{and_then, layout_verdict, Verdict}
 use Rattle.refusal.specs.declared.Refusal.TheVariants.{BadStart}
 use Rattle.regions.specs.Regions.{region_layout}
@@ -7,7 +7,8 @@ use Rattle.reading.specs.Reading.{Image, image_of}
 use Rattle.machine.specs.declared.Machine.{Machine}
 use Rattle.machine.specs.Step.{at}
 use Rattle.dry_run_outcome.specs.declared.Ran.{Ran}
-use Rattle.dry_run_outcome.specs.declared.RunAnswer.TheVariants.{Stopped, Refused}
+use Rattle.machine.specs.declared.Reason.{Reason}
+use Rattle.dry_run_outcome.specs.declared.Stopped.{Stopped}
 use Rattle.dry_run_outcome.specs.declared.DryRun.{DryRun}
 use Rattle.dry_run_outcome.specs.Fetch.{fetch}
 use Rattle.dry_run_outcome.specs.Run.{run}
@@ -35,14 +36,20 @@ dry_run_verdict regions pc = and_then (layout_verdict 0 (region_layout regions))
 abbrev pub started : Machine → Machine
 started m = at m.pc (set m.registers 0 0)
 
+abbrev pub RunAnswer : Type 0
+RunAnswer = Result Stopped Refusal
+
+abbrev pub stopped : Reason → (steps : ℕ) → RunAnswer
+stopped reason steps = Ok (record { reason = reason; steps = steps })
+
 -- "It returns state, reason and the number of steps taken"
 abbrev pub outcome_by : Verdict → Machine → Ran → DryRun
-outcome_by (Ok tt) m r = record { machine = r.machine; answer = Stopped r.reason r.steps }
-outcome_by (Err refusal) m r = record { machine = m; answer = Refused refusal }
+outcome_by (Ok tt) m r = record { machine = r.machine; answer = stopped r.reason r.steps }
+outcome_by (Err refusal) m r = record { machine = m; answer = Err refusal }
 
 unfoldable pub dry_run_outcome : (regions : List ℕ) → Machine → (allowance : ℕ) → DryRun
 unfolding region_layout image_of fetch run
 dry_run_outcome regions m allowance = outcome_by (dry_run_verdict regions m.pc) m (run allowance (image_of regions) (started m))
 
 abbrev pub refused_run : Machine → Refusal → DryRun
-refused_run m refusal = record { machine = m; answer = Refused refusal }
+refused_run m refusal = record { machine = m; answer = Err refusal }

@@ -12,12 +12,15 @@ pub struct Ran {
     pub steps: u32,
 }
 
-// A dry run's answer: why it stopped and after how many steps, or why it does not start.
+// Why a run stopped, and after how many steps.
 #[derive(Clone, Copy)]
-pub enum RunAnswer {
-    Stopped(Reason, u32),
-    Refused(Refusal),
+pub struct Stopped {
+    pub reason: Reason,
+    pub steps: u32,
 }
+
+// A dry run's answer: how it stopped, or why it does not start.
+pub type RunAnswer = Result<Stopped, Refusal>;
 
 // The answer, and the state: of a refused run the one that was given.
 #[derive(Clone, Copy)]

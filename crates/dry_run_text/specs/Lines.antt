@@ -1,15 +1,13 @@
 -- What `dry_run` prints (document 02, P10): the state, the reason and the number of steps of a run, in the lines that docs/DECISIONS.md gives.
 -- Assumes nothing.
-use Rattle.std.specs.Prelude.{ℕ, List, [], ◌∷◌, ◌++◌}
+use Rattle.std.specs.Prelude.{ℕ, List, [], ◌∷◌, ◌++◌, Err, Ok}
 use Rattle.io.specs.Digits.{last_digits}
 use Rattle.pseudo_names.specs.PseudoNames.{bytes_of}
 use Rattle.refusal.specs.Numbers.{numbered}
 use Rattle.machine.specs.declared.Machine.{Machine}
 use Rattle.machine.specs.declared.Reason.{Reason}
 use Rattle.machine.specs.declared.Reason.TheVariants.{Allowance, Pc, Word, Overflow}
-use Rattle.dry_run_outcome.specs.declared.RunAnswer.{RunAnswer}
-use Rattle.dry_run_outcome.specs.declared.RunAnswer.TheVariants.{Stopped, Refused}
-use Rattle.dry_run_outcome.specs.DryRun.{dry_run_outcome}
+use Rattle.dry_run_outcome.specs.DryRun.{RunAnswer, dry_run_outcome}
 use Rattle.input.specs.Input.{list_of, behind_lists, word_or_zero}
 use Rattle.text.specs.Text.{last_field, refused_line}
 use Rattle.register_bytes.specs.RegisterBytes.{registers_in}
@@ -49,8 +47,8 @@ run_text reason steps m = reason_line reason ++ steps_line steps ++ pc_line m.pc
 
 -- a refusal is printed alone
 abbrev pub outcome_text : RunAnswer → Machine → List ℕ
-outcome_text (Stopped reason steps) m = run_text reason steps m
-outcome_text (Refused r) m = refused_line (numbered r)
+outcome_text (Ok s) m = run_text s.reason s.steps m
+outcome_text (Err r) m = refused_line (numbered r)
 
 -- an input is the region list, behind it the 32 registers, the pc and the allowance, four bytes each
 abbrev pub machine_in : List ℕ → Machine

@@ -1,56 +1,58 @@
-// The lines of a dry run. Each function answers where its line ends.
-ghost use Rattle.std.specs.Prelude.{◌+◌, ◌≤◌, length};
-ghost use Rattle.text.specs.Text.{Put};
+// The lines of a dry run.
+ghost use Rattle.std.specs.Prelude.{◌≡◌, ◌++◌, ◌+◌, ◌≤◌, length};
 ghost use Rattle.dry_run_text.specs.Lines.{reason_line, hex_field, hex_fields, pc_line, registers_line};
 
 use machine::Reason;
+use text::{MOST, Printed};
 
-pub(crate) fn put_reason(out: &mut [u8], at: usize, reason: Reason) -> usize
-    requires { at + length (reason_line reason) ≤ length out.old }
-    ensures { Put out.old at (reason_line reason) out.new result }
+#[tactic(auto, unfolding(crate::specs::Lines::reason_line))]
+pub(crate) fn put_reason(out: &mut Printed, reason: Reason)
+    requires { length out.old + length (reason_line reason) ≤ MOST }
+    ensures { out.new ≡ out.old ++ reason_line reason }
 {
     match reason {
-        Reason::Allowance => text::put_text(out, at, b"reason allowance\n"),
-        Reason::Pc => text::put_text(out, at, b"reason pc\n"),
-        Reason::Word => text::put_text(out, at, b"reason word\n"),
-        Reason::Overflow => text::put_text(out, at, b"reason overflow\n"),
+        Reason::Allowance => out.push(b"reason allowance\n"),
+        Reason::Pc => out.push(b"reason pc\n"),
+        Reason::Word => out.push(b"reason word\n"),
+        Reason::Overflow => out.push(b"reason overflow\n"),
     }
 }
 
 // A blank and eight digits.
-fn put_hex_field(out: &mut [u8], at: usize, n: u32) -> usize
-    requires { at + length (hex_field n) ≤ length out.old }
-    ensures { Put out.old at (hex_field n) out.new result }
+fn put_hex_field(out: &mut Printed, n: u32)
+    requires { length out.old + length (hex_field n) ≤ MOST }
+    ensures { out.new ≡ out.old ++ hex_field n }
 {
-    let digits_at = text::put_byte(&mut *out, at, b' ');
-    text::put_hex(out, digits_at, n, 8)
+    out.push_byte(b' ');
+    out.push_hex(n, 8);
 }
 
-fn put_hex_fields(out: &mut [u8], at: usize, numbers: &[u32]) -> usize
-    requires { at + length (hex_fields numbers.now) ≤ length out.old }
-    ensures { Put out.old at (hex_fields numbers.now) out.new result }
+#[tactic(auto, using(crate::proofs::LinesLaws::fields_next, crate::proofs::LinesLaws::fields_end, std::proofs::lemmas::Grind::common_steps))]
+fn put_hex_fields(out: &mut Printed, numbers: &[u32])
+    requires { length out.old + length (hex_fields numbers.now) ≤ MOST }
+    ensures { out.new ≡ out.old ++ hex_fields numbers.now }
 {
-    let mut end = at;
     for &number in numbers {
-        end = put_hex_field(&mut *out, end, number);
+        put_hex_field(&mut *out, number);
     }
-    end
 }
 
-pub(crate) fn put_pc(out: &mut [u8], at: usize, pc: u32) -> usize
-    requires { at + length (pc_line pc) ≤ length out.old }
-    ensures { Put out.old at (pc_line pc) out.new result }
+#[tactic(auto, using(crate::proofs::LinesLaws::pc_length, std::proofs::lemmas::Grind::common_steps), unfolding(crate::specs::Lines::pc_line))]
+pub(crate) fn put_pc(out: &mut Printed, pc: u32)
+    requires { length out.old + length (pc_line pc) ≤ MOST }
+    ensures { out.new ≡ out.old ++ pc_line pc }
 {
-    let number_at = text::put_text(&mut *out, at, b"pc");
-    let end = put_hex_field(&mut *out, number_at, pc);
-    text::put_byte(out, end, b'\n')
+    out.push(b"pc");
+    put_hex_field(&mut *out, pc);
+    out.push_byte(b'\n');
 }
 
-pub(crate) fn put_registers(out: &mut [u8], at: usize, registers: &[u32]) -> usize
-    requires { at + length (registers_line registers.now) ≤ length out.old }
-    ensures { Put out.old at (registers_line registers.now) out.new result }
+#[tactic(auto, using(crate::proofs::LinesLaws::registers_length, crate::proofs::LinesLaws::fields_length, std::proofs::lemmas::Grind::common_steps), unfolding(crate::specs::Lines::registers_line))]
+pub(crate) fn put_registers(out: &mut Printed, registers: &[u32])
+    requires { length out.old + length (registers_line registers.now) ≤ MOST }
+    ensures { out.new ≡ out.old ++ registers_line registers.now }
 {
-    let numbers_at = text::put_text(&mut *out, at, b"registers");
-    let end = put_hex_fields(&mut *out, numbers_at, registers);
-    text::put_byte(out, end, b'\n')
+    out.push(b"registers");
+    put_hex_fields(&mut *out, registers);
+    out.push_byte(b'\n');
 }

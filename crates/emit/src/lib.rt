@@ -4,7 +4,7 @@
 ghost use Rattle.emit_outcome.specs.Call.{lent_of, call_of};
 ghost use Rattle.emit_outcome.specs.Contract.{EmittedBy, EmittedIs};
 
-use emit_outcome::{EmitAnswer, FillCounts, LinePlace};
+use emit_outcome::{EmitAnswer, FillCounts, LinePlace, Lists};
 use jobs::Job;
 
 // "three fill counts, which the emitter updates in the caller's record"
@@ -22,12 +22,15 @@ pub fn do_instruction(
         (lent_of «data».old pending.old breakpoints.old) counts.old place)
         result counts.new (lent_of «data».new pending.new breakpoints.new) }
 {
-    let out = emit_core::do_job(
-        Job::Commit,
-        *counts,
+    let lists = Lists {
         tokens,
         mnemonic,
         descriptors,
+    };
+    let out = emit_core::do_job(
+        Job::Commit,
+        *counts,
+        lists,
         data,
         pending,
         breakpoints,
@@ -53,17 +56,12 @@ pub fn do_job(
         (lent_of «data».old pending.old breakpoints.old) counts.old place) result counts.new
         (lent_of «data».new pending.new breakpoints.new) }
 {
-    let emitted = emit_core::do_job(
-        job,
-        *counts,
+    let lists = Lists {
         tokens,
         mnemonic,
         descriptors,
-        data,
-        pending,
-        breakpoints,
-        place,
-    );
+    };
+    let emitted = emit_core::do_job(job, *counts, lists, data, pending, breakpoints, place);
     *counts = emitted.counts;
     emitted.answer
 }

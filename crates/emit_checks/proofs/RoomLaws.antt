@@ -12,8 +12,7 @@ use Rattle.refusal.specs.Verdicts.{and_then, Verdict}
 use Rattle.refusal.proofs.VerdictsLaws.{both_pass}
 use Rattle.refusal.specs.declared.Refusal.TheVariants.{MissingRegion, OverwriteEdge}
 use Rattle.emit_pairs.specs.declared.InstructionPair.{InstructionPair}
-use Rattle.emit_dispatch.specs.declared.LineAnswer.{LineAnswer}
-use Rattle.emit_dispatch.specs.declared.LineAnswer.TheVariants.{Made, Missed, OutOfRange}
+use Rattle.emit_dispatch.specs.LineAnswers.{LineAnswer, Made, Missed, OutOfRange}
 use Rattle.emit_dispatch.specs.Lines.{Line}
 use Rattle.emit_bytes.specs.Appended.{pendings_len}
 use Rattle.emit_bytes.proofs.AppendedLaws.{pendings_length}

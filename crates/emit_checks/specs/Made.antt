@@ -1,5 +1,5 @@
 -- What the steps of an emit call know of the lists that passed, and of the line that was made. Assumes nothing.
-use Rattle.std.specs.Prelude.{ℕ, ◌+◌, ◌*◌, ◌^◌, ◌≤◌, ◌<◌, ◌≡◌, List, length, take, None}
+use Rattle.std.specs.Prelude.{ℕ, ◌+◌, ◌*◌, ◌^◌, ◌≤◌, ◌<◌, ◌≡◌, List, [], length, take, None, Result, Ok, Err}
 use Rattle.lexer.specs.Tokens.{token_layout}
 use Rattle.descriptors.specs.Mnemonics.{mnemonic_layout}
 use Rattle.descriptors.specs.Descriptors.{descriptor_layout}
@@ -7,10 +7,18 @@ use Rattle.cursor.specs.Reads.{Placed}
 use Rattle.emit_pairs.specs.declared.EmitInstruction.{EmitInstruction}
 use Rattle.emit_pairs.specs.declared.InstructionPair.{InstructionPair}
 use Rattle.emit_dispatch.specs.declared.LineEmit.{LineEmit}
+use Rattle.emit_dispatch.specs.declared.Unmade.{Unmade}
+use Rattle.emit_dispatch.specs.LineAnswers.{Made, unmade_answer}
 use Rattle.emit_dispatch.specs.Lines.{Line}
+use Rattle.loading.specs.declared.LoadForm.TheVariants.{Nothing as Unloaded}
+use Rattle.refusal.specs.declared.Refusal.{Refusal}
+use Rattle.refusal.specs.Verdicts.{Verdict}
+use Rattle.emit_outcome.specs.declared.Appended.{Appended}
+use Rattle.emit_outcome.specs.declared.Emitted.{Emitted}
+use Rattle.emit_outcome.specs.declared.RefusedLine.{RefusedLine}
 use Rattle.emit_outcome.specs.declared.FillCounts.{FillCounts}
 use Rattle.emit_outcome.specs.declared.LineNumbers.{LineNumbers}
-use Rattle.emit_outcome.specs.Call.{Lent}
+use Rattle.emit_outcome.specs.Call.{Lent, EmitOutcome, outcome_of}
 
 -- lengths and fill counts of buffers that keep their layouts
 pub record Filled (token_list : List ℕ) (lent : Lent) (counts : FillCounts) : Type 0 where
@@ -33,14 +41,44 @@ pub record ListsGood (token_list mnemonic descriptors : List ℕ) (lent : Lent) 
 abbrev pub pairs_of : EmitInstruction → List InstructionPair
 pairs_of e = take e.count e.instructions
 
+-- the line that has these words, with the index behind it
+abbrev pub words_line : EmitInstruction → (index : ℕ) → Line
+words_line words index = record { answer = Made; pairs = pairs_of words; form = words.loaded; index = index }
+
+abbrev pub answer_line : Result EmitInstruction Unmade → (index : ℕ) → Line
+answer_line (Ok words) index = words_line words index
+answer_line (Err unmade) index = record { answer = unmade_answer unmade; pairs = []; form = Unloaded; index = index }
+
 -- the line that the code holds: its answer, its words, its form and the index behind it
 abbrev pub made_line : LineEmit → Line
-made_line made = record { answer = made.answer; pairs = pairs_of made.emit; form = made.emit.loaded; index = made.cursor.index }
+made_line made = answer_line made.answer made.cursor.index
+
+abbrev pub Counted : Result EmitInstruction Unmade → Type 0
+Counted (Ok words) = words.count ≤ 5
+Counted (Err unmade) = Unit {0}
 
 -- no more words count than there are, and the position behind them stands in the token list
 pub record MadeGood (token_list : List ℕ) (made : LineEmit) : Type 0 where
-  pub counted : made.emit.count ≤ 5
+  pub counted : Counted made.answer
   pub placed : Placed token_list made.cursor
+
+-- what the checks of a line give: its words, or the refusal at which they stop
+abbrev pub PassedBy : Verdict → LineEmit → Result EmitInstruction Refusal → Type 0
+PassedBy stop made (Ok words) = (stop ≡ Ok tt) × (made.answer ≡ Ok words)
+PassedBy stop made (Err refusal) = stop ≡ Err refusal
+
+-- what a check gives, a refusal with the position at which reading stands then
+abbrev pub stopped_at : {A : Type 0} → (position : ℕ) → Result A Refusal → Result A RefusedLine
+stopped_at position (Ok x) = Ok x
+stopped_at position (Err r) = Err (record { refusal = r; position = position })
+
+-- what a call answers that gives this, and what it leaves: a refusal leaves the counts
+abbrev pub emitted_by : FillCounts → Result Appended RefusedLine → Emitted
+emitted_by counts (Ok appended) = record { answer = Ok appended.done; counts = appended.counts }
+emitted_by counts (Err refused) = record { answer = Err refused; counts = counts }
+
+abbrev pub left_by : FillCounts → Result Appended RefusedLine → Lent → EmitOutcome
+left_by counts given lent = let e = emitted_by counts given in outcome_of e.answer e.counts lent
 
 -- the room that n words and `size` bytes of pending records have
 pub record RoomFor (numbers : LineNumbers) (lent : Lent) (n size : ℕ) : Type 0 where

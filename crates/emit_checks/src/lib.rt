@@ -6,32 +6,38 @@ ghost use Rattle.emit_outcome.specs.Call.{lent_of};
 ghost use Rattle.emit_outcome.specs.Checks.{layout_stop, list_stop, met_location, miss_refusal};
 ghost use Rattle.emit_outcome.specs.Room.{edge_stop, room_stop};
 ghost use Rattle.emit_outcome.specs.Emit.{fault_refusal, line_stop};
-ghost use Rattle.emit_checks.specs.Made.{pairs_of, made_line, Filled, MadeGood};
+ghost use Rattle.emit_checks.specs.Made.{pairs_of, made_line, Filled, MadeGood, PassedBy, stopped_at};
 
-use emit_dispatch::{LineAnswer, LineEmit};
-use emit_outcome::{FillCounts, LineNumbers};
+use descriptors::Descriptors;
+use emit_dispatch::{LineEmit, Unmade};
+use emit_outcome::{FillCounts, LineNumbers, Lists, RefusedLine};
 use emit_pairs::{EmitInstruction, Fault};
 use operand::Miss;
 use record::Location;
 use refusal::Refusal;
 
+// What a check gives, a refusal with the position at which reading stands then.
+pub fn at_position<T>(position: u32, given: Result<T, Refusal>) -> Result<T, RefusedLine>
+    ensures { result ≡ stopped_at position given }
+{
+    given.map_err(|refusal| RefusedLine { refusal, position })
+}
+
 // Refusal 1: the first list or buffer that breaks its layout.
 pub fn check_layouts(
-    tokens: &[u8],
-    mnemonic: &[u8],
-    descriptors: &[u8],
+    lists: Lists<'_>,
     data: &[u8],
     pending: &[u8],
     breakpoints: &[u8],
     region: u16,
     counts: FillCounts,
 ) -> Result<(), Refusal>
-    ensures { result ≡ layout_stop tokens.now mnemonic.now descriptors.now
+    ensures { result ≡ layout_stop lists.entry.tokens.now lists.entry.mnemonic.now lists.entry.descriptors.now
         (lent_of «data».now pending.now breakpoints.now) region counts }
 {
-    refusal::check_layout(0, lexer::first_bad_token(tokens))?;
-    refusal::check_layout(1, descriptors::first_bad_mnemonic(mnemonic))?;
-    refusal::check_layout(2, descriptors::first_bad_descriptor(descriptors))?;
+    refusal::check_layout(0, lexer::first_bad_token(lists.tokens))?;
+    refusal::check_layout(1, descriptors::first_bad_mnemonic(lists.mnemonic))?;
+    refusal::check_layout(2, descriptors::first_bad_descriptor(lists.descriptors))?;
     let bytes = counts.data_len as usize;
     refusal::check_layout(3, breakpoints::check_data_buffer(data, bytes, region))?;
     let kept = counts.pending as usize;
@@ -42,29 +48,18 @@ pub fn check_layouts(
 
 // Refusals 1 and 2.
 pub fn check_lists(
-    tokens: &[u8],
-    mnemonic: &[u8],
-    descriptors: &[u8],
+    lists: Lists<'_>,
     data: &[u8],
     pending: &[u8],
     breakpoints: &[u8],
     region: u16,
     counts: FillCounts,
 ) -> Result<(), Refusal>
-    ensures { result ≡ list_stop tokens.now mnemonic.now descriptors.now
+    ensures { result ≡ list_stop lists.entry.tokens.now lists.entry.mnemonic.now lists.entry.descriptors.now
         (lent_of «data».now pending.now breakpoints.now) region counts }
 {
-    check_layouts(
-        tokens,
-        mnemonic,
-        descriptors,
-        data,
-        pending,
-        breakpoints,
-        region,
-        counts,
-    )?;
-    refusal::check_names(2, descriptors::first_repeat(descriptors))
+    check_layouts(lists, data, pending, breakpoints, region, counts)?;
+    refusal::check_names(2, Descriptors::new(lists.descriptors).first_repeat())
 }
 
 // The refusal of an operand that was missed, on a line whose mnemonic stands at `line`.
@@ -163,7 +158,7 @@ fn check_room(
     Ok(())
 }
 
-// Refusals 4 to 12, 19, 20 and 27 of a line whose mnemonic stands at `line`.
+// Refusals 4 to 12, 19, 20 and 27 of a line whose mnemonic stands at `line`, or its words.
 pub fn check_line(
     tokens: &[u8],
     data: &[u8],
@@ -172,22 +167,17 @@ pub fn check_line(
     numbers: LineNumbers,
     line: Location,
     made: LineEmit,
-) -> Result<(), Refusal>
+) -> Result<EmitInstruction, Refusal>
     requires { Filled tokens.now (lent_of «data».now pending.now breakpoints.now) numbers.counts × MadeGood tokens.now made }
-    ensures { result ≡ line_stop tokens.now line numbers
-        (lent_of «data».now pending.now breakpoints.now) (made_line made) }
+    ensures { PassedBy (line_stop tokens.now line numbers
+        (lent_of «data».now pending.now breakpoints.now) (made_line made)) made result }
 {
     match made.answer {
-        LineAnswer::Missed(miss) => Err(miss_refusal(line, miss)),
-        LineAnswer::OutOfRange(fault) => Err(fault_refusal(line, fault)),
-        LineAnswer::Made => check_room(
-            tokens,
-            data,
-            pending,
-            breakpoints,
-            numbers,
-            line,
-            made.emit,
-        ),
+        Err(Unmade::Missed(miss)) => Err(miss_refusal(line, miss)),
+        Err(Unmade::OutOfRange(fault)) => Err(fault_refusal(line, fault)),
+        Ok(words) => {
+            check_room(tokens, data, pending, breakpoints, numbers, line, words)?;
+            Ok(words)
+        }
     }
 }

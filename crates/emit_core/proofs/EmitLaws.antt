@@ -1,5 +1,5 @@
 -- Laws of an emit call: its outcome by what the lists and the mnemonic are. Assumes nothing.
-use Rattle.std.specs.Prelude.{ℕ, ◌+◌, ◌≤◌, ◌≡◌, refl, List, length, Bool, true, false, Err, None, Ok, Option, Some}
+use Rattle.std.specs.Prelude.{ℕ, ◌+◌, ◌≤◌, ◌≡◌, refl, List, length, Bool, true, false, Err, None, Ok, Option, Result, Some}
 use Rattle.std.proofs.Common.{arith, sym, subst, ◌∙◌, length-take}
 use Rattle.std.proofs.Math.Path.{ap}
 use Rattle.jobs.specs.declared.Job.{Job}
@@ -9,27 +9,31 @@ use Rattle.refusal.specs.declared.Refusal.TheVariants.{UnknownInstruction}
 use Rattle.descriptors.specs.declared.Instruction.{Instruction}
 use Rattle.lexer.specs.declared.Token.{Token}
 use Rattle.cursor.specs.declared.Cursor.{Cursor}
-use Rattle.descriptors.specs.Mnemonics.{mnemonic_name}
+use Rattle.descriptors.specs.Mnemonics.{mnemonic_name, mnemonic_location}
 use Rattle.descriptors.specs.Descriptors.{descriptor_layout, find_descriptor, instruction_at}
 use Rattle.descriptors.proofs.DescriptorsLaws.{descriptor_found}
 use Rattle.pseudo_names.specs.PseudoNames.{pseudo_of}
 use Rattle.emit_pairs.specs.declared.EmitInstruction.{EmitInstruction}
-use Rattle.emit_dispatch.specs.declared.LineAnswer.{LineAnswer}
+use Rattle.emit_dispatch.specs.declared.Unmade.{Unmade}
+use Rattle.emit_dispatch.specs.declared.Unmade.TheVariants.{Missed as MissedOperand, OutOfRange as OutsideRange}
+use Rattle.emit_dispatch.specs.LineAnswers.{unmade_answer}
 use Rattle.emit_dispatch.specs.declared.LineEmit.{LineEmit}
 use Rattle.emit_dispatch.specs.Lines.{Line, encoding_line}
-use Rattle.emit_dispatch.specs.Contract.{LineAs}
+use Rattle.emit_dispatch.specs.Contract.{MadeAs, LineAs}
 use Rattle.emit_outcome.specs.declared.Meaning.{Meaning}
 use Rattle.emit_outcome.specs.declared.Meaning.TheVariants.{Table, Builtin, Neither}
 use Rattle.emit_outcome.specs.Dispatch.{meaning, or_neither, or_pseudo, table_line}
-use Rattle.emit_outcome.specs.declared.EmitAnswer.{EmitAnswer}
+use Rattle.loading.specs.declared.LoadForm.{LoadForm}
+use Rattle.emit_outcome.specs.Answer.{EmitAnswer, done_at}
 use Rattle.emit_outcome.specs.declared.FillCounts.{FillCounts}
+use Rattle.emit_outcome.specs.declared.LineNumbers.{LineNumbers}
 use Rattle.emit_outcome.specs.Call.{Lent, Call, EmitOutcome, outcome_of}
 use Rattle.emit_outcome.specs.Returned.{returned}
 use Rattle.emit_outcome.specs.Contract.{EmittedBy}
 use Rattle.emit_outcome.specs.Checks.{list_stop}
 use Rattle.emit_outcome.specs.Emit.{call_line, call_refused, line_outcome, list_outcome, meaning_outcome, emit_outcome}
-use Rattle.emit_checks.specs.Made.{made_line, MadeGood}
-use Rattle.emit_core.specs.Read.{LineFor, ReadIs}
+use Rattle.emit_checks.specs.Made.{words_line, answer_line, made_line, Counted, MadeGood}
+use Rattle.emit_core.specs.Read.{LineMade, LineFor, ReadIs}
 use Rattle.pseudo_names.specs.declared.Pseudo.{Pseudo}
 use Rattle.refusal.specs.Verdicts.{Verdict}
 
@@ -58,24 +62,54 @@ module _ (descriptors name : List ℕ) where
           none None h = let z : ◌≡◌ {A = ℕ} 0 1 = cc (by_pseudo f h) in absurd (omega arith)
 
 -- the line of a descriptor that was read
-pub table_as : (job : Job) (descriptors : List ℕ) (p : ℕ) {x : Instruction} {s : List ℕ} (ts : List Token) (i : ℕ) {answer : LineAnswer} {emit : EmitInstruction} {cursor : Cursor}
-    → x ≡ instruction_at descriptors p → LineAs s (encoding_line job x.encoding x.opcode ts i) answer emit cursor → LineAs s (table_line job descriptors p ts i) answer emit cursor
+pub table_as : (job : Job) (descriptors : List ℕ) (p : ℕ) {x : Instruction} {s : List ℕ} (ts : List Token) (i : ℕ) {answer : Result EmitInstruction Unmade} {cursor : Cursor}
+    → x ≡ instruction_at descriptors p → LineAs s (encoding_line job x.encoding x.opcode ts i) answer cursor → LineAs s (table_line job descriptors p ts i) answer cursor
 unfolding table_line
-table_as job descriptors p {x} {s} ts i {answer} {emit} {cursor} e a =
+table_as job descriptors p {x} {s} ts i {answer} {cursor} e a =
     let f : encoding_line job x.encoding x.opcode ts i ≡ table_line job descriptors p ts i = ap (λ (y : Instruction). encoding_line job y.encoding y.opcode ts i) e in
-    subst (λ (l : Line). LineAs s l answer emit cursor) f a
+    subst (λ (l : Line). LineAs s l answer cursor) f a
 
 -- ---- a made line
 
 -- a line is what was made of it
-pub line_made : {s : List ℕ} {line : Line} {made : LineEmit} → LineAs s line made.answer made.emit made.cursor → line ≡ made_line made
-line_made a = rw (a.answer_is, a.words_are.pairs_are, a.words_are.form_is, a.cursor_is)
+pub line_made : {s : List ℕ} {line : Line} {made : LineEmit} → LineAs s line made.answer made.cursor → LineMade line made
+line_made a = (a.made_as, sym (ap (λ (x : Cursor). x.index) a.cursor_is))
 
-pub made_good : {s : List ℕ} {line : Line} {made : LineEmit} → LineAs s line made.answer made.emit made.cursor → length made.emit.instructions ≡ 5 → MadeGood s made
+counted_of : (line : Line) (answer : Result EmitInstruction Unmade) → ((e : EmitInstruction) → answer ≡ Ok e → length e.instructions ≡ 5) → MadeAs line answer → Counted answer
+counted_of line (Ok e) five m = omega (arith, five e refl, m.1.count_is, ap length m.1.pairs_are, length-take e.count e.instructions)
+counted_of line (Err unmade) five m = tt
+
+pub made_good : {s : List ℕ} {line : Line} {made : LineEmit} → LineAs s line made.answer made.cursor → ((e : EmitInstruction) → made.answer ≡ Ok e → length e.instructions ≡ 5) → MadeGood s made
 made_good {s} {line} {made} a five = record {
-  counted = omega (arith, a.words_are.count_is, ap length a.words_are.pairs_are, length-take made.emit.count made.emit.instructions);
+  counted = counted_of line made.answer five a.made_as;
   placed = a.placed;
 }
+
+-- the outcome is that of the line; the words of one that is not made are no part of it
+module _ (token_list : List ℕ) (at : Location) (numbers : LineNumbers) (lent : Lent) where
+  abbrev outcome : Line → EmitOutcome
+  outcome = line_outcome token_list at numbers lent
+
+  unmade_outcome : (line : Line) (unmade : Unmade) (index : ℕ) → line.answer ≡ unmade_answer unmade → line.index ≡ index
+      → line_outcome token_list at numbers lent line ≡ line_outcome token_list at numbers lent (answer_line (Err unmade) index)
+  unfolding line_outcome
+  unmade_outcome line (MissedOperand miss) index e i = rw (e, i) refl
+  unmade_outcome line (OutsideRange fault) index e i = rw (e, i) refl
+
+  pub made_outcome : (line : Line) (answer : Result EmitInstruction Unmade) (index : ℕ) → MadeAs line answer → line.index ≡ index
+      → line_outcome token_list at numbers lent line ≡ line_outcome token_list at numbers lent (answer_line answer index)
+  made_outcome line (Ok e) index m i =
+      let s : line ≡ words_line e index = rw (m.0, sym m.1.pairs_are, sym m.1.form_is, i) refl in
+      ap outcome s
+  made_outcome line (Err unmade) index m i = unmade_outcome line unmade index m i
+
+  -- an accepted line has the words that were made of it
+  pub made_pairs : (line : Line) (answer : Result EmitInstruction Unmade) (index : ℕ) {position : ℕ} {loaded : LoadForm} → MadeAs line answer
+      → (line_outcome token_list at numbers lent (answer_line answer index)).answer ≡ done_at position loaded → line.pairs ≡ (answer_line answer index).pairs
+  unfolding line_outcome
+  made_pairs line (Ok e) index m d = sym m.1.pairs_are
+  made_pairs line (Err (MissedOperand miss)) index m d = let z : ◌≡◌ {A = ℕ} 0 1 = cc in absurd (omega arith)
+  made_pairs line (Err (OutsideRange fault)) index m d = let z : ◌≡◌ {A = ℕ} 0 1 = cc in absurd (omega arith)
 
 -- ---- outcomes
 
@@ -97,8 +131,8 @@ module _ (job : Job) (c : Call) where
   read_outcome false line made = call_refused c (UnknownInstruction line)
 
   module _ (known : Bool) (line : Location) (made : LineEmit) (read : ReadIs job c.token_list c.mnemonic c.descriptors c.numbers.place.position known line made) (pass : stop ≡ Ok tt) where
-    located : (l : Line) → l ≡ made_line made → call_line c l ≡ line_outcome c.token_list line c.numbers c.lent (made_line made)
-    located l e = ap (call_line c) e ∙ ap (λ (x : Location). line_outcome c.token_list x c.numbers c.lent (made_line made)) (sym read.location_is)
+    located : (l : Line) → LineMade l made → call_line c l ≡ line_outcome c.token_list line c.numbers c.lent (made_line made)
+    located l e = made_outcome c.token_list (mnemonic_location c.mnemonic) c.numbers c.lent l made.answer made.cursor.index e.0 e.1 ∙ ap (λ (x : Location). line_outcome c.token_list x c.numbers c.lent (made_line made)) (sym read.location_is)
 
     by_read : (m : Meaning) → meaning c.descriptors (mnemonic_name c.mnemonic) ≡ m → LineFor job c.token_list c.descriptors c.numbers.place.position m known made
         → emit_outcome job c ≡ read_outcome known line made
@@ -109,6 +143,9 @@ module _ (job : Job) (c : Call) where
 
     pub read_outcome_lem : emit_outcome job c ≡ read_outcome known line made
     read_outcome_lem = by_read (meaning c.descriptors (mnemonic_name c.mnemonic)) refl read.line_is
+
+  pub unread_outcome : (r : Refusal) → stop ≡ Ok tt → (meaning c.descriptors (mnemonic_name c.mnemonic) ≡ Neither) × (r ≡ UnknownInstruction (mnemonic_location c.mnemonic)) → emit_outcome job c ≡ call_refused c r
+  unread_outcome r pass m = by_meaning pass m.0 ∙ sym (ap (call_refused c) m.1)
 
 -- an outcome that is the call's is all that a call promises
 pub emitted : {job : Job} {call : Call} {answer : EmitAnswer} {counts : FillCounts} {lent : Lent} → emit_outcome job call ≡ outcome_of answer counts lent → EmittedBy job call answer counts lent

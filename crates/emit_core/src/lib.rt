@@ -8,24 +8,26 @@ ghost use Rattle.descriptors.specs.Mnemonics.{mnemonic_layout};
 ghost use Rattle.descriptors.specs.Descriptors.{descriptor_layout};
 ghost use Rattle.emit_dispatch.specs.Contract.{LineAs};
 ghost use Rattle.emit_outcome.specs.Dispatch.{meaning, table_line};
-ghost use Rattle.emit_outcome.specs.Call.{lent_of, call_of, outcome_of};
+ghost use Rattle.emit_outcome.specs.Call.{lent_of, call_of};
 ghost use Rattle.emit_outcome.specs.Checks.{list_stop};
 ghost use Rattle.emit_outcome.specs.Emit.{emit_outcome};
 ghost use Rattle.emit_outcome.specs.Contract.{EmittedBy};
-ghost use Rattle.emit_core.specs.Read.{ReadIs};
+ghost use Rattle.emit_checks.specs.Made.{left_by};
+ghost use Rattle.emit_core.specs.Read.{ReadBy};
 
 use cursor::Cursor;
-use emit_dispatch::{LineAnswer, LineEmit};
-use emit_outcome::{Emitted, FillCounts, LineNumbers, LinePlace, Meaning};
+use descriptors::{Descriptor, Descriptors};
+use emit_dispatch::LineEmit;
+use emit_outcome::{
+    Appended, Emitted, FillCounts, LineNumbers, LinePlace, Lists, Meaning, RefusedLine,
+};
 use jobs::Job;
 use record::Location;
 use refusal::Refusal;
 
-// A line that was read: whether its mnemonic is known, where that stands, and what was made of the operands. Nothing is made of one that is unknown.
-// kept: an Option of what was made is no plainer, since `ReadIs` and its laws, which the indexed line cites too, take the flag and the line apart.
+// A line that was read: where its mnemonic stands, and what was made of the operands.
 #[derive(Clone, Copy)]
 pub struct LineRead {
-    pub known: bool,
     pub line: Location,
     pub made: LineEmit,
 }
@@ -36,7 +38,7 @@ fn find_meaning(descriptors: &[u8], name: &[u8]) -> Meaning
     requires { descriptor_layout descriptors.now ≡ None }
     ensures { result ≡ meaning descriptors.now name.now }
 {
-    match descriptors::find(descriptors, name) {
+    match Descriptors::new(descriptors).find(name) {
         Some(place) => Meaning::Table(place),
         None => match pseudo_names::pseudo_of(name) {
             Some(pseudo) => Meaning::Builtin(pseudo),
@@ -56,51 +58,31 @@ fn dispatch_instruction(
     requires place_in_bounds { place + 12 ≤ length descriptors.now }
     requires placed { Placed tokens.now at }
     ensures { LineAs tokens.now (table_line job descriptors.now place (tokens_of tokens.now) at.index)
-        result.answer result.emit result.cursor }
+        result.answer result.cursor }
 {
-    let instruction = descriptors::instruction_at(descriptors, place);
+    let instruction = Descriptor::new(descriptors, place).instruction();
     emit_dispatch::dispatch_encoding(job, instruction.encoding, instruction.opcode, tokens, at)
 }
 
 // Refusal 3, or the line that is made of the operands from the position on.
-pub fn read_line(
-    job: Job,
-    tokens: &[u8],
-    mnemonic: &[u8],
-    descriptors: &[u8],
-    position: u32,
-) -> LineRead
-    requires { (token_layout tokens.now ≡ None) × (mnemonic_layout mnemonic.now ≡ None) × (descriptor_layout descriptors.now ≡ None) }
-    ensures { ReadIs job tokens.now mnemonic.now descriptors.now position result.known result.line result.made }
+pub fn read_line(job: Job, lists: Lists<'_>, position: u32) -> Result<LineRead, Refusal>
+    requires { (token_layout lists.tokens.now ≡ None) × (mnemonic_layout lists.mnemonic.now ≡ None) × (descriptor_layout lists.descriptors.now ≡ None) }
+    ensures { ReadBy job lists.entry.tokens.now lists.entry.mnemonic.now lists.entry.descriptors.now position result }
 {
-    let named = descriptors::read_mnemonic(mnemonic);
+    let tokens = lists.tokens;
+    let descriptors = lists.descriptors;
+    let named = descriptors::read_mnemonic(lists.mnemonic);
     let line = named.location;
     let start = cursor::start(tokens, position as usize);
     match find_meaning(descriptors, &named.bytes[..named.len]) {
-        Meaning::Neither => LineRead {
-            known: false,
-            line,
-            made: LineEmit {
-                answer: LineAnswer::Made,
-                emit: emit_pairs::none(),
-                cursor: start,
-            },
-        },
+        Meaning::Neither => Err(Refusal::UnknownInstruction(line)),
         Meaning::Table(place) => {
             let made = dispatch_instruction(job, descriptors, tokens, place, start);
-            LineRead {
-                known: true,
-                line,
-                made,
-            }
+            Ok(LineRead { line, made })
         }
         Meaning::Builtin(pseudo) => {
             let made = emit_dispatch::dispatch_pseudo(job, pseudo, tokens, start);
-            LineRead {
-                known: true,
-                line,
-                made,
-            }
+            Ok(LineRead { line, made })
         }
     }
 }
@@ -108,30 +90,22 @@ pub fn read_line(
 // Refusals 3 to 12, 19, 20 and 27 of lists that keep their layouts, or the line appended.
 fn emit_named(
     job: Job,
-    tokens: &[u8],
-    mnemonic: &[u8],
-    descriptors: &[u8],
+    lists: Lists<'_>,
     data: &mut [u8],
     pending: &mut [u8],
     breakpoints: &mut [u8],
     numbers: LineNumbers,
-) -> Emitted
-    requires { list_stop tokens.now mnemonic.now descriptors.now (lent_of «data».old pending.old breakpoints.old)
+) -> Result<Appended, RefusedLine>
+    requires { list_stop lists.tokens.now lists.mnemonic.now lists.descriptors.now (lent_of «data».old pending.old breakpoints.old)
         numbers.place.region numbers.counts ≡ Ok tt }
-    ensures { emit_outcome job (call_of tokens.now mnemonic.now descriptors.now
+    ensures { emit_outcome job (call_of lists.entry.tokens.now lists.entry.mnemonic.now lists.entry.descriptors.now
         (lent_of «data».old pending.old breakpoints.old) numbers.counts numbers.place)
-        ≡ outcome_of result.answer result.counts (lent_of «data».new pending.new breakpoints.new) }
+        ≡ left_by numbers.counts result (lent_of «data».new pending.new breakpoints.new) }
 {
-    let read = read_line(job, tokens, mnemonic, descriptors, numbers.place.position);
-    if !read.known {
-        return emit_made::refused(
-            Refusal::UnknownInstruction(read.line),
-            numbers.place.position,
-            numbers.counts,
-        );
-    }
+    let position = numbers.place.position;
+    let read = emit_checks::at_position(position, read_line(job, lists, position))?;
     emit_made::append_or_refuse(
-        tokens,
+        lists.tokens,
         data,
         pending,
         breakpoints,
@@ -141,42 +115,47 @@ fn emit_named(
     )
 }
 
+// Refusals 1 to 12, 19, 20 and 27, or the line appended.
+fn emit_line(
+    job: Job,
+    lists: Lists<'_>,
+    data: &mut [u8],
+    pending: &mut [u8],
+    breakpoints: &mut [u8],
+    numbers: LineNumbers,
+) -> Result<Appended, RefusedLine>
+    ensures { emit_outcome job (call_of lists.entry.tokens.now lists.entry.mnemonic.now lists.entry.descriptors.now
+        (lent_of «data».old pending.old breakpoints.old) numbers.counts numbers.place)
+        ≡ left_by numbers.counts result (lent_of «data».new pending.new breakpoints.new) }
+{
+    let place = numbers.place;
+    let passed = emit_checks::check_lists(
+        lists,
+        &*data,
+        &*pending,
+        &*breakpoints,
+        place.region,
+        numbers.counts,
+    );
+    emit_checks::at_position(place.position, passed)?;
+    emit_named(job, lists, data, pending, breakpoints, numbers)
+}
+
 // Emits the line of one mnemonic, or refuses it and leaves every lent byte and count as it was.
 pub fn do_job(
     job: Job,
     counts: FillCounts,
-    tokens: &[u8],
-    mnemonic: &[u8],
-    descriptors: &[u8],
+    lists: Lists<'_>,
     data: &mut [u8],
     pending: &mut [u8],
     breakpoints: &mut [u8],
     place: LinePlace,
 ) -> Emitted
-    ensures { EmittedBy job (call_of tokens.now mnemonic.now descriptors.now
+    ensures { EmittedBy job (call_of lists.entry.tokens.now lists.entry.mnemonic.now lists.entry.descriptors.now
         (lent_of «data».old pending.old breakpoints.old) counts place)
         result.answer result.counts (lent_of «data».new pending.new breakpoints.new) }
 {
-    match emit_checks::check_lists(
-        tokens,
-        mnemonic,
-        descriptors,
-        &*data,
-        &*pending,
-        &*breakpoints,
-        place.region,
-        counts,
-    ) {
-        Err(refusal) => emit_made::refused(refusal, place.position, counts),
-        Ok(()) => emit_named(
-            job,
-            tokens,
-            mnemonic,
-            descriptors,
-            data,
-            pending,
-            breakpoints,
-            LineNumbers { counts, place },
-        ),
-    }
+    let numbers = LineNumbers { counts, place };
+    let given = emit_line(job, lists, data, pending, breakpoints, numbers);
+    emit_made::emitted(counts, given)
 }

@@ -1,34 +1,33 @@
 -- Laws of a line: the words of an encoding by its case, and the line by what was read. Assumes nothing.
-use Rattle.std.specs.Prelude.{ℕ, ◌≡◌, refl, List, [], Bool, true, false, Err, Ok, Result}
+use Rattle.std.specs.Prelude.{ℕ, ◌≡◌, refl, List, Bool, true, false, Err, Ok, Result}
 use Rattle.std.specs.Result.{result_and}
-use Rattle.std.proofs.Common.{sym, subst, arith}
+use Rattle.std.proofs.Common.{sym, ap, subst, ◌∙◌, arith}
 use Rattle.instructions.specs.declared.Opcode.{Opcode}
 use Rattle.instructions.specs.declared.Encoding.{Encoding}
 use Rattle.jobs.specs.declared.Job.{Job}
 use Rattle.jobs.specs.Jobs.{is_dropped}
 use Rattle.pseudo_names.specs.declared.Pseudo.{Pseudo}
 use Rattle.cursor.specs.declared.Cursor.{Cursor}
-use Rattle.cursor.specs.Cursors.{At}
+use Rattle.cursor.specs.Cursors.{At, cursor_at}
 use Rattle.cursor.proofs.CursorsLaws.{cursor_eta}
 use Rattle.cursor.specs.Reads.{ReadAs}
 use Rattle.operand.specs.declared.Miss.{Miss}
-use Rattle.operand.specs.Answers.{Answer}
+use Rattle.operand.specs.Answers.{Answer, here}
 use Rattle.operand_list.specs.declared.Wants.{Wants}
 use Rattle.operand_list.specs.declared.Operands.{Operands}
 use Rattle.operand_list.specs.OperandLists.{AskedAll, given_all}
 use Rattle.operand_list.specs.HeldOperands.{held_values}
 use Rattle.operand_list.proofs.HeldOperandsLaws.{all_given, none_given}
 use Rattle.loading.specs.declared.LoadForm.{LoadForm}
-use Rattle.loading.specs.declared.LoadForm.TheVariants.{Nothing as Unloaded}
 use Rattle.emit_pairs.specs.declared.EmitInstruction.{EmitInstruction}
 use Rattle.emit_pairs.specs.declared.InstructionPair.{InstructionPair}
 use Rattle.emit_pairs.specs.declared.Fault.TheVariants.{Dropped}
 use Rattle.emit_pairs.specs.Pairs.{EmitIs}
-use Rattle.emit_dispatch.specs.declared.LineAnswer.{LineAnswer}
-use Rattle.emit_dispatch.specs.declared.LineAnswer.TheVariants.{Made, Missed as MissedOperand}
+use Rattle.emit_dispatch.specs.declared.Unmade.{Unmade}
+use Rattle.emit_dispatch.specs.LineAnswers.{Made}
 use Rattle.emit_dispatch.specs.Wants.{encoding_wants, pseudo_wants}
 use Rattle.emit_dispatch.specs.Lines.{encoding_range, encoding_pairs, pseudo_pairs, encoding_form, pseudo_form, range_answer, range_then, kept_range, line_by}
-use Rattle.emit_dispatch.specs.Contract.{LineAs}
+use Rattle.emit_dispatch.specs.Contract.{held_answer, MadeAs, LineAs}
 use Rattle.emit_pairs.specs.declared.Fault.{Fault}
 
 -- ---- words and ranges, by the case that the encoding or the pseudo-instruction is
@@ -70,15 +69,25 @@ kept_within job third op e = go (is_dropped job third op) e
     go true h = cc
     go false h = refl
 
-module _ (w : Wants) {s : List ℕ} (x : At (Answer (AskedAll w))) {given : Result Operands Miss} {cursor : Cursor} (r : ReadAs s (given_all w x) given cursor)
-    (range : AskedAll w → Result (Unit {0}) Fault) (pairs : AskedAll w → List InstructionPair) (form : AskedAll w → LoadForm) {answer : LineAnswer} {emit : EmitInstruction} where
-  pub line_missed : (m : Miss) → given ≡ Err m → answer ≡ MissedOperand m → EmitIs emit [] Unloaded → LineAs s (line_by x.answer x.index range pairs form) answer emit cursor
-  line_missed m e a i =
-      subst (λ (y : At (Answer (AskedAll w))). LineAs s (line_by y.answer y.index range pairs form) answer emit cursor) (sym (none_given w x r m e))
-      (record { answer_is = a; words_are = i; cursor_is = cursor_eta s cursor r.placed; placed = r.placed })
+-- the line of what was read, by what the operands hold
+module _ (w : Wants) {s : List ℕ} (x : At (Answer (AskedAll w))) {read : Result Operands Miss} {cursor : Cursor} (r : ReadAs s (given_all w x) read cursor) where
+  read_held : (given : Result Operands Miss) → read ≡ given → x ≡ here (held_answer w given) cursor.index
+  read_held (Ok o) e = all_given w x r o e
+  read_held (Err m) e = none_given w x r m e
 
-  pub line_read : (o : Operands) → given ≡ Ok o → answer ≡ range_answer (range (held_values w o)) → EmitIs emit (pairs (held_values w o)) (form (held_values w o))
-      → LineAs s (line_by x.answer x.index range pairs form) answer emit cursor
-  line_read o e a i =
-      subst (λ (y : At (Answer (AskedAll w))). LineAs s (line_by y.answer y.index range pairs form) answer emit cursor) (sym (all_given w x r o e))
-      (record { answer_is = a; words_are = i; cursor_is = cursor_eta s cursor r.placed; placed = r.placed })
+  module _ (range : AskedAll w → Result (Unit {0}) Fault) (pairs : AskedAll w → List InstructionPair) (form : AskedAll w → LoadForm) where
+    made_at : (given : Result Operands Miss) (made : Result EmitInstruction Unmade) (i : ℕ) → MadeAs (line_by (held_answer w given) 0 range pairs form) made
+        → MadeAs (line_by (held_answer w given) i range pairs form) made
+    made_at (Ok o) (Ok emit) i m = m
+    made_at (Ok o) (Err u) i m = m
+    made_at (Err miss) (Ok emit) i m = m
+    made_at (Err miss) (Err u) i m = m
+
+    index_at : (given : Result Operands Miss) (i : ℕ) → (line_by (held_answer w given) i range pairs form).index ≡ i
+    index_at (Ok o) i = refl
+    index_at (Err miss) i = refl
+
+    pub line_held : (made : Result EmitInstruction Unmade) → MadeAs (line_by (held_answer w read) 0 range pairs form) made → LineAs s (line_by x.answer x.index range pairs form) made cursor
+    line_held made m =
+        subst (λ (y : At (Answer (AskedAll w))). LineAs s (line_by y.answer y.index range pairs form) made cursor) (sym (read_held read refl))
+        (record { made_as = made_at read made cursor.index m; cursor_is = cursor_eta s cursor r.placed ∙ ap (cursor_at s) (sym (index_at read cursor.index)); placed = r.placed })

@@ -1,15 +1,31 @@
 -- What the dispatch of a line promises: the answer, the words and the position are the definition's. Assumes nothing.
-use Rattle.std.specs.Prelude.{◌≡◌, List, ℕ}
+use Rattle.std.specs.Prelude.{◌≡◌, List, ℕ, Result, Ok, Err}
 use Rattle.cursor.specs.declared.Cursor.{Cursor}
 use Rattle.cursor.specs.Cursors.{cursor_at}
 use Rattle.cursor.specs.Reads.{Placed}
+use Rattle.operand.specs.declared.Miss.{Miss}
+use Rattle.operand.specs.Answers.{Answer, Got, Missed}
+use Rattle.operand_list.specs.declared.Wants.{Wants}
+use Rattle.operand_list.specs.declared.Operands.{Operands}
+use Rattle.operand_list.specs.OperandLists.{AskedAll}
+use Rattle.operand_list.specs.HeldOperands.{held_values}
 use Rattle.emit_pairs.specs.declared.EmitInstruction.{EmitInstruction}
 use Rattle.emit_pairs.specs.Pairs.{EmitIs}
-use Rattle.emit_dispatch.specs.declared.LineAnswer.{LineAnswer}
+use Rattle.emit_dispatch.specs.declared.Unmade.{Unmade}
+use Rattle.emit_dispatch.specs.LineAnswers.{Made, unmade_answer}
 use Rattle.emit_dispatch.specs.Lines.{Line}
 
-pub record LineAs (s : List ℕ) (line : Line) (answer : LineAnswer) (emit : EmitInstruction) (cursor : Cursor) : Type 0 where
-  pub answer_is : answer ≡ line.answer
-  pub words_are : EmitIs emit line.pairs line.form
+-- what was read, by what the operands hold
+abbrev pub held_answer : (w : Wants) → Result Operands Miss → Answer (AskedAll w)
+held_answer w (Ok operands) = Got (held_values w operands)
+held_answer w (Err miss) = Missed miss
+
+-- words that are the line's, or why there are none
+abbrev pub MadeAs : Line → Result EmitInstruction Unmade → Type 0
+MadeAs line (Ok emit) = (line.answer ≡ Made) × EmitIs emit line.pairs line.form
+MadeAs line (Err unmade) = line.answer ≡ unmade_answer unmade
+
+pub record LineAs (s : List ℕ) (line : Line) (answer : Result EmitInstruction Unmade) (cursor : Cursor) : Type 0 where
+  pub made_as : MadeAs line answer
   pub cursor_is : cursor ≡ cursor_at s line.index
   pub placed : Placed s cursor

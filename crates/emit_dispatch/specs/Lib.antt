@@ -1,3 +1,4 @@
 pub mod Wants
+pub mod LineAnswers
 pub mod Lines
 pub mod Contract

@@ -26,8 +26,7 @@ use Rattle.emit_integer.specs.IntegerWords.{register_pairs, register_shift_pairs
 use Rattle.emit_float.specs.FloatWords.{fp3_pairs, fp2_pairs, fp_move_pairs, fp_cond_pairs, fp_cross_move_pairs, fp_branch_pairs}
 use Rattle.emit_pseudo.specs.PseudoWords.{branch_custom_pairs, set_custom_pairs, sne_pairs, seq_pairs, abs_pairs, neg_pairs, move_pairs, li_pairs, la_pairs, b_pairs, nop_pairs, subi_pairs, subi_form}
 use Rattle.emit_dispatch.specs.Wants.{encoding_wants, pseudo_wants}
-use Rattle.emit_dispatch.specs.declared.LineAnswer.{LineAnswer}
-use Rattle.emit_dispatch.specs.declared.LineAnswer.TheVariants.{Made, Missed as MissedOperand, OutOfRange}
+use Rattle.emit_dispatch.specs.LineAnswers.{LineAnswer, Made, Missed as MissedOperand, OutOfRange}
 
 -- ---- words: x.0, x.1 and x.2 are the operands, left to right
 

@@ -9,10 +9,10 @@ ghost use Rattle.operand.specs.Held.{constant_in, code_in, maybe_value_in};
 ghost use Rattle.operand_list.specs.HeldOperands.{held_values};
 ghost use Rattle.emit_pairs.specs.Pairs.{EmitIs};
 ghost use Rattle.emit_dispatch.specs.Wants.{encoding_wants, pseudo_wants};
-ghost use Rattle.emit_dispatch.specs.Lines.{within_or, is_given, kept_range, encoding_range, encoding_pairs, encoding_form, pseudo_pairs, pseudo_form, range_answer, encoding_line, pseudo_line};
-ghost use Rattle.emit_dispatch.specs.Contract.{LineAs};
+ghost use Rattle.emit_dispatch.specs.Lines.{within_or, is_given, kept_range, encoding_range, encoding_pairs, encoding_form, pseudo_pairs, pseudo_form, line_by, encoding_line, pseudo_line};
+ghost use Rattle.emit_dispatch.specs.Contract.{held_answer, MadeAs, LineAs};
 
-use cursor::Cursor;
+use cursor::{Cursor, LexerCursor};
 use emit_float::MoveForm;
 use emit_pairs::{EmitInstruction, Fault};
 use emit_pseudo::{Comparison, ImmediateOpcodes};
@@ -22,22 +22,41 @@ use operand::{Miss, Operand, Want};
 use operand_list::{Operands, Wants};
 use pseudo_names::Pseudo;
 
-// Whether a line's operands were read and its words made.
+// Why a line's words are not made: an operand was missed, or one lies outside what the job takes.
 #[derive(Clone, Copy)]
-pub enum LineAnswer {
-    Made,
+pub enum Unmade {
     Missed(Miss),
     OutOfRange(Fault),
 }
 
-// A line's words, and the position behind its operands.
+impl From<Miss> for Unmade {
+    ghost use Rattle.emit_dispatch.specs.declared.Unmade.{Unmade};
+
+    ghost from_gives = { λ miss unmade. unmade ≡ Unmade.Missed miss };
+
+    fn from(miss: Miss) -> Unmade {
+        Unmade::Missed(miss)
+    }
+}
+
+impl From<Fault> for Unmade {
+    ghost use Rattle.emit_dispatch.specs.declared.Unmade.{Unmade};
+
+    ghost from_gives = { λ fault unmade. unmade ≡ Unmade.OutOfRange fault };
+
+    fn from(fault: Fault) -> Unmade {
+        Unmade::OutOfRange(fault)
+    }
+}
+
+// A line's words or why there are none, and the position behind its operands.
 #[derive(Clone, Copy)]
 pub struct LineEmit {
-    pub answer: LineAnswer,
-    pub emit: EmitInstruction,
+    pub answer: Result<EmitInstruction, Unmade>,
     pub cursor: Cursor,
 }
 
+// kept: a constructor, for the table below to be read; it has the shape of others and not their meaning.
 fn three(first: Want, second: Want, third: Want) -> Wants
     ensures { result ≡ (record { first = first; second = second; third = third }) }
 {
@@ -173,28 +192,19 @@ fn encoding_pairs(job: Job, encoding: Encoding, op: Opcode, operands: Operands) 
     }
 }
 
-fn within_or(fault: Fault, within: bool) -> Result<(), Fault>
-    ensures { result ≡ within_or fault within }
-{
-    if within { Ok(()) } else { Err(fault) }
-}
-
+// kept: this and the next are two tests with two faults; one function over both would take the test, the operand's reader and the fault.
 fn shift_range(job: Job, operand: Operand) -> Result<(), Fault>
     ensures { result ≡ within_or Fault.ShiftAmount (shift_within job (constant_in operand)) }
 {
-    within_or(
-        Fault::ShiftAmount,
-        jobs::shift_within(job, operand::constant_in(operand)),
-    )
+    let within = jobs::shift_within(job, operand::constant_in(operand));
+    within.then_some(()).ok_or(Fault::ShiftAmount)
 }
 
 fn code_range(job: Job, operand: Operand) -> Result<(), Fault>
     ensures { result ≡ within_or Fault.ConditionCode (code_within job (code_in operand)) }
 {
-    within_or(
-        Fault::ConditionCode,
-        jobs::code_within(job, operand::code_in(operand)),
-    )
+    let within = jobs::code_within(job, operand::code_in(operand));
+    within.then_some(()).ok_or(Fault::ConditionCode)
 }
 
 // Whether the optional operand of Inputs was read.
@@ -289,13 +299,18 @@ fn subi_opcodes(op: u8, alternative: u8) -> ImmediateOpcodes
     }
 }
 
-fn range_answer(range: Result<(), Fault>) -> LineAnswer
-    ensures { result ≡ range_answer range }
+// The words of what was read for an instruction of the table.
+fn encoding_words(
+    job: Job,
+    encoding: Encoding,
+    op: Opcode,
+    read: Result<Operands, Miss>,
+) -> Result<EmitInstruction, Unmade>
+    ensures { MadeAs (line_by (held_answer (encoding_wants encoding) read) 0 (encoding_range job encoding op) (encoding_pairs job encoding op) (encoding_form encoding)) result }
 {
-    match range {
-        Ok(()) => LineAnswer::Made,
-        Err(fault) => LineAnswer::OutOfRange(fault),
-    }
+    let operands = read?;
+    encoding_range(job, encoding, op, operands)?;
+    Ok(encoding_pairs(job, encoding, op, operands))
 }
 
 // The line of an instruction of the table, by its encoding.
@@ -307,46 +322,36 @@ pub fn dispatch_encoding(
     from: Cursor,
 ) -> LineEmit
     requires { Placed list.now from }
-    ensures { LineAs list.now (encoding_line job encoding op (tokens list.now) from.index) result.answer result.emit result.cursor }
+    ensures { LineAs list.now (encoding_line job encoding op (tokens list.now) from.index) result.answer result.cursor }
 {
-    let read = operand_list::read_operands(encoding_wants(encoding), list, from);
-    match read.answer {
-        Err(miss) => LineEmit {
-            answer: LineAnswer::Missed(miss),
-            emit: emit_pairs::none(),
-            cursor: read.cursor,
-        },
-        Ok(operands) => {
-            let answer = range_answer(encoding_range(job, encoding, op, operands));
-            let emit = encoding_pairs(job, encoding, op, operands);
-            LineEmit {
-                answer,
-                emit,
-                cursor: read.cursor,
-            }
-        }
+    let mut cursor = LexerCursor::new(list, from);
+    let given = operand_list::read_operands(encoding_wants(encoding), &mut cursor);
+    LineEmit {
+        answer: encoding_words(job, encoding, op, given),
+        cursor: cursor.position(),
     }
+}
+
+// The words of what was read for a pseudo-instruction.
+fn pseudo_words(
+    job: Job,
+    pseudo: Pseudo,
+    read: Result<Operands, Miss>,
+) -> Result<EmitInstruction, Unmade>
+    ensures { MadeAs (line_by (held_answer (pseudo_wants pseudo) read) 0 (λ x. Ok tt) (pseudo_pairs job pseudo) (pseudo_form pseudo)) result }
+{
+    Ok(pseudo_pairs(job, pseudo, read?))
 }
 
 // The line of a pseudo-instruction.
 pub fn dispatch_pseudo(job: Job, pseudo: Pseudo, list: &[u8], from: Cursor) -> LineEmit
     requires { Placed list.now from }
-    ensures { LineAs list.now (pseudo_line job pseudo (tokens list.now) from.index) result.answer result.emit result.cursor }
+    ensures { LineAs list.now (pseudo_line job pseudo (tokens list.now) from.index) result.answer result.cursor }
 {
-    let read = operand_list::read_operands(pseudo_wants(pseudo), list, from);
-    match read.answer {
-        Err(miss) => LineEmit {
-            answer: LineAnswer::Missed(miss),
-            emit: emit_pairs::none(),
-            cursor: read.cursor,
-        },
-        Ok(operands) => {
-            let emit = pseudo_pairs(job, pseudo, operands);
-            LineEmit {
-                answer: LineAnswer::Made,
-                emit,
-                cursor: read.cursor,
-            }
-        }
+    let mut cursor = LexerCursor::new(list, from);
+    let given = operand_list::read_operands(pseudo_wants(pseudo), &mut cursor);
+    LineEmit {
+        answer: pseudo_words(job, pseudo, given),
+        cursor: cursor.position(),
     }
 }

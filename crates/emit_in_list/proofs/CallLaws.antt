@@ -25,8 +25,7 @@ use Rattle.emit_checks.proofs.RoomLaws.{line_room}
 use Rattle.loading.specs.declared.LoadForm.{LoadForm}
 use Rattle.emit_outcome.specs.declared.FillCounts.{FillCounts}
 use Rattle.emit_outcome.specs.declared.LineNumbers.{LineNumbers}
-use Rattle.emit_outcome.specs.declared.EmitAnswer.{EmitAnswer}
-use Rattle.emit_outcome.specs.declared.EmitAnswer.TheVariants.{Done, Refused}
+use Rattle.emit_outcome.specs.Answer.{EmitAnswer, done_at, refused_at}
 use Rattle.emit_outcome.specs.declared.Meaning.{Meaning}
 use Rattle.emit_outcome.specs.declared.Meaning.TheVariants.{Table, Builtin, Neither}
 use Rattle.emit_outcome.specs.Call.{Lent, Call, EmitOutcome}
@@ -39,8 +38,8 @@ use Rattle.refusal.specs.Verdicts.{Verdict}
 
 -- an accepted line has a selected region, and its data stays within the most that a region has
 pub data Told (region : ℕ) (counts : FillCounts) : EmitAnswer → Type 0 where
-  told_done : (i : ℕ) (f : LoadForm) → eqb region no_region ≡ false → counts.data_len ≤ most_data → Told region counts (Done i f)
-  told_refused : (r : Refusal) (i : ℕ) → Told region counts (Refused r i)
+  told_done : (i : ℕ) (f : LoadForm) → eqb region no_region ≡ false → counts.data_len ≤ most_data → Told region counts (done_at i f)
+  told_refused : (r : Refusal) (i : ℕ) → Told region counts (refused_at r i)
 
 pub record Appends (region : ℕ) (before : FillCounts) (lent : Lent) (o : EmitOutcome) : Type 0 where
   pub words : List ℕ

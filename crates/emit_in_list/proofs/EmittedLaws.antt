@@ -6,7 +6,7 @@ use Rattle.record.specs.Bytes.{part}
 use Rattle.record.specs.Stores.{append}
 use Rattle.emit_outcome.specs.Call.{Call, EmitOutcome, call_of, lent_of, outcome_of}
 use Rattle.emit_outcome.specs.Emit.{emit_outcome}
-use Rattle.emit_outcome.specs.declared.EmitAnswer.{EmitAnswer}
+use Rattle.emit_outcome.specs.Answer.{EmitAnswer}
 use Rattle.emit_outcome.specs.declared.FillCounts.{FillCounts}
 use Rattle.emit_outcome.specs.declared.LinePlace.{LinePlace}
 use Rattle.patching_outcome.specs.Grown.{inserted}

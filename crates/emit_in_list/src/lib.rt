@@ -5,7 +5,7 @@ ghost use Rattle.std.specs.Prelude.{◌≡◌, ◌≤◌, ◌+◌, length};
 ghost use Rattle.record.specs.Records.{limit};
 ghost use Rattle.emit_in_list.specs.InList.{list_call, EmittedIn};
 
-use emit_outcome::{Emitted, FillCounts, LinePlace};
+use emit_outcome::{Emitted, FillCounts, LinePlace, Lists};
 use jobs::Job;
 
 // Where the region's data starts, where the list ends, and how many of the free bytes behind it may be taken.
@@ -21,9 +21,7 @@ pub struct Within {
 pub fn emit_in_list(
     job: Job,
     counts: FillCounts,
-    tokens: &[u8],
-    mnemonic: &[u8],
-    descriptors: &[u8],
+    lists: Lists<'_>,
     list: &mut [u8],
     pending: &mut [u8],
     breakpoints: &mut [u8],
@@ -31,7 +29,7 @@ pub fn emit_in_list(
     within: Within,
 ) -> Emitted
     requires { (within.start + counts.data_len ≤ within.fill) × (within.fill + within.room ≤ length list.old) × (length list.old ≤ limit) }
-    ensures { EmittedIn job (list_call tokens.now mnemonic.now descriptors.now list.old pending.old breakpoints.old
+    ensures { EmittedIn job (list_call lists.entry.tokens.now lists.entry.mnemonic.now lists.entry.descriptors.now list.old pending.old breakpoints.old
         counts place within.start within.fill within.room) list.old within.start within.fill
         result.answer result.counts list.new pending.new breakpoints.new }
 {
@@ -44,9 +42,7 @@ pub fn emit_in_list(
     let out = emit_core::do_job(
         job,
         counts,
-        tokens,
-        mnemonic,
-        descriptors,
+        lists,
         &mut list[start..end + room],
         pending,
         breakpoints,

@@ -1,6 +1,6 @@
 -- Laws of a made line: its index, its pcs, and its outcome by what its checks say. Assumes nothing.
-use Rattle.std.specs.Prelude.{◌≡◌, ℕ, zero, suc, ◌+◌, ◌*◌, ◌^◌, ◌<◌, ◌≤◌, List, length, refl, Err, Ok}
-use Rattle.std.proofs.Common.{arith}
+use Rattle.std.specs.Prelude.{◌≡◌, ℕ, zero, suc, ◌+◌, ◌*◌, ◌^◌, ◌<◌, ◌≤◌, List, length, refl, Err, Ok, Result}
+use Rattle.std.proofs.Common.{subst, ◌∙◌, arith}
 use Rattle.std.proofs.Math.Path.{ap}
 use Rattle.record.specs.declared.Location.{Location}
 use Rattle.refusal.specs.declared.Refusal.{Refusal}
@@ -9,10 +9,17 @@ use Rattle.cursor.proofs.CursorsLaws.{place_least, place_end}
 use Rattle.cursor.specs.Reads.{Placed}
 use Rattle.lexer.specs.Tokens.{tokens}
 use Rattle.emit_dispatch.specs.Lines.{Line}
+use Rattle.emit_dispatch.specs.declared.Unmade.{Unmade}
+use Rattle.emit_pairs.specs.declared.EmitInstruction.{EmitInstruction}
+use Rattle.emit_outcome.specs.declared.RefusedLine.{RefusedLine}
+use Rattle.emit_dispatch.specs.declared.LineEmit.{LineEmit}
+use Rattle.emit_checks.specs.Made.{pairs_of, words_line, answer_line, made_line, Counted, MadeGood, PassedBy, stopped_at}
+use Rattle.emit_checks.proofs.RoomLaws.{line_room}
+use Rattle.emit_outcome.specs.Room.{room_stop}
 use Rattle.breakpoints.specs.BreakpointBytes.{pcs_bytes, breakpoint_bytes}
 use Rattle.emit_outcome.specs.declared.LineNumbers.{LineNumbers}
 use Rattle.loading.specs.declared.LoadForm.{LoadForm}
-use Rattle.emit_outcome.specs.declared.EmitAnswer.TheVariants.{Done}
+use Rattle.emit_outcome.specs.Answer.{done_at}
 use Rattle.emit_outcome.specs.Call.{Lent, lent_of, outcome_of}
 use Rattle.emit_outcome.specs.Emit.{refuse, accept, line_stop, accept_or, line_outcome}
 
@@ -34,8 +41,8 @@ pcs_within pc at (suc n) h e l = omega (arith, e (omega arith), l (omega arith))
 
 -- an accepted line's outcome, part by part
 pub outcome_same : (position : ℕ) (form : LoadForm) {l p b l' p' b' : ℕ} {d q k d' q' k' : List ℕ} → l ≡ l' → p ≡ p' → b ≡ b' → d ≡ d' → q ≡ q' → k ≡ k'
-    → outcome_of (Done position form) (record { data_len = l; pending = p; breakpoints = b }) (lent_of d q k)
-    ≡ outcome_of (Done position form) (record { data_len = l'; pending = p'; breakpoints = b' }) (lent_of d' q' k')
+    → outcome_of (done_at position form) (record { data_len = l; pending = p; breakpoints = b }) (lent_of d q k)
+    ≡ outcome_of (done_at position form) (record { data_len = l'; pending = p'; breakpoints = b' }) (lent_of d' q' k')
 outcome_same position form hl hp hb hd hq hk = rw (hl, hp, hb, hd, hq, hk)
 
 -- the outcome by the verdict
@@ -47,3 +54,46 @@ module _ (token_list : List ℕ) (line : Location) (numbers : LineNumbers) (lent
   pub line_passed : line_stop token_list line numbers lent made ≡ Ok tt → line_outcome token_list line numbers lent made ≡ accept token_list line numbers lent made
   unfolding line_outcome
   line_passed e = ap (accept_or token_list line numbers lent made) e
+
+-- what was given, by what it is with the position
+pub stopped_ok : {A : Type 0} (p : ℕ) (v : Result A Refusal) {x : A} → stopped_at p v ≡ Ok x → v ≡ Ok x
+stopped_ok p (Ok y) e = cc
+stopped_ok p (Err r) e = cc
+
+pub stopped_err : {A : Type 0} (p : ℕ) (v : Result A Refusal) {k : RefusedLine} → stopped_at p v ≡ Err k → (r : Refusal) × (v ≡ Err r) × (record { refusal = r; position = p } ≡ k)
+stopped_err p (Ok y) e = let z : ◌≡◌ {A = ℕ} 0 1 = cc in absurd (omega arith)
+stopped_err p (Err r) e = (r, refl, cc)
+
+-- a line's index is the one that is given, made or not
+pub answer_index : (a : Result EmitInstruction Unmade) (i : ℕ) → (answer_line a i).index ≡ i
+answer_index (Ok words) i = refl
+answer_index (Err unmade) i = refl
+
+-- what the checks of a line give, and what is known of it
+module _ (token_list : List ℕ) (line : Location) (numbers : LineNumbers) (lent : Lent) (made : LineEmit) where
+  pub record WordsPass (words : EmitInstruction) : Type 0 where
+    pub stop_is : line_stop token_list line numbers lent (words_line words made.cursor.index) ≡ Ok tt
+    pub answer_is : made.answer ≡ Ok words
+    pub few : words.count ≤ 5
+    pub room : room_stop token_list line numbers lent (pairs_of words) ≡ Ok tt
+    pub outcome_is : line_outcome token_list line numbers lent (made_line made) ≡ accept token_list line numbers lent (words_line words made.cursor.index)
+
+  pub words_pass : {given : Result EmitInstruction Refusal} → PassedBy (line_stop token_list line numbers lent (made_line made)) made given → MadeGood token_list made → (words : EmitInstruction) → given ≡ Ok words
+      → WordsPass words
+  words_pass by good words e =
+      let b = subst (PassedBy (line_stop token_list line numbers lent (made_line made)) made) e by in
+      record {
+        stop_is = subst (λ (a : Result EmitInstruction Unmade). line_stop token_list line numbers lent (answer_line a made.cursor.index) ≡ Ok tt) b.1 b.0;
+        answer_is = b.1;
+        few = subst Counted b.1 good.counted;
+        room = subst (λ (a : Result EmitInstruction Unmade). room_stop token_list line numbers lent (answer_line a made.cursor.index).pairs ≡ Ok tt) b.1 (line_room token_list line numbers lent (made_line made) b.0);
+        outcome_is = line_passed token_list line numbers lent (made_line made) b.0 ∙ ap (λ (a : Result EmitInstruction Unmade). accept token_list line numbers lent (answer_line a made.cursor.index)) b.1;
+      }
+
+  pub words_refused : {given : Result EmitInstruction Refusal} → PassedBy (line_stop token_list line numbers lent (made_line made)) made given → (r : Refusal) → given ≡ Err r → line_stop token_list line numbers lent (made_line made) ≡ Err r
+  words_refused by r e = subst (PassedBy (line_stop token_list line numbers lent (made_line made)) made) e by
+
+  pub refused_outcome : {given : Result EmitInstruction Refusal} → PassedBy (line_stop token_list line numbers lent (made_line made)) made given → (r : Refusal) → given ≡ Err r
+      → line_outcome token_list line numbers lent (made_line made) ≡ refuse numbers.counts lent made.cursor.index r
+  refused_outcome by r e =
+      line_stopped token_list line numbers lent (made_line made) (words_refused by r e) ∙ ap (λ (i : ℕ). refuse numbers.counts lent i r) (answer_index made.answer made.cursor.index)

@@ -1,25 +1,32 @@
 // What becomes of a line that was made: refused, or appended to the region data, the pending list and the breakpoints (emit.rs).
 #![tactic(auto)]
 
-ghost use Rattle.std.specs.Prelude.{◌≡◌};
+ghost use Rattle.std.specs.Prelude.{◌≡◌, ◌≤◌};
 ghost use Rattle.emit_outcome.specs.Call.{lent_of, outcome_of};
 ghost use Rattle.emit_outcome.specs.Room.{room_stop};
 ghost use Rattle.emit_outcome.specs.Emit.{accept, line_outcome};
-ghost use Rattle.emit_checks.specs.Made.{pairs_of, made_line, Filled, MadeGood};
+ghost use Rattle.emit_checks.specs.Made.{pairs_of, words_line, made_line, Filled, MadeGood, emitted_by, left_by};
 
 use breakpoints::Pcs;
 use emit_dispatch::LineEmit;
-use emit_outcome::{EmitAnswer, Emitted, FillCounts, LineNumbers};
+use emit_outcome::{Appended, DoneLine, Emitted, FillCounts, LineNumbers, RefusedLine};
+use emit_pairs::EmitInstruction;
 use pending::Origin;
 use record::Location;
-use refusal::Refusal;
 
-pub fn refused(refusal: Refusal, position: u32, counts: FillCounts) -> Emitted
-    ensures { result ≡ (record { answer = EmitAnswer.Refused refusal position; counts = counts }) }
+// What an emit call answers that gives this: a refusal leaves the counts as given.
+pub fn emitted(counts: FillCounts, given: Result<Appended, RefusedLine>) -> Emitted
+    ensures { result ≡ emitted_by counts given }
 {
-    Emitted {
-        answer: EmitAnswer::Refused(refusal, position),
-        counts,
+    match given {
+        Ok(appended) => Emitted {
+            answer: Ok(appended.done),
+            counts: appended.counts,
+        },
+        Err(refused) => Emitted {
+            answer: Err(refused),
+            counts,
+        },
     }
 }
 
@@ -31,26 +38,27 @@ pub fn append_line(
     breakpoints: &mut [u8],
     numbers: LineNumbers,
     line: Location,
-    made: LineEmit,
-) -> Emitted
-    requires filled { Filled tokens.now (lent_of «data».old pending.old breakpoints.old) numbers.counts × MadeGood tokens.now made }
-    requires emit_value { room_stop tokens.now line numbers (lent_of «data».old pending.old breakpoints.old) (pairs_of made.emit) ≡ Ok tt }
+    words: EmitInstruction,
+    position: u32,
+) -> Appended
+    requires filled { Filled tokens.now (lent_of «data».old pending.old breakpoints.old) numbers.counts × (words.count ≤ 5) }
+    requires emit_value { room_stop tokens.now line numbers (lent_of «data».old pending.old breakpoints.old) (pairs_of words) ≡ Ok tt }
     ensures { accept tokens.now line numbers
-        (lent_of «data».old pending.old breakpoints.old) (made_line made)
-        ≡ outcome_of result.answer result.counts (lent_of «data».new pending.new breakpoints.new) }
+        (lent_of «data».old pending.old breakpoints.old) (words_line words position)
+        ≡ outcome_of (Ok result.done) result.counts (lent_of «data».new pending.new breakpoints.new) }
 {
     let counts = numbers.counts;
-    let n = emit_bytes::count_of(made.emit);
-    let size = emit_bytes::pendings_size(tokens, made.emit) as u32;
+    let n = emit_bytes::count_of(words);
+    let size = emit_bytes::pendings_size(tokens, words) as u32;
     let pc = numbers.place.address.wrapping_add(counts.data_len);
     let bytes = 4 * n as u32;
-    emit_bytes::put_words(data, counts.data_len as usize, made.emit);
+    emit_bytes::put_words(data, counts.data_len as usize, words);
     let origin = Origin {
         region: numbers.place.region,
         offset: counts.data_len,
         location: line,
     };
-    emit_bytes::put_pendings(pending, tokens, counts.pending as usize, origin, made.emit);
+    emit_bytes::put_pendings(pending, tokens, counts.pending as usize, origin, words);
     let pcs = Pcs {
         first: pc,
         count: n,
@@ -61,10 +69,10 @@ pub fn append_line(
         pending: counts.pending + size,
         breakpoints: counts.breakpoints + (12 + bytes),
     };
-    Emitted {
-        answer: EmitAnswer::Done {
-            position: made.cursor.index as u32,
-            loaded: made.emit.loaded,
+    Appended {
+        done: DoneLine {
+            position,
+            loaded: words.loaded,
         },
         counts: grown,
     }
@@ -79,13 +87,14 @@ pub fn append_or_refuse(
     numbers: LineNumbers,
     line: Location,
     made: LineEmit,
-) -> Emitted
+) -> Result<Appended, RefusedLine>
     requires { Filled tokens.now (lent_of «data».old pending.old breakpoints.old) numbers.counts × MadeGood tokens.now made }
     ensures { line_outcome tokens.now line numbers
         (lent_of «data».old pending.old breakpoints.old) (made_line made)
-        ≡ outcome_of result.answer result.counts (lent_of «data».new pending.new breakpoints.new) }
+        ≡ left_by numbers.counts result (lent_of «data».new pending.new breakpoints.new) }
 {
-    match emit_checks::check_line(
+    let position = made.cursor.index as u32;
+    let passed = emit_checks::check_line(
         tokens,
         &*data,
         &*pending,
@@ -93,8 +102,16 @@ pub fn append_or_refuse(
         numbers,
         line,
         made,
-    ) {
-        Err(refusal) => refused(refusal, made.cursor.index as u32, numbers.counts),
-        Ok(()) => append_line(tokens, data, pending, breakpoints, numbers, line, made),
-    }
+    );
+    let words = emit_checks::at_position(position, passed)?;
+    Ok(append_line(
+        tokens,
+        data,
+        pending,
+        breakpoints,
+        numbers,
+        line,
+        words,
+        position,
+    ))
 }

@@ -1,1 +1,2 @@
+pub mod AnswerLaws
 pub mod Refused

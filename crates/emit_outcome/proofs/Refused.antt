@@ -14,18 +14,19 @@ use Rattle.emit_outcome.specs.declared.Meaning.{Meaning}
 use Rattle.emit_outcome.specs.declared.Meaning.TheVariants.{Table, Builtin, Neither}
 use Rattle.emit_outcome.specs.declared.FillCounts.{FillCounts}
 use Rattle.emit_outcome.specs.declared.LineNumbers.{LineNumbers}
-use Rattle.emit_outcome.specs.declared.EmitAnswer.TheVariants.{Refused}
+use Rattle.emit_outcome.specs.Answer.{refused_at}
 use Rattle.emit_outcome.specs.Call.{Lent, Call, EmitOutcome}
 use Rattle.emit_outcome.specs.Checks.{list_stop}
 use Rattle.emit_outcome.specs.Emit.{refuse, line_stop, accept_or, line_outcome, start_of, meaning_outcome, list_outcome, emit_outcome}
+use Rattle.emit_outcome.proofs.AnswerLaws.{refused_parts}
 use Rattle.refusal.specs.Verdicts.{Verdict}
 
 -- where an outcome answers with a refusal, it is that refusal's outcome
 abbrev pub Stays : FillCounts → Lent → EmitOutcome → Type 0
-Stays counts lent o = (r : Refusal) (p : ℕ) → o.answer ≡ Refused r p → o ≡ refuse counts lent p r
+Stays counts lent o = (r : Refusal) (p : ℕ) → o.answer ≡ refused_at r p → o ≡ refuse counts lent p r
 
 refuse_stays : (counts : FillCounts) (lent : Lent) (position : ℕ) (s : Refusal) → Stays counts lent (refuse counts lent position s)
-refuse_stays counts lent position s r p e = cc
+refuse_stays counts lent position s r p e = let z : (s ≡ r) × (position ≡ p) = refused_parts e in cc
 
 module _ (token_list : List ℕ) (line : Location) (numbers : LineNumbers) (lent : Lent) (made : Line) where
   verdict_stays : (v : Verdict) → Stays numbers.counts lent (accept_or token_list line numbers lent made v)

@@ -8,8 +8,7 @@ use Rattle.refusal.specs.declared.Refusal.TheVariants.{UnknownInstruction, Const
 use Rattle.lexer.specs.Tokens.{tokens}
 use Rattle.cursor.specs.Cursors.{start_index}
 use Rattle.descriptors.specs.Mnemonics.{mnemonic_name, mnemonic_location}
-use Rattle.emit_dispatch.specs.declared.LineAnswer.{LineAnswer}
-use Rattle.emit_dispatch.specs.declared.LineAnswer.TheVariants.{Made, Missed, OutOfRange}
+use Rattle.emit_dispatch.specs.LineAnswers.{LineAnswer, Made, Missed, OutOfRange}
 use Rattle.emit_dispatch.specs.Lines.{Line}
 use Rattle.emit_dispatch.specs.Lines.{pseudo_line}
 use Rattle.emit_pairs.specs.declared.Fault.{Fault}
@@ -21,7 +20,7 @@ use Rattle.emit_outcome.specs.declared.Meaning.{Meaning}
 use Rattle.emit_outcome.specs.declared.Meaning.TheVariants.{Table, Builtin, Neither}
 use Rattle.emit_outcome.specs.declared.FillCounts.{FillCounts}
 use Rattle.emit_outcome.specs.declared.LineNumbers.{LineNumbers}
-use Rattle.emit_outcome.specs.declared.EmitAnswer.TheVariants.{Done, Refused}
+use Rattle.emit_outcome.specs.Answer.{done_at, refused_at}
 use Rattle.emit_outcome.specs.Call.{Lent, Call, EmitOutcome}
 use Rattle.emit_outcome.specs.Checks.{list_stop, miss_refusal}
 use Rattle.emit_outcome.specs.Room.{new_pending, new_breakpoint, room_stop}
@@ -29,7 +28,7 @@ use Rattle.refusal.specs.Verdicts.{Verdict}
 
 -- "Lent bytes and fill counts then remain as at entry"
 abbrev pub refuse : FillCounts → Lent → ℕ → Refusal → EmitOutcome
-refuse counts lent position r = record { answer = Refused r position; counts = counts; lent = lent }
+refuse counts lent position r = record { answer = refused_at r position; counts = counts; lent = lent }
 
 -- a line's words, pending records and breakpoint record are appended, and the counts grow by them
 abbrev pub accept : (token_list : List ℕ) → Location → LineNumbers → Lent → Line → EmitOutcome
@@ -38,7 +37,7 @@ accept token_list line numbers lent made =
     let waits = new_pending token_list line numbers made.pairs in
     let pcs = new_breakpoint line numbers made.pairs in
     record {
-      answer = Done made.index made.form;
+      answer = done_at made.index made.form;
       counts = record {
         data_len = counts.data_len + 4 * length made.pairs;
         pending = counts.pending + length waits;

@@ -1,4 +1,5 @@
 pub mod Dispatch
+pub mod Answer
 pub mod Call
 pub mod Checks
 pub mod Room

@@ -1,11 +1,10 @@
 -- What an emit call returns, in document 01's numbers. Assumes nothing.
-use Rattle.std.specs.Prelude.{ℕ, ℤ, pos}
+use Rattle.std.specs.Prelude.{Ok, Err, ℕ, ℤ, pos}
 use Rattle.record.specs.declared.Location.{Location}
 use Rattle.refusal.specs.Numbers.{zero_location, numbered}
 use Rattle.loading.specs.declared.LoadForm.{LoadForm}
 use Rattle.loading.specs.declared.LoadForm.TheVariants.{Nothing, Addiu, Ori, Lui, BothHalves}
-use Rattle.emit_outcome.specs.declared.EmitAnswer.{EmitAnswer}
-use Rattle.emit_outcome.specs.declared.EmitAnswer.TheVariants.{Done, Refused}
+use Rattle.emit_outcome.specs.Answer.{EmitAnswer}
 
 -- "A refusal returns its number, a location and numbers a and b"; "A refusal returns it [the position] too"
 pub record LineReturned : Type 0 where
@@ -25,7 +24,7 @@ form_number BothHalves = 4
 
 -- "Where an answer is an enum, a definition gives this paper's number and values for each of the enum's cases." An accepted line has number 0.
 abbrev pub returned : EmitAnswer → LineReturned
-returned (Done position loaded) = record { number = 0; location = zero_location; a = pos (form_number loaded); b = 0; position = position }
-returned (Refused r position) =
-    let n = numbered r in
-    record { number = n.number; location = n.location; a = n.a; b = n.b; position = position }
+returned (Ok done) = record { number = 0; location = zero_location; a = pos (form_number done.loaded); b = 0; position = done.position }
+returned (Err refused) =
+    let n = numbered refused.refusal in
+    record { number = n.number; location = n.location; a = n.a; b = n.b; position = refused.position }

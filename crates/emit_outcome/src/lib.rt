@@ -11,6 +11,14 @@ pub const NO_REGION: u16 = 65535;
 // The most bytes that a region's data has.
 pub const MOST_DATA: usize = 65528;
 
+// The lists that a call only reads: the tokens, the line's mnemonic, the descriptors.
+#[derive(Clone, Copy)]
+pub struct Lists<'a> {
+    pub tokens: &'a [u8],
+    pub mnemonic: &'a [u8],
+    pub descriptors: &'a [u8],
+}
+
 // The caller's three fill counts. That of the region data is the data length.
 #[derive(Clone, Copy)]
 pub struct FillCounts {
@@ -34,11 +42,27 @@ pub struct LineNumbers {
     pub place: LinePlace,
 }
 
-// Either with the position at which reading stands then; an accepted line with the form of the constant that it loads.
+// An accepted line: the position behind it, and the form of the constant that it loads.
 #[derive(Clone, Copy)]
-pub enum EmitAnswer {
-    Done { position: u32, loaded: LoadForm },
-    Refused(Refusal, u32),
+pub struct DoneLine {
+    pub position: u32,
+    pub loaded: LoadForm,
+}
+
+// A refused line, with the position at which reading stands then.
+#[derive(Clone, Copy)]
+pub struct RefusedLine {
+    pub refusal: Refusal,
+    pub position: u32,
+}
+
+pub type EmitAnswer = Result<DoneLine, RefusedLine>;
+
+// An accepted line's answer, and the counts that have grown by it.
+#[derive(Clone, Copy)]
+pub struct Appended {
+    pub done: DoneLine,
+    pub counts: FillCounts,
 }
 
 // An emit call's answer and counts.

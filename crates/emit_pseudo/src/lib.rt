@@ -52,6 +52,7 @@ pub fn do_abs_instruction(job: Job, operands: Operands) -> EmitInstruction
     emit_pairs::with(shift).push(xor, None).push(sub, None)
 }
 
+// kept: the flag is what the line's name says, and chooses an opcode; so it is in `branch_opcode`.
 fn set_opcode(unsigned: bool) -> Opcode
     ensures { result ≡ set_opcode unsigned }
 {

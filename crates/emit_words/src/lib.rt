@@ -172,6 +172,7 @@ pub fn fp_2_register_word(op: Opcode, fmt: Format, fields: FP2Fields) -> u32
 }
 
 // A condition code above two bits, the lower of which is the flag; bits past the byte are lost.
+// kept: the flag is a bit of the word here and below, and switches no step.
 fn code_bits(code: u64, flag: bool) -> u8
     ensures { result ≡ code_bits code flag }
 {

@@ -2,7 +2,7 @@
 use Rattle.std.specs.Prelude.{ℕ, zero, suc, ◌+◌, ◌-◌, ◌*◌, List, [], ◌∷◌, ◌++◌, length}
 use Rattle.record.specs.Stores.{le16_bytes, le32_bytes, le64_bytes, record_bytes}
 use Rattle.loading.specs.declared.LoadForm.{LoadForm}
-use Rattle.emit_outcome.specs.declared.EmitAnswer.TheVariants.{Done}
+use Rattle.emit_outcome.specs.Answer.{done_at}
 use Rattle.emit_outcome.specs.Call.{Call, EmitOutcome}
 
 -- a location of zeros
@@ -121,7 +121,7 @@ abbrev pub emits : (position : ℕ) → LoadForm → List ℕ → EmitOutcome
 emits position loaded words =
     let n = length words in
     record {
-      answer = Done position loaded;
+      answer = done_at position loaded;
       counts = record { data_len = 4 * n; pending = 0; breakpoints = 12 + 4 * n };
       lent = record {
         region_data = as_bytes words ++ zeros (20 - 4 * n);

@@ -1,66 +1,56 @@
 // What `find_label_cases` prints of a lookup (document 02, P13), from the bytes that it reads to those that it prints.
 #![tactic(auto)]
 
-ghost use Rattle.std.specs.Prelude.{◌≤◌, length};
-ghost use Rattle.text.specs.Text.{Put};
-ghost use Rattle.find_text.specs.FindText.{address_line, found_lines, answer_text, find_text};
+ghost use Rattle.std.specs.Prelude.{◌≡◌, []};
+ghost use Rattle.find_text.specs.FindText.{address_line, found_lines, find_text};
 
 use labels::Found;
 use program::Program;
-use refusal::Refusal;
+use text::Printed;
 
-// Room for two lines, or for a refusal.
-pub const MOST: usize = 128;
-
-fn put_address(out: &mut [u8], address: Option<u32>) -> usize
-    requires { 128 ≤ length out.old }
-    ensures { Put out.old 0 (address_line address) out.new result }
+fn put_address(out: &mut Printed, address: Option<u32>)
+    requires { out.old ≡ [] }
+    ensures { out.new ≡ address_line address }
 {
     match address {
         Some(value) => {
-            let digits_at = text::put_text(&mut *out, 0, b"found ");
-            let end = text::put_hex(&mut *out, digits_at, value, 8);
-            text::put_byte(out, end, b'\n')
+            out.push(b"found ");
+            out.push_hex(value, 8);
+            out.push_byte(b'\n');
         }
-        None => text::put_text(out, 0, b"none\n"),
+        None => out.push(b"none\n"),
     }
 }
 
-fn put_found(out: &mut [u8], found: Found) -> usize
-    requires { 128 ≤ length out.old }
-    ensures { Put out.old 0 (found_lines found) out.new result }
+#[tactic(auto, using(text::proofs::TextLaws::last_most, crate::proofs::FindTextLaws::address_most))]
+fn put_found(out: &mut Printed, found: Found)
+    requires { out.old ≡ [] }
+    ensures { out.new ≡ found_lines found }
 {
-    let address = found.address;
-    let count_at = put_address(&mut *out, address);
-    text::put_number_line(out, count_at, b"compared", found.compared as u64)
-}
-
-fn put_answer(out: &mut [u8], answer: Result<Found, Refusal>) -> usize
-    requires { 128 ≤ length out.old }
-    ensures { Put out.old 0 (answer_text answer) out.new result }
-{
-    match answer {
-        Ok(found) => put_found(out, found),
-        Err(refusal) => text::put_refusal(out, 0, refusal::numbers(refusal)),
-    }
+    put_address(&mut *out, found.address);
+    out.push_number_line(b"compared", found.compared as u64);
 }
 
 // The text that is printed for an input: the labels and the name, each after its count, and the source.
-pub fn find_label(input: &[u8], out: &mut [u8; MOST]) -> usize
-    ensures { Put out.old 0 (find_text input.now) out.new result }
+#[tactic(auto, using(text::proofs::TextLaws::refused_most), unfolding(crate::specs::FindText::find_text))]
+pub fn find_label(input: &[u8], out: &mut Printed)
+    ensures { out.new ≡ find_text input.now }
 {
     let source = input::word_or_zero(input::behind_lists(input, 2), 0);
-    put_answer(
-        out,
-        label_finder::find_label(input::list_of(input, 0), input::list_of(input, 1), source),
-    )
+    out.clear();
+    match label_finder::find_label(input::list_of(input, 0), input::list_of(input, 1), source) {
+        Ok(found) => put_found(out, found),
+        Err(refusal) => out.push_refusal(refusal::numbers(refusal)),
+    }
 }
 
 // `find_label` as a program.
 pub struct FindLabelText;
 
-impl Program<{ MOST }> for FindLabelText {
-    fn print(&self, input: &[u8], out: &mut [u8; MOST]) -> usize {
-        find_label(input, out)
+impl Program for FindLabelText {
+    ghost text_of = { find_text };
+
+    fn print(&self, input: &[u8], out: &mut Printed) {
+        find_label(input, out);
     }
 }

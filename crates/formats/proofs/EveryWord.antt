@@ -15,7 +15,7 @@ use Rattle.operand.specs.Answers.{Answer, Got, Missed}
 use Rattle.operand_list.specs.OperandLists.{AskedAll, read_operands}
 use Rattle.emit_pairs.specs.declared.InstructionPair.{InstructionPair}
 use Rattle.emit_pairs.specs.Pairs.{is_immediate}
-use Rattle.emit_dispatch.specs.declared.LineAnswer.TheVariants.{Made}
+use Rattle.emit_dispatch.specs.LineAnswers.{Made}
 use Rattle.emit_dispatch.specs.Wants.{encoding_wants, pseudo_wants}
 use Rattle.loading.specs.declared.LoadForm.{LoadForm}
 use Rattle.emit_dispatch.proofs.LinesLaws.{within_made}

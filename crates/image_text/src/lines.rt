@@ -1,45 +1,40 @@
-// The lines of an image. Each function answers where its line ends.
-ghost use Rattle.std.specs.Prelude.{◌+◌, ◌≤◌, length};
-ghost use Rattle.text.specs.Text.{Put, hex_bytes};
-ghost use Rattle.image_text.specs.Image.{eight, entry_line, region_line, word_line};
+// The lines of an image.
+ghost use Rattle.std.specs.Prelude.{◌≡◌, ◌++◌, ◌+◌, ◌≤◌, length};
+ghost use Rattle.text.specs.Text.{word_text};
+ghost use Rattle.image_text.specs.Image.{entry_line, region_line, word_line};
 
-pub(crate) fn put_entry(out: &mut [u8], at: usize, entry: u32) -> usize
-    requires { at + length (entry_line entry) ≤ length out.old }
-    ensures { Put out.old at (entry_line entry) out.new result }
+use text::{MOST, Printed};
+
+#[tactic(auto, using(crate::proofs::ImageLaws::entry_length, std::proofs::lemmas::Grind::common_steps), unfolding(crate::specs::Image::entry_line))]
+pub(crate) fn put_entry(out: &mut Printed, entry: u32)
+    requires { length out.old + length (entry_line entry) ≤ MOST }
+    ensures { out.new ≡ out.old ++ entry_line entry }
 {
-    let entry_at = text::put_text(&mut *out, at, b"entry ");
-    let end = text::put_hex(&mut *out, entry_at, entry, 8);
-    text::put_byte(out, end, b'\n')
+    out.push(b"entry ");
+    out.push_hex(entry, 8);
+    out.push_byte(b'\n');
 }
 
-pub(crate) fn put_region_line(out: &mut [u8], at: usize, number: u64, address: u32) -> usize
-    requires { at + length (region_line number address) ≤ length out.old }
-    ensures { Put out.old at (region_line number address) out.new result }
+#[tactic(auto, using(crate::proofs::ImageLaws::region_length), unfolding(crate::specs::Image::region_line))]
+pub(crate) fn put_region_line(out: &mut Printed, number: u64, address: u32)
+    requires { length out.old + length (region_line number address) ≤ MOST }
+    ensures { out.new ≡ out.old ++ region_line number address }
 {
-    let number_at = text::put_text(&mut *out, at, b"region");
-    let blank_at = text::put_field(&mut *out, number_at, number);
-    let address_at = text::put_byte(&mut *out, blank_at, b' ');
-    let end = text::put_hex(&mut *out, address_at, address, 8);
-    text::put_byte(out, end, b'\n')
+    out.push(b"region");
+    out.push_field(number);
+    out.push_byte(b' ');
+    out.push_hex(address, 8);
+    out.push_byte(b'\n');
 }
 
-pub(crate) fn put_word(out: &mut [u8], at: usize, pc: u32, word: u32) -> usize
-    requires { at + length (word_line pc (eight word)) ≤ length out.old }
-    ensures { Put out.old at (word_line pc (eight word)) out.new result }
+// The line of a word, or of a last part word.
+#[tactic(auto, using(crate::proofs::ImageLaws::word_length), unfolding(crate::specs::Image::word_line))]
+pub(crate) fn put_row(out: &mut Printed, pc: u32, bytes: &[u8])
+    requires { length out.old + length (word_line pc (word_text bytes.now)) ≤ MOST }
+    ensures { out.new ≡ out.old ++ word_line pc (word_text bytes.now) }
 {
-    let blank_at = text::put_hex(&mut *out, at, pc, 8);
-    let word_at = text::put_byte(&mut *out, blank_at, b' ');
-    let end = text::put_hex(&mut *out, word_at, word, 8);
-    text::put_byte(out, end, b'\n')
-}
-
-// A last part word: its bytes in the order of memory.
-pub(crate) fn put_part(out: &mut [u8], at: usize, pc: u32, bytes: &[u8]) -> usize
-    requires { at + length (word_line pc (hex_bytes bytes.now)) ≤ length out.old }
-    ensures { Put out.old at (word_line pc (hex_bytes bytes.now)) out.new result }
-{
-    let blank_at = text::put_hex(&mut *out, at, pc, 8);
-    let bytes_at = text::put_byte(&mut *out, blank_at, b' ');
-    let end = text::put_hex_bytes(&mut *out, bytes_at, bytes);
-    text::put_byte(out, end, b'\n')
+    out.push_hex(pc, 8);
+    out.push_byte(b' ');
+    out.push_word(bytes);
+    out.push_byte(b'\n');
 }

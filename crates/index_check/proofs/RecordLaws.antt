@@ -1,25 +1,23 @@
 -- What the check of one number rests on: the pending's name and source, and what these stand for. Assumes nothing.
 use Rattle.std.specs.Prelude.{ℕ, ◌≤◌, ◌<◌, List, Bool, true, false, ◌≡◌, refl, length, get_or, None, Option, Some}
-use Rattle.std.proofs.Common.{arith, sym, ap, ap₂, ◌∙◌}
+use Rattle.std.proofs.Common.{arith, sym, ap, ◌∙◌, subst}
 use Rattle.record.specs.Bytes.{le16, part, same_bytes}
 use Rattle.record.proofs.BytesLaws.{same_eq, eq_same}
 use Rattle.record.specs.Records.{places}
-use Rattle.name_order.specs.Order.{then_by, numbers}
 use Rattle.address_label.specs.LabelBytes.{name_bytes}
 use Rattle.address_label.specs.declared.NamedLabel.{NamedLabel}
 use Rattle.address_label.specs.declared.AddressLabel.{AddressLabel}
 use Rattle.address_label.specs.declared.AddressLabel.TheVariants.{Constant, Label}
 use Rattle.pending.specs.Pendings.{label_of}
-use Rattle.label_uses.specs.Uses.{UseKey, known_order, use_order, key_for}
-use Rattle.label_uses.proofs.UseOrderLaws.{never, use_same, use_is, standings_decide}
+use Rattle.label_uses.specs.Uses.{UseKey, use_order, key_for}
+use Rattle.label_uses.proofs.UseOrderLaws.{never, use_same, use_is}
 use Rattle.label_uses.proofs.FitsLaws.{key_name}
-use Rattle.label_uses.specs.ReadUse.{key_with, key_read}
 use Rattle.label_uses.specs.Says.{key_in, key_at}
-use Rattle.label_uses.specs.declared.Standing.{Standing}
 use Rattle.index_check.specs.Checks.{Tells, source_in, StandsFrom}
 use Rattle.index_check.proofs.NumbersLaws.{OneRight}
 use Rattle.std.specs.declared.cmp.Ordering.TheVariants.{Less, Equal, Greater}
 use Rattle.std.specs.declared.cmp.Ordering.{Ordering}
+use Rattle.std.specs.Ordering.{is_eq}
 
 -- ---- what a test says
 pub told : (P : Type 0) (b : Bool) → b ≡ true → Tells b P → P
@@ -34,43 +32,14 @@ pub tells_as : (P Q : Type 0) (b : Bool) → (P → Q) → (Q → P) → Tells b
 tells_as P Q true f g h = f h
 tells_as P Q false f g h = λ q. h (g q)
 
--- ---- standings, by their order
-abbrev standing_order : Standing → Standing → Ordering
-standing_order a b = then_by (known_order a.known b.known) (numbers a.owner b.owner)
-
-pub equal_keys : (name : List ℕ) (a b : Standing) → standing_order a b ≡ Equal → key_with name a ≡ key_with name b
-equal_keys name a b e = use_is (key_with name a) (key_with name b) (standings_decide (key_with name a) (key_with name b) refl ∙ e)
-
-equal_order : (name : List ℕ) (a b : Standing) → key_with name a ≡ key_with name b → standing_order a b ≡ Equal
-equal_order name a b k =
-    sym (standings_decide (key_with name a) (key_with name b) refl) ∙ ap (λ (x : UseKey). use_order x (key_with name b)) k ∙ use_same (key_with name b)
-
-module _ (labels : List ℕ) (source : ℕ) (name : List ℕ) (met standing : Standing) (m : key_with name met ≡ key_for labels source name) where
-  pub stands_same : standing_order met standing ≡ Equal → key_for labels source name ≡ key_with name standing
-  stands_same e = sym m ∙ equal_keys name met standing e
-
-  pub stands_less : standing_order met standing ≡ Less → key_for labels source name ≡ key_with name standing → ⊥
-  stands_less e k = let z = equal_order name met standing (m ∙ k) in never (cc)
-
-  pub stands_more : standing_order met standing ≡ Greater → key_for labels source name ≡ key_with name standing → ⊥
-  stands_more e k = let z = equal_order name met standing (m ∙ k) in never (cc)
-
--- ---- the key of the last record beside that of the next
-module _ (s : List ℕ) (last at : ℕ) (name : List ℕ) (standing : Standing) (n : name ≡ (key_read s last).name) (t : standing ≡ (key_read s last).standing) where
-  key_last : key_with name standing ≡ key_read s last
-  key_last = ap₂ key_with n t
-
-  order_last : (o : Ordering) → use_order (key_with name standing) (key_read s at) ≡ o → use_order (key_read s last) (key_read s at) ≡ o
-  order_last o e = ap (λ (k : UseKey). use_order k (key_read s at)) (sym key_last) ∙ e
-
-  pub rises_less : use_order (key_with name standing) (key_read s at) ≡ Less → use_order (key_read s last) (key_read s at) ≡ Less
-  rises_less e = order_last Less e
-
-  pub rises_same : use_order (key_with name standing) (key_read s at) ≡ Equal → use_order (key_read s last) (key_read s at) ≡ Less → ⊥
-  rises_same e h = let z = order_last Equal e in never (cc)
-
-  pub rises_more : use_order (key_with name standing) (key_read s at) ≡ Greater → use_order (key_read s last) (key_read s at) ≡ Less → ⊥
-  rises_more e h = let z = order_last Greater e in never (cc)
+-- ---- keys, by their order
+pub key_tells : (a b : UseKey) (same : Bool) → same ≡ is_eq (use_order a b) → Tells same (b ≡ a)
+key_tells a b same e = go (use_order a b) refl
+  where
+    go : (o : Ordering) → use_order a b ≡ o → Tells same (b ≡ a)
+    go Equal o = let f : same ≡ true = e ∙ ap is_eq o in subst (λ (t : Bool). Tells t (b ≡ a)) (sym f) (sym (use_is a b o))
+    go Less o = let f : same ≡ false = e ∙ ap is_eq o in subst (λ (t : Bool). Tells t (b ≡ a)) (sym f) (λ (q : b ≡ a). let z : use_order a b ≡ Equal = ap (use_order a) q ∙ use_same a in never (cc))
+    go Greater o = let f : same ≡ false = e ∙ ap is_eq o in subst (λ (t : Bool). Tells t (b ≡ a)) (sym f) (λ (q : b ≡ a). let z : use_order a b ≡ Equal = ap (use_order a) q ∙ use_same a in never (cc))
 
 -- ---- the source of a label's name
 abbrev source_by : NamedLabel → Bool → Option ℕ
@@ -96,45 +65,45 @@ module _ (labels pending name : List ℕ) where
           ∙ ap (λ (m : ℕ). Some (key_for labels m name)) k
       go false b f = never (cc)
 
-  pub other_key : (x : AddressLabel) (standing : Standing) → source_in pending name x ≡ None → key_in labels pending x ≡ Some (key_with name standing) → ⊥
-  other_key (Constant value) standing e k = never (cc)
-  other_key (Label l) standing e k = go (same_bytes (part pending l.name_at l.name_len) name) refl e
+  pub other_key : (x : AddressLabel) (key : UseKey) → key.name ≡ name → source_in pending name x ≡ None → key_in labels pending x ≡ Some key → ⊥
+  other_key (Constant value) key i e k = never (cc)
+  other_key (Label l) key i e k = go (same_bytes (part pending l.name_at l.name_len) name) refl e
     where
       go : (b : Bool) → same_bytes (part pending l.name_at l.name_len) name ≡ b → ◌≡◌ {A = (Option ℕ)} (elim b [ true ↦ Some l.location.source | false ↦ None ]) None → ⊥
       go true b f = never (cc)
       go false b f =
           let bytes = part pending l.name_at l.name_len in
-          let q : key_for labels l.location.source bytes ≡ key_with name standing = cc in
-          let n : bytes ≡ name = sym (key_name labels l.location.source bytes) ∙ ap (λ (u : UseKey). u.name) q in
+          let q : key_for labels l.location.source bytes ≡ key = cc in
+          let n : bytes ≡ name = sym (key_name labels l.location.source bytes) ∙ ap (λ (u : UseKey). u.name) q ∙ i in
           let z : same_bytes bytes name ≡ true = ap (λ (m : List ℕ). same_bytes m name) n ∙ eq_same name in
           never (cc)
 
 -- ---- one number of a record, of which n is the value and p the pending's place
-module _ (labels pending ps : List ℕ) (are : ps ≡ places pending) (s : List ℕ) (i least n p : ℕ) (value : n ≡ le16 s i) (place : p ≡ get_or ps n 0) (name : List ℕ) (standing : Standing) where
+module _ (labels pending ps : List ℕ) (are : ps ≡ places pending) (s : List ℕ) (i least n p : ℕ) (value : n ≡ le16 s i) (place : p ≡ get_or ps n 0) (key : UseKey) where
   key_here : key_at labels pending (le16 s i) ≡ key_in labels pending (label_of pending p)
   key_here =
       ap (λ (q : ℕ). key_in labels pending (label_of pending q))
       (ap (λ (m : ℕ). get_or (places pending) m 0) (sym value) ∙ ap (λ (l : List ℕ). get_or l n 0) (sym are) ∙ sym place)
 
-  pub not_above : (n < least) → OneRight labels pending (key_with name standing) s i least → ⊥
+  pub not_above : (n < least) → OneRight labels pending key s i least → ⊥
   not_above h o = absurd (omega (arith, o.above))
 
-  pub not_below : (length ps ≤ n) → OneRight labels pending (key_with name standing) s i least → ⊥
+  pub not_below : (length ps ≤ n) → OneRight labels pending key s i least → ⊥
   not_below h o = absurd (omega (arith, o.below, ap length are))
 
-  pub not_named : source_in pending name (label_of pending p) ≡ None → OneRight labels pending (key_with name standing) s i least → ⊥
-  not_named e o = other_key labels pending name (label_of pending p) standing e (sym key_here ∙ o.named)
+  pub not_named : source_in pending key.name (label_of pending p) ≡ None → OneRight labels pending key s i least → ⊥
+  not_named e o = other_key labels pending key.name (label_of pending p) key refl e (sym key_here ∙ o.named)
 
-  pub not_standing : (source : ℕ) → source_in pending name (label_of pending p) ≡ Some source → (key_for labels source name ≡ key_with name standing → ⊥)
-      → OneRight labels pending (key_with name standing) s i least → ⊥
-  not_standing source e h o = let k = sym (source_key labels pending name (label_of pending p) source e) ∙ sym key_here ∙ o.named in h (cc)
+  pub not_standing : (source : ℕ) → source_in pending key.name (label_of pending p) ≡ Some source → (key_for labels source key.name ≡ key → ⊥)
+      → OneRight labels pending key s i least → ⊥
+  not_standing source e h o = let k = sym (source_key labels pending key.name (label_of pending p) source e) ∙ sym key_here ∙ o.named in h (cc)
 
-  pub right_one : (source : ℕ) → least ≤ n → n < length ps → source_in pending name (label_of pending p) ≡ Some source → key_for labels source name ≡ key_with name standing
-      → OneRight labels pending (key_with name standing) s i least
+  pub right_one : (source : ℕ) → least ≤ n → n < length ps → source_in pending key.name (label_of pending p) ≡ Some source → key_for labels source key.name ≡ key
+      → OneRight labels pending key s i least
   right_one source h k e f = record {
     above = omega arith;
     below = omega (arith, ap length are);
-    named = key_here ∙ source_key labels pending name (label_of pending p) source e ∙ ap Some f;
+    named = key_here ∙ source_key labels pending key.name (label_of pending p) source e ∙ ap Some f;
   }
 
 -- ---- the source that was looked up last

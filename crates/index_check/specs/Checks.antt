@@ -1,9 +1,7 @@
 -- What the check of a handed-in index looks at: each record, its key behind the last one's, and its numbers. Assumes nothing.
-use Rattle.std.specs.Prelude.{ℕ, zero, suc, ◌+◌, ◌≤◌, ◌<◌, List, [], ◌∷◌, Bool, true, false, ◌≡◌, length, eqb, None, Option, Some}
+use Rattle.std.specs.Prelude.{ℕ, zero, suc, ◌+◌, ◌≤◌, ◌<◌, List, [], ◌∷◌, Bool, true, false, ◌≡◌, length, get_or, eqb, None, Option, Some}
 use Rattle.record.specs.Bytes.{byte_at, le16, part, same_bytes}
-use Rattle.record.specs.Records.{next, places, first_bad}
-use Rattle.names.specs.Owners.{has_owned_name}
-use Rattle.name_index.specs.Index.{IndexOf}
+use Rattle.record.specs.Records.{next, places, first_bad, limit}
 use Rattle.address_label.specs.declared.AddressLabel.{AddressLabel}
 use Rattle.address_label.specs.declared.AddressLabel.TheVariants.{Constant, Label}
 use Rattle.pending.specs.Pendings.{pending_ok}
@@ -39,12 +37,16 @@ pub data NumbersFrom (labels pending : List ℕ) (key : UseKey) (s : List ℕ) :
   one_right : {left i least : ℕ} → least ≤ le16 s i → le16 s i < length (places pending) → key_at labels pending (le16 s i) ≡ Some key
       → NumbersFrom labels pending key s left (i + 2) (le16 s i + 1) → NumbersFrom labels pending key s (suc left) i least
 
--- labels that have names, with an index of them, and pendings that keep their layout, with their places
-pub record Lists (labels order pending ps : List ℕ) : Type 0 where
-  pub labels_named : first_bad (has_owned_name 4 labels) (places labels) ≡ None
-  pub ordered : IndexOf 4 labels order
-  pub few : length order < 65536
+pub record ListsIn : Type 0 where
+  pub labels : List ℕ
+  pub pending : List ℕ
+
+-- bytes of labels, and pendings that keep their layout, with their places
+pub record Lists (labels pending ps : List ℕ) : Type 0 where
+  pub label_bytes : (i : ℕ) → get_or labels i 0 < 256
+  pub pending_bytes : (i : ℕ) → get_or pending i 0 < 256
   pub kept : first_bad (pending_ok 16 pending) (places pending) ≡ None
+  pub short : length pending ≤ limit
   pub places_are : ps ≡ places pending
 
 -- the record at `at`, behind the one at `last` if it is not the first

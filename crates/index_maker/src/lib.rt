@@ -1,16 +1,14 @@
 // make_index: an index of label uses made afresh from a pending list and a label list, or a refusal that leaves every lent byte.
 #![tactic(auto)]
 
-ghost use Rattle.std.specs.Prelude.{◌≡◌, ◌≤◌, ◌<◌, length};
-ghost use Rattle.record.specs.Records.{places, first_bad, limit};
-ghost use Rattle.names.specs.Owners.{has_owned_name};
-ghost use Rattle.name_index.specs.Index.{IndexOf};
-ghost use Rattle.pending.specs.Pendings.{pending_ok};
+ghost use Rattle.std.specs.Prelude.{◌≡◌, ◌≤◌, length};
+ghost use Rattle.record.specs.Records.{limit};
 ghost use Rattle.label_uses.specs.UseBytes.{index_of};
 ghost use Rattle.indexed_outcome.specs.Make.{make_layouts, room_for, make_by, make_outcome, made_of};
 
 use record::Location;
 use refusal::Refusal;
+use use_adding::{LabelIndex, Pendings};
 
 // Refusal 1: the first buffer that breaks its layout.
 fn check_layouts(pending: &[u8], fill: usize, labels: &[u8], index: &[u8]) -> Result<(), Refusal>
@@ -38,19 +36,15 @@ fn no_space() -> Result<u32, Refusal>
 // The index into a buffer shorter than the pending list: it is made beside it, and copied if it has room.
 fn fill_shorter(
     index: &mut [u8],
-    pending: &[u8],
-    labels: &[u8],
-    order: &[u16],
+    pending: &Pendings<'_>,
+    labels: &LabelIndex<'_>,
 ) -> Result<u32, Refusal>
-    requires pending_value { first_bad (pending_ok 16 pending.now) (places pending.now) ≡ None }
-    requires pending_len_bound { (length pending.now ≤ limit) × (length index.old ≤ limit) }
-    requires labels_value { first_bad (has_owned_name 4 labels.now) (places labels.now) ≡ None }
-    requires index_of { IndexOf 4 labels.now order.now × (length order.now < 65536) }
+    requires { (length pending.now ≤ limit) × (length index.old ≤ limit) }
     ensures { make_by (room_for (index_of labels.now pending.now) index.old) (index_of labels.now pending.now) index.old
         ≡ made_of result index.new }
 {
     let mut made = [0u8; record::LIMIT];
-    let n = use_adding::fill_index(&mut made, pending, labels, order);
+    let n = use_adding::fill_index(&mut made, pending, labels);
     if n > index.len() {
         return no_space();
     }
@@ -61,21 +55,17 @@ fn fill_shorter(
 // The index at the start of its buffer. One as long as the pending list always has room for it.
 fn fill_or_refuse(
     index: &mut [u8],
-    pending: &[u8],
-    labels: &[u8],
-    order: &[u16],
+    pending: &Pendings<'_>,
+    labels: &LabelIndex<'_>,
 ) -> Result<u32, Refusal>
-    requires pending_value { first_bad (pending_ok 16 pending.now) (places pending.now) ≡ None }
-    requires pending_len_bound { (length pending.now ≤ limit) × (length index.old ≤ limit) }
-    requires labels_value { first_bad (has_owned_name 4 labels.now) (places labels.now) ≡ None }
-    requires index_of { IndexOf 4 labels.now order.now × (length order.now < 65536) }
+    requires { length index.old ≤ limit }
     ensures { make_by (room_for (index_of labels.now pending.now) index.old) (index_of labels.now pending.now) index.old
         ≡ made_of result index.new }
 {
-    if index.len() < pending.len() {
-        return fill_shorter(index, pending, labels, order);
+    if index.len() < pending.bytes().len() {
+        return fill_shorter(index, pending, labels);
     }
-    Ok(use_adding::fill_index(index, pending, labels, order) as u32)
+    Ok(use_adding::fill_index(index, pending, labels) as u32)
 }
 
 // Makes the index of the first `fill` bytes of a pending buffer by a label list, and answers its fill count. Bytes behind it stay.
@@ -91,7 +81,7 @@ pub fn make_index(
     check_layouts(pending, kept, labels, &*index)?;
     let mut order = [0u16; labels::MOST];
     let mut spare = [0u16; labels::MOST];
-    let n = labels::make_index(labels, &mut order, &mut spare);
-    refusal::check_names(1, labels::first_repeat(labels, &order[..n]))?;
-    fill_or_refuse(index, &pending[..kept], labels, &order[..n])
+    let labels = LabelIndex::make(labels, &mut order, &mut spare);
+    refusal::check_names(1, labels.first_repeat())?;
+    fill_or_refuse(index, &Pendings::new(&pending[..kept]), &labels)
 }

@@ -1,51 +1,55 @@
 // What `make_index` does (document 02, P1), from the bytes that it reads to those that it prints.
 #![tactic(auto)]
 
-ghost use Rattle.std.specs.Prelude.{◌≤◌, length};
+ghost use Rattle.std.specs.Prelude.{◌≡◌, [], ◌≤◌, length};
 ghost use Rattle.indexed_outcome.specs.Make.{make_outcome};
-ghost use Rattle.text.specs.Text.{Put};
 ghost use Rattle.index_text.specs.IndexText.{made_text, outcome_text, make_index_text};
 
 use program::Program;
+use text::Printed;
 
 // The fill count and the whole buffer.
-fn put_made(out: &mut [u8], fill: u32, index: &[u8]) -> usize
-    requires { (400000 ≤ length out.old) × (length index.now ≤ 65537) }
-    ensures { Put out.old 0 (made_text fill index.now) out.new result }
+#[tactic(auto, using(text::proofs::TextLaws::last_most, bytes_line::proofs::BytesLineLaws::bytes_length, std::proofs::lemmas::Grind::common_steps))]
+fn put_made(out: &mut Printed, fill: u32, index: &[u8])
+    requires { (out.old ≡ []) × (length index.now ≤ 65537) }
+    ensures { out.new ≡ made_text fill index.now }
 {
-    let index_at = text::put_number_line(&mut *out, 0, b"fill", fill as u64);
-    bytes_line::put_bytes(out, index_at, b"index ", index)
+    out.push_number_line(b"fill", fill as u64);
+    bytes_line::push_bytes(out, b"index ", index);
 }
 
 // The index, or the refusal alone.
-fn put_outcome(out: &mut [u8], pending: &[u8], fill: u32, labels: &[u8], index: &mut [u8]) -> usize
-    requires { (400000 ≤ length out.old) × (length index.old ≤ 65537) }
-    ensures { Put out.old 0
-        (outcome_text (make_outcome fill pending.now labels.now index.old)) out.new result }
+#[tactic(auto, using(text::proofs::TextLaws::refused_most))]
+fn put_outcome(out: &mut Printed, pending: &[u8], fill: u32, labels: &[u8], index: &mut [u8])
+    requires { (out.old ≡ []) × (length index.old ≤ 65537) }
+    ensures { out.new ≡ outcome_text (make_outcome fill pending.now labels.now index.old) }
 {
     match index_maker::make_index(pending, fill, labels, &mut *index) {
         Ok(count) => put_made(out, count, &*index),
-        Err(refusal) => text::put_refusal(out, 0, refusal::numbers(refusal)),
+        Err(refusal) => out.push_refusal(refusal::numbers(refusal)),
     }
 }
 
 // The text that `make_index` prints for an input. Of an index buffer over its limit one byte more than the limit is held.
-pub fn make_index(input: &[u8], out: &mut [u8; text::MOST]) -> usize
-    ensures { Put out.old 0 (make_index_text input.now) out.new result }
+pub fn make_index(input: &[u8], out: &mut Printed)
+    ensures { out.new ≡ make_index_text input.now }
 {
     let mut index = [0u8; record::LIMIT + 1];
     let kept = input::hold(&mut index, input::list_of(input, 2));
     let fill = input::word_or_zero(input::behind_lists(input, 3), 0);
     let pending = input::list_of(input, 0);
     let labels = input::list_of(input, 1);
-    put_outcome(out, pending, fill, labels, &mut index[..kept])
+    out.clear();
+    put_outcome(out, pending, fill, labels, &mut index[..kept]);
 }
 
 // `make_index` as a program.
 pub struct MakeIndexText;
 
-impl Program<{ text::MOST }> for MakeIndexText {
-    fn print(&self, input: &[u8], out: &mut [u8; text::MOST]) -> usize {
-        make_index(input, out)
+impl Program for MakeIndexText {
+    ghost text_of = { make_index_text };
+
+    fn print(&self, input: &[u8], out: &mut Printed) {
+        make_index(input, out);
     }
 }

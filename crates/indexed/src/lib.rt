@@ -5,7 +5,7 @@ ghost use Rattle.emit_outcome.specs.Call.{lent_of, call_of};
 ghost use Rattle.indexed_outcome.specs.Indexed.{indexed_call_of};
 ghost use Rattle.indexed_outcome.specs.Contract.{IndexedBy};
 
-use emit_outcome::{EmitAnswer, LinePlace};
+use emit_outcome::{EmitAnswer, LinePlace, Lists};
 use indexed_outcome::{IndexedCounts, IndexedEmitted};
 use jobs::Job;
 
@@ -28,10 +28,13 @@ pub fn do_indexed(
         labels.now index.old counts.old.index)
         result counts.new (lent_of «data».new pending.new breakpoints.new) index.new }
 {
-    let out = indexed_core::do_indexed_job(
+    let lists = Lists {
         tokens,
         mnemonic,
         descriptors,
+    };
+    let out = indexed_core::do_indexed_job(
+        lists,
         data,
         pending,
         breakpoints,
@@ -64,10 +67,13 @@ pub fn do_indexed_line(
         labels.now index.old counts.index)
         result.answer result.counts (lent_of «data».new pending.new breakpoints.new) index.new }
 {
-    indexed_core::do_indexed_job(
+    let lists = Lists {
         tokens,
         mnemonic,
         descriptors,
+    };
+    indexed_core::do_indexed_job(
+        lists,
         data,
         pending,
         breakpoints,

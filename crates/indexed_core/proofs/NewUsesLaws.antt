@@ -13,14 +13,18 @@ use Rattle.pending.specs.declared.Origin.{Origin}
 use Rattle.emit_pairs.specs.declared.InstructionPair.{InstructionPair}
 use Rattle.emit_bytes.specs.Appended.{onward, pair_bytes, pendings_bytes}
 use Rattle.emit_dispatch.specs.declared.LineEmit.{LineEmit}
-use Rattle.emit_dispatch.specs.Lines.{Line}
 use Rattle.emit_outcome.specs.Call.{Call, EmitOutcome}
-use Rattle.emit_outcome.specs.Dispatch.{meaning}
-use Rattle.emit_outcome.specs.Emit.{emit_outcome}
-use Rattle.emit_outcome.specs.declared.EmitAnswer.TheVariants.{Done}
+use Rattle.lexer.specs.Tokens.{tokens}
+use Rattle.cursor.specs.Cursors.{start_index}
+use Rattle.emit_dispatch.specs.Lines.{pseudo_line}
+use Rattle.emit_outcome.specs.Dispatch.{meaning, table_line}
+use Rattle.record.specs.declared.Location.{Location}
+use Rattle.emit_outcome.specs.Emit.{line_outcome, emit_outcome}
+use Rattle.emit_outcome.specs.Answer.{done_at}
 use Rattle.emit_outcome.specs.declared.Meaning.{Meaning}
 use Rattle.emit_outcome.specs.declared.Meaning.TheVariants.{Table, Builtin, Neither}
-use Rattle.emit_checks.specs.Made.{pairs_of}
+use Rattle.emit_checks.specs.Made.{made_line}
+use Rattle.emit_core.proofs.EmitLaws.{made_pairs}
 use Rattle.emit_core.specs.Read.{LineFor}
 use Rattle.loading.specs.declared.LoadForm.{LoadForm}
 use Rattle.finished_words.specs.Listed.{Bytes}
@@ -76,25 +80,24 @@ module _ (labels names : List ℕ) where
       ∙ ap₂ (λ (n : ℕ) (us : List Use). line_uses labels names n ps us) a.number_is a.uses_are
 
 -- ---- an accepted call
-module _ (job : Job) (c : Call) (known : Bool) (made : LineEmit) where
+module _ (job : Job) (c : Call) (line : Location) (made : LineEmit) (position : ℕ) (loaded : LoadForm) (done : (line_outcome c.token_list line c.numbers c.lent (made_line made)).answer ≡ done_at position loaded) where
   -- the words of the line that was read are the call's
-  pairs_read : (m : Meaning) → meaning c.descriptors (mnemonic_name c.mnemonic) ≡ m → LineFor job c.token_list c.descriptors c.numbers.place.position m known made → known ≡ true
-      → call_pairs job c ≡ pairs_of made.emit
+  pairs_read : (m : Meaning) → meaning c.descriptors (mnemonic_name c.mnemonic) ≡ m → LineFor job c.token_list c.descriptors c.numbers.place.position m true made → call_pairs job c ≡ (made_line made).pairs
   unfolding call_pairs
-  pairs_read (Table p) e l k = ap (meaning_pairs job c) e ∙ ap (λ (x : Line). x.pairs) l.1
-  pairs_read (Builtin p) e l k = ap (meaning_pairs job c) e ∙ ap (λ (x : Line). x.pairs) l.1
-  pairs_read Neither e l k = never (cc)
+  pairs_read (Table p) e l = ap (meaning_pairs job c) e ∙ made_pairs c.token_list line c.numbers c.lent (table_line job c.descriptors p (tokens c.token_list) (start_index (tokens c.token_list) c.numbers.place.position)) made.answer made.cursor.index l.1.0 done
+  pairs_read (Builtin p) e l = ap (meaning_pairs job c) e ∙ made_pairs c.token_list line c.numbers c.lent (pseudo_line job p (tokens c.token_list) (start_index (tokens c.token_list) c.numbers.place.position)) made.answer made.cursor.index l.1.0 done
+  pairs_read Neither e l = never (cc)
 
-  pub new_index_lem : (labels : List ℕ) (position : ℕ) (loaded : LoadForm) → Bytes c.token_list → Bytes c.mnemonic
-      → LineFor job c.token_list c.descriptors c.numbers.place.position (meaning c.descriptors (mnemonic_name c.mnemonic)) known made → known ≡ true
-      → (emit_outcome job c).answer ≡ Done position loaded
-      → index_of labels (filled_pending (emit_outcome job c).lent (emit_outcome job c).counts) ≡ new_index labels c.token_list (filled_pending c.lent c.numbers.counts) (pairs_of made.emit)
+  pub new_index_lem : (labels : List ℕ) → Bytes c.token_list → Bytes c.mnemonic
+      → LineFor job c.token_list c.descriptors c.numbers.place.position (meaning c.descriptors (mnemonic_name c.mnemonic)) true made
+      → (emit_outcome job c).answer ≡ done_at position loaded
+      → index_of labels (filled_pending (emit_outcome job c).lent (emit_outcome job c).counts) ≡ new_index labels c.token_list (filled_pending c.lent c.numbers.counts) (made_line made).pairs
   unfolding index_of
-  new_index_lem labels position loaded tb mb l k e =
+  new_index_lem labels tb mb l e =
       let a = accepted job c position loaded tb e in
       let old = filled_pending c.lent c.numbers.counts in
       let ps = a.made.pairs in
-      let same : ps ≡ pairs_of made.emit = a.pairs_are ∙ pairs_read (meaning c.descriptors (mnemonic_name c.mnemonic)) refl l k in
+      let same : ps ≡ (made_line made).pairs = a.pairs_are ∙ pairs_read (meaning c.descriptors (mnemonic_name c.mnemonic)) refl l in
       ap uses_bytes (ap (λ (o : EmitOutcome). uses_of labels (filled_pending o.lent o.counts)) a.outcome_is
       ∙ ap (uses_of labels) (pending_is job c a mb)
       ∙ uses_line labels c.token_list old (call_origin c) ps (pending_kept job c a mb) (origin_fits job c a mb) (offsets_fit job c a mb) a.words.fit

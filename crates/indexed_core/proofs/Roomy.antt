@@ -7,7 +7,7 @@ use Rattle.loading.specs.declared.LoadForm.{LoadForm}
 use Rattle.emit_outcome.specs.Call.{EmitOutcome}
 use Rattle.emit_outcome.specs.Emit.{emit_outcome}
 use Rattle.emit_outcome.specs.Room.{new_pending}
-use Rattle.emit_outcome.specs.declared.EmitAnswer.TheVariants.{Done}
+use Rattle.emit_outcome.specs.Answer.{done_at}
 use Rattle.descriptors.specs.Mnemonics.{mnemonic_location}
 use Rattle.finished_words.specs.Listed.{Bytes}
 use Rattle.routine.proofs.AcceptedLaws.{accepted}
@@ -18,7 +18,7 @@ use Rattle.indexed_outcome.specs.Indexed.{IndexedCall, filled_pending}
 use Rattle.indexed_outcome.proofs.MakeLaws.{filled_layout}
 
 pub line_roomy : (job : Job) (x : IndexedCall) (position : ℕ) (loaded : LoadForm) → Bytes x.call.token_list → Bytes x.call.mnemonic
-    → (emit_outcome job x.call).answer ≡ Done position loaded → (emit_outcome job x.call).counts.pending ≤ length x.index
+    → (emit_outcome job x.call).answer ≡ done_at position loaded → (emit_outcome job x.call).counts.pending ≤ length x.index
     → length (index_of x.labels (filled_pending (emit_outcome job x.call).lent (emit_outcome job x.call).counts)) ≤ length x.index
 line_roomy job x position loaded tb mb e =
     let c = x.call in

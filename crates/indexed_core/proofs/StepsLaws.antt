@@ -8,14 +8,13 @@ use Rattle.record.specs.declared.Location.{Location}
 use Rattle.refusal.specs.declared.Refusal.TheVariants.{NoIndexSpace}
 use Rattle.refusal.specs.declared.Refusal.{Refusal}
 use Rattle.descriptors.specs.Mnemonics.{mnemonic_location}
-use Rattle.emit_dispatch.specs.declared.LineEmit.{LineEmit}
+use Rattle.emit_pairs.specs.declared.EmitInstruction.{EmitInstruction}
 use Rattle.emit_outcome.specs.Call.{Call, Lent, EmitOutcome}
-use Rattle.emit_outcome.specs.Emit.{accept, line_stop, line_outcome, call_refused, emit_outcome}
-use Rattle.emit_outcome.specs.declared.EmitAnswer.{EmitAnswer}
-use Rattle.emit_outcome.specs.declared.EmitAnswer.TheVariants.{Done, Refused}
+use Rattle.emit_outcome.specs.Emit.{refuse, accept, line_stop, line_outcome, call_refused, emit_outcome}
+use Rattle.emit_outcome.specs.Answer.{EmitAnswer, done_at}
 use Rattle.emit_outcome.specs.declared.LineNumbers.{LineNumbers}
-use Rattle.emit_checks.specs.Made.{pairs_of, made_line}
-use Rattle.emit_made.proofs.MadeLaws.{line_stopped, line_passed}
+use Rattle.emit_checks.specs.Made.{pairs_of, words_line}
+use Rattle.emit_made.proofs.MadeLaws.{line_passed}
 use Rattle.loading.specs.declared.LoadForm.{LoadForm}
 use Rattle.label_uses.specs.UseBytes.{index_of}
 use Rattle.indexed_outcome.specs.Indexed.{IndexedCall, IndexedOutcome, filled_pending, indexed_stop, indexed_by, indexed_unless, indexed_outcome, indexed_outcome_of}
@@ -26,33 +25,34 @@ use Rattle.indexed_outcome.specs.declared.IndexedCounts.{IndexedCounts}
 use Rattle.indexed_core.specs.Steps.{new_index, kept_outcome, room_outcome, with_index, Wrote}
 
 -- ---- a line that was made
-module _ (token_list labels index : List ℕ) (line : Location) (numbers : LineNumbers) (lent : Lent) (fill : ℕ) (made : LineEmit) where
+
+-- one that is refused leaves the index, whatever the new one would be
+pub with_stopped : (line : Location) (numbers : LineNumbers) (lent : Lent) (fill : ℕ) (index new : List ℕ) (o : EmitOutcome) (r : Refusal) (position : ℕ) → o ≡ refuse numbers.counts lent position r
+    → with_index line numbers lent fill index new o o.answer ≡ kept_outcome numbers lent fill index r position
+with_stopped line numbers lent fill index new o r position e = ap (λ (y : EmitOutcome). with_index line numbers lent fill index new y y.answer) e
+
+module _ (token_list labels index : List ℕ) (line : Location) (numbers : LineNumbers) (lent : Lent) (fill : ℕ) (words : EmitInstruction) (position : ℕ) where
   abbrev o : EmitOutcome
-  o = line_outcome token_list line numbers lent (made_line made)
+  o = line_outcome token_list line numbers lent (words_line words position)
 
   abbrev new : List ℕ
-  new = new_index labels token_list (filled_pending lent numbers.counts) (pairs_of made.emit)
+  new = new_index labels token_list (filled_pending lent numbers.counts) (pairs_of words)
 
   abbrev outcome : EmitOutcome → IndexedOutcome
   outcome y = with_index line numbers lent fill index new y y.answer
 
-  pub with_stopped : (r : Refusal) → line_stop token_list line numbers lent (made_line made) ≡ Err r
-      → with_index line numbers lent fill index (new_index labels token_list (filled_pending lent numbers.counts) (pairs_of made.emit)) (line_outcome token_list line numbers lent (made_line made)) (line_outcome token_list line numbers lent (made_line made)).answer
-      ≡ kept_outcome numbers lent fill index r made.cursor.index
-  with_stopped r e = ap outcome (line_stopped token_list line numbers lent (made_line made) e)
-
-  module _ (pass : line_stop token_list line numbers lent (made_line made) ≡ Ok tt) where
+  module _ (pass : line_stop token_list line numbers lent (words_line words position) ≡ Ok tt) where
     by_room : (b : Bool) → leb (length new) (length index) ≡ b
-        → outcome o ≡ elim b [ true ↦ indexed_outcome_of (Done made.cursor.index made.emit.loaded) (record { counts = (accept token_list line numbers lent (made_line made)).counts; index = length new }) (accept token_list line numbers lent (made_line made)).lent (append index 0 new) | false ↦ kept_outcome numbers lent fill index (NoIndexSpace line) made.cursor.index ]
-    by_room b e = ap outcome (line_passed token_list line numbers lent (made_line made) pass) ∙ rw (e, room_outcome)
+        → outcome o ≡ elim b [ true ↦ indexed_outcome_of (done_at position words.loaded) (record { counts = (accept token_list line numbers lent (words_line words position)).counts; index = length new }) (accept token_list line numbers lent (words_line words position)).lent (append index 0 new) | false ↦ kept_outcome numbers lent fill index (NoIndexSpace line) position ]
+    by_room b e = ap outcome (line_passed token_list line numbers lent (words_line words position) pass) ∙ rw (e, room_outcome)
 
     pub with_short : length index < length new
-        → with_index line numbers lent fill index (new_index labels token_list (filled_pending lent numbers.counts) (pairs_of made.emit)) (line_outcome token_list line numbers lent (made_line made)) (line_outcome token_list line numbers lent (made_line made)).answer
-        ≡ kept_outcome numbers lent fill index (NoIndexSpace line) made.cursor.index
+        → with_index line numbers lent fill index (new_index labels token_list (filled_pending lent numbers.counts) (pairs_of words)) (line_outcome token_list line numbers lent (words_line words position)) (line_outcome token_list line numbers lent (words_line words position)).answer
+        ≡ kept_outcome numbers lent fill index (NoIndexSpace line) position
     with_short h = by_room false (lt-leb (length new) (length index) h)
 
-    pub with_room : (index' : List ℕ) (lent' : Lent) (answer : EmitAnswer) (counts : IndexedCounts) → length new ≤ length index → Wrote token_list labels index index' line numbers lent lent' made answer counts
-        → with_index line numbers lent fill index (new_index labels token_list (filled_pending lent numbers.counts) (pairs_of made.emit)) (line_outcome token_list line numbers lent (made_line made)) (line_outcome token_list line numbers lent (made_line made)).answer
+    pub with_room : (index' : List ℕ) (lent' : Lent) (answer : EmitAnswer) (counts : IndexedCounts) → length new ≤ length index → Wrote token_list labels index index' line numbers lent lent' words position answer counts
+        → with_index line numbers lent fill index (new_index labels token_list (filled_pending lent numbers.counts) (pairs_of words)) (line_outcome token_list line numbers lent (words_line words position)) (line_outcome token_list line numbers lent (words_line words position)).answer
         ≡ indexed_outcome_of answer counts lent' index'
     with_room index' lent' answer counts h w =
         by_room true (le-leb (length new) (length index) h)
@@ -73,14 +73,14 @@ module _ (job : Job) (x : IndexedCall) where
 
     -- the call's outcome is the line's, and its new index that with the line's uses
     pub call_line : (line : Location) (y : EmitOutcome) (new : List ℕ) → line ≡ mnemonic_location c.mnemonic → emit_outcome job c ≡ y
-        → ((position : ℕ) (loaded : LoadForm) → y.answer ≡ Done position loaded → index_of x.labels (filled_pending y.lent y.counts) ≡ new)
+        → ((position : ℕ) (loaded : LoadForm) → y.answer ≡ done_at position loaded → index_of x.labels (filled_pending y.lent y.counts) ≡ new)
         → indexed_outcome job x ≡ with_index line c.numbers c.lent x.fill x.index new y y.answer
     call_line line y new l e n = passes_is job x pass ∙ ap (λ (z : EmitOutcome). indexed_by x z z.answer) e ∙ go y.answer refl
       where
         go : (a : EmitAnswer) → y.answer ≡ a → indexed_by x y a ≡ with_index line c.numbers c.lent x.fill x.index new y a
-        go (Refused r p) f = refl
-        go (Done p q) f =
-            ap₂ (λ (m : Location) (z : List ℕ). room_outcome m c.numbers c.lent x.fill x.index z y (Done p q) p) (sym l) (n p q f)
+        go (Err refused) f = refl
+        go (Ok done) f =
+            ap₂ (λ (m : Location) (z : List ℕ). room_outcome m c.numbers c.lent x.fill x.index z y (Ok done) done.position) (sym l) (n done.position done.loaded f)
 
 -- an outcome that is the call's is all that a call promises
 pub indexed_by_lem : {job : Job} {x : IndexedCall} {answer : EmitAnswer} {counts : IndexedCounts} {lent : Lent} {index : List ℕ} → indexed_outcome job x ≡ indexed_outcome_of answer counts lent index → IndexedBy job x answer counts lent index

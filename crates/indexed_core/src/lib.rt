@@ -2,35 +2,46 @@
 #![tactic(auto)]
 
 ghost use Rattle.std.specs.Prelude.{◌≡◌, ◌≤◌, length};
+ghost use Rattle.labels.specs.Labels.{label_layout};
 ghost use Rattle.emit_outcome.specs.Call.{lent_of, call_of};
 ghost use Rattle.emit_outcome.specs.Emit.{line_outcome};
 ghost use Rattle.emit_outcome.specs.Room.{room_stop};
-ghost use Rattle.emit_checks.specs.Made.{pairs_of, made_line};
-ghost use Rattle.indexed_outcome.specs.Indexed.{indexed_stop, indexed_outcome, indexed_call_of, indexed_outcome_of, filled_pending};
+ghost use Rattle.emit_checks.specs.Made.{pairs_of, made_line, MadeGood};
+ghost use Rattle.indexed_outcome.specs.Indexed.{indexed_stop, indexed_outcome, indexed_call_of, filled_pending};
 ghost use Rattle.indexed_outcome.specs.Contract.{IndexedBy};
-ghost use Rattle.indexed_core.specs.Steps.{new_index, Ready, with_index, Wrote};
+ghost use Rattle.indexed_core.specs.Steps.{new_index, Ready, with_index, Wrote, indexed_emitted_by, indexed_left_by};
 
+use descriptors::Descriptors;
 use emit_dispatch::LineEmit;
-use emit_outcome::{EmitAnswer, FillCounts, LineNumbers, LinePlace};
-use indexed_outcome::{IndexedCounts, IndexedEmitted};
+use emit_outcome::{LineNumbers, LinePlace, Lists, RefusedLine};
+use emit_pairs::EmitInstruction;
+use indexed_outcome::{IndexedAppended, IndexedCounts, IndexedEmitted};
 use jobs::Job;
+use line_uses::Line;
+use names::Named;
 use record::Location;
 use refusal::Refusal;
+use use_adding::{Pendings, Uses};
 
-fn refused(refusal: Refusal, position: u32, counts: FillCounts, index: u32) -> IndexedEmitted
-    ensures { result ≡ (record { answer = EmitAnswer.Refused refusal position; counts = record { counts = counts; index = index } }) }
+// What a call answers that gives this: a refusal leaves the counts as given.
+fn emitted(counts: IndexedCounts, given: Result<IndexedAppended, RefusedLine>) -> IndexedEmitted
+    ensures { result ≡ indexed_emitted_by counts given }
 {
-    IndexedEmitted {
-        answer: EmitAnswer::Refused(refusal, position),
-        counts: IndexedCounts { counts, index },
+    match given {
+        Ok(appended) => IndexedEmitted {
+            answer: Ok(appended.done),
+            counts: appended.counts,
+        },
+        Err(refused) => IndexedEmitted {
+            answer: Err(refused),
+            counts,
+        },
     }
 }
 
 // Refusals 1 and 2: the six buffers of every emit call, the labels, the index; then names that two descriptors or two labels share.
 fn check_lists(
-    tokens: &[u8],
-    mnemonic: &[u8],
-    descriptors: &[u8],
+    lists: Lists<'_>,
     data: &[u8],
     pending: &[u8],
     breakpoints: &[u8],
@@ -39,27 +50,32 @@ fn check_lists(
     counts: IndexedCounts,
     place: LinePlace,
 ) -> Result<(), Refusal>
-    ensures { result ≡ indexed_stop (indexed_call_of (call_of tokens.now mnemonic.now descriptors.now
+    ensures { result ≡ indexed_stop (indexed_call_of (call_of lists.entry.tokens.now lists.entry.mnemonic.now lists.entry.descriptors.now
         (lent_of «data».now pending.now breakpoints.now) counts.counts place)
         labels.now index.now counts.index) }
 {
     let three = counts.counts;
-    emit_checks::check_layouts(
-        tokens,
-        mnemonic,
-        descriptors,
-        data,
-        pending,
-        breakpoints,
-        place.region,
-        three,
-    )?;
+    emit_checks::check_layouts(lists, data, pending, breakpoints, place.region, three)?;
     refusal::check_layout(6, labels::first_bad_label(labels))?;
     let kept = three.pending as usize;
-    let uses = index_check::check_uses(index, counts.index as usize, &pending[..kept], labels);
+    let uses = index_check::check_uses(
+        index,
+        counts.index as usize,
+        &Pendings::new(&pending[..kept]),
+        labels,
+    );
     refusal::check_layout(7, uses.layout)?;
-    refusal::check_names(2, descriptors::first_repeat(descriptors))?;
+    refusal::check_names(2, Descriptors::new(lists.descriptors).first_repeat())?;
     refusal::check_names(6, uses.repeat)
+}
+
+// The words of a line that was made, by labels that are not refused.
+fn words_of<'a>(tokens: &'a [u8], labels: &'a [u8], words: &'a EmitInstruction) -> Line<'a>
+    requires { (label_layout labels.now ≡ None) × (words.now.count ≤ 5) }
+    ensures { result ≡ (record { names = tokens.now; labels = labels.now; pairs = pairs_of words.now }) }
+{
+    let pairs = &words.instructions[..words.count];
+    Line::new(tokens, Named::new(labels), pairs)
 }
 
 // Appends a line that has room, and its uses to the index.
@@ -73,23 +89,33 @@ fn append_indexed(
     numbers: LineNumbers,
     fill: u32,
     line: Location,
-    made: LineEmit,
-) -> IndexedEmitted
-    requires ready { Ready tokens.now labels.now index.old (lent_of «data».old pending.old breakpoints.old) numbers fill made }
-    requires emit_value { room_stop tokens.now line numbers (lent_of «data».old pending.old breakpoints.old) (pairs_of made.emit) ≡ Ok tt }
-    requires emit_in_bounds { length (new_index labels.now tokens.now (filled_pending (lent_of «data».old pending.old breakpoints.old) numbers.counts) (pairs_of made.emit)) ≤ length index.old }
+    words: EmitInstruction,
+    position: u32,
+) -> IndexedAppended
+    requires ready { Ready tokens.now labels.now index.old (lent_of «data».old pending.old breakpoints.old) numbers fill × (words.count ≤ 5) }
+    requires emit_value { room_stop tokens.now line numbers (lent_of «data».old pending.old breakpoints.old) (pairs_of words) ≡ Ok tt }
+    requires emit_in_bounds { length (new_index labels.now tokens.now (filled_pending (lent_of «data».old pending.old breakpoints.old) numbers.counts) (pairs_of words)) ≤ length index.old }
     ensures { Wrote tokens.now labels.now index.old index.new line numbers
         (lent_of «data».old pending.old breakpoints.old) (lent_of «data».new pending.new breakpoints.new)
-        made result.answer result.counts }
+        words position (Ok result.done) result.counts }
 {
     let kept = numbers.counts.pending as usize;
-    let first = line_uses::count_pendings(&pending[..kept]);
-    let filled = line_uses::add_line(index, fill as usize, first, tokens, labels, made.emit);
-    let done = emit_made::append_line(tokens, data, pending, breakpoints, numbers, line, made);
-    IndexedEmitted {
-        answer: done.answer,
+    let first = Pendings::new(&pending[..kept]).count();
+    let filled = words_of(tokens, labels, &words).add_to(index, fill as usize, first);
+    let appended = emit_made::append_line(
+        tokens,
+        data,
+        pending,
+        breakpoints,
+        numbers,
+        line,
+        words,
+        position,
+    );
+    IndexedAppended {
+        done: appended.done,
         counts: IndexedCounts {
-            counts: done.counts,
+            counts: appended.counts,
             index: filled as u32,
         },
     }
@@ -107,16 +133,16 @@ fn append_or_refuse(
     fill: u32,
     line: Location,
     made: LineEmit,
-) -> IndexedEmitted
-    requires { Ready tokens.now labels.now index.old (lent_of «data».old pending.old breakpoints.old) numbers fill made }
+) -> Result<IndexedAppended, RefusedLine>
+    requires { Ready tokens.now labels.now index.old (lent_of «data».old pending.old breakpoints.old) numbers fill × MadeGood tokens.now made }
     ensures { with_index line numbers (lent_of «data».old pending.old breakpoints.old) fill index.old
-        (new_index labels.now tokens.now (filled_pending (lent_of «data».old pending.old breakpoints.old) numbers.counts) (pairs_of made.emit))
+        (new_index labels.now tokens.now (filled_pending (lent_of «data».old pending.old breakpoints.old) numbers.counts) (made_line made).pairs)
         (line_outcome tokens.now line numbers (lent_of «data».old pending.old breakpoints.old) (made_line made))
         (line_outcome tokens.now line numbers (lent_of «data».old pending.old breakpoints.old) (made_line made)).answer
-        ≡ indexed_outcome_of result.answer result.counts (lent_of «data».new pending.new breakpoints.new) index.new }
+        ≡ indexed_left_by (record { counts = numbers.counts; index = fill }) result (lent_of «data».new pending.new breakpoints.new) index.new }
 {
-    let position = made.cursor.index;
-    if let Err(refusal) = emit_checks::check_line(
+    let position = made.cursor.index as u32;
+    let passed = emit_checks::check_line(
         tokens,
         &*data,
         &*pending,
@@ -124,19 +150,17 @@ fn append_or_refuse(
         numbers,
         line,
         made,
-    ) {
-        return refused(refusal, position as u32, numbers.counts, fill);
-    }
-    let size = line_uses::size_with_line(&*index, fill as usize, tokens, labels, made.emit);
+    );
+    let words = emit_checks::at_position(position, passed)?;
+    let uses = Uses::new(&index[..fill as usize]);
+    let size = words_of(tokens, labels, &words).size_with(&uses);
     if size > index.len() {
-        return refused(
-            Refusal::NoIndexSpace(line),
-            position as u32,
-            numbers.counts,
-            fill,
-        );
+        return Err(RefusedLine {
+            refusal: Refusal::NoIndexSpace(line),
+            position,
+        });
     }
-    append_indexed(
+    Ok(append_indexed(
         tokens,
         data,
         pending,
@@ -146,11 +170,13 @@ fn append_or_refuse(
         numbers,
         fill,
         line,
-        made,
-    )
+        words,
+        position,
+    ))
 }
 
 // Refusals 3 to 12 and 17 of lists that pass, or the line and its uses appended.
+// kept: the three lists apart. The proof needs that tokens and mnemonic are bytes, which is known of a parameter and not of a struct's field.
 fn emit_named(
     job: Job,
     tokens: &[u8],
@@ -163,22 +189,20 @@ fn emit_named(
     index: &mut [u8],
     numbers: LineNumbers,
     fill: u32,
-) -> IndexedEmitted
+) -> Result<IndexedAppended, RefusedLine>
     requires { indexed_stop (indexed_call_of (call_of tokens.now mnemonic.now descriptors.now (lent_of «data».old pending.old breakpoints.old) numbers.counts numbers.place)
         labels.now index.old fill) ≡ Ok tt }
     ensures { indexed_outcome job (indexed_call_of (call_of tokens.now mnemonic.now descriptors.now
         (lent_of «data».old pending.old breakpoints.old) numbers.counts numbers.place) labels.now index.old fill)
-        ≡ indexed_outcome_of result.answer result.counts (lent_of «data».new pending.new breakpoints.new) index.new }
+        ≡ indexed_left_by (record { counts = numbers.counts; index = fill }) result (lent_of «data».new pending.new breakpoints.new) index.new }
 {
-    let read = emit_core::read_line(job, tokens, mnemonic, descriptors, numbers.place.position);
-    if !read.known {
-        return refused(
-            Refusal::UnknownInstruction(read.line),
-            numbers.place.position,
-            numbers.counts,
-            fill,
-        );
-    }
+    let lists = Lists {
+        tokens,
+        mnemonic,
+        descriptors,
+    };
+    let position = numbers.place.position;
+    let read = emit_checks::at_position(position, emit_core::read_line(job, lists, position))?;
     append_or_refuse(
         tokens,
         data,
@@ -193,11 +217,55 @@ fn emit_named(
     )
 }
 
+// Refusals 1 to 12 and 17, or the line and its uses appended.
+fn emit_line(
+    job: Job,
+    lists: Lists<'_>,
+    data: &mut [u8],
+    pending: &mut [u8],
+    breakpoints: &mut [u8],
+    labels: &[u8],
+    index: &mut [u8],
+    place: LinePlace,
+    counts: IndexedCounts,
+) -> Result<IndexedAppended, RefusedLine>
+    ensures { indexed_outcome job (indexed_call_of (call_of lists.entry.tokens.now lists.entry.mnemonic.now lists.entry.descriptors.now
+        (lent_of «data».old pending.old breakpoints.old) counts.counts place) labels.now index.old counts.index)
+        ≡ indexed_left_by counts result (lent_of «data».new pending.new breakpoints.new) index.new }
+{
+    let passed = check_lists(
+        lists,
+        &*data,
+        &*pending,
+        &*breakpoints,
+        labels,
+        &*index,
+        counts,
+        place,
+    );
+    emit_checks::at_position(place.position, passed)?;
+    let numbers = LineNumbers {
+        counts: counts.counts,
+        place,
+    };
+    emit_named(
+        job,
+        lists.tokens,
+        lists.mnemonic,
+        lists.descriptors,
+        data,
+        pending,
+        breakpoints,
+        labels,
+        index,
+        numbers,
+        counts.index,
+    )
+}
+
 // Emits the line of one mnemonic and updates the index, or refuses and leaves every lent byte and count as it was.
 pub fn do_indexed_job(
-    tokens: &[u8],
-    mnemonic: &[u8],
-    descriptors: &[u8],
+    lists: Lists<'_>,
     data: &mut [u8],
     pending: &mut [u8],
     breakpoints: &mut [u8],
@@ -207,39 +275,20 @@ pub fn do_indexed_job(
     job: Job,
     counts: IndexedCounts,
 ) -> IndexedEmitted
-    ensures { IndexedBy job (indexed_call_of (call_of tokens.now mnemonic.now descriptors.now
+    ensures { IndexedBy job (indexed_call_of (call_of lists.entry.tokens.now lists.entry.mnemonic.now lists.entry.descriptors.now
         (lent_of «data».old pending.old breakpoints.old) counts.counts place) labels.now index.old counts.index)
         result.answer result.counts (lent_of «data».new pending.new breakpoints.new) index.new }
 {
-    let three = counts.counts;
-    if let Err(refusal) = check_lists(
-        tokens,
-        mnemonic,
-        descriptors,
-        &*data,
-        &*pending,
-        &*breakpoints,
-        labels,
-        &*index,
-        counts,
-        place,
-    ) {
-        return refused(refusal, place.position, three, counts.index);
-    }
-    emit_named(
+    let given = emit_line(
         job,
-        tokens,
-        mnemonic,
-        descriptors,
+        lists,
         data,
         pending,
         breakpoints,
         labels,
         index,
-        LineNumbers {
-            counts: three,
-            place,
-        },
-        counts.index,
-    )
+        place,
+        counts,
+    );
+    emitted(counts, given)
 }

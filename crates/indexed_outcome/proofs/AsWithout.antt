@@ -3,11 +3,11 @@
 use Rattle.std.specs.Prelude.{ℕ, ◌⊎◌, ◌≡◌, refl}
 use Rattle.jobs.specs.declared.Job.{Job}
 use Rattle.refusal.specs.declared.Refusal.{Refusal}
-use Rattle.emit_outcome.specs.declared.EmitAnswer.TheVariants.{Refused}
+use Rattle.emit_outcome.specs.Answer.{refused_at}
 use Rattle.indexed_outcome.specs.Indexed.{IndexedCall, indexed_outcome}
 use Rattle.indexed_outcome.specs.Beside.{Added, SameCall}
 use Rattle.indexed_outcome.proofs.BesideLaws.{lists, labels_well, index_well, names_once, labels_once, beside}
 
 pub as_without : (job : Job) (x : IndexedCall)
-    → SameCall job x ⊎ ((r : Refusal) × (position : ℕ) × ((indexed_outcome job x).answer ≡ Refused r position) × Added r)
+    → SameCall job x ⊎ ((r : Refusal) × (position : ℕ) × ((indexed_outcome job x).answer ≡ refused_at r position) × Added r)
 as_without job x = beside job x (lists job x) (labels_well job x) (index_well job x) (names_once job x) (labels_once job x) refl refl refl refl refl

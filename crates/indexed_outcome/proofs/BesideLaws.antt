@@ -15,8 +15,7 @@ use Rattle.emit_outcome.specs.Call.{Call, EmitOutcome}
 use Rattle.emit_outcome.specs.Checks.{layout_stop, list_stop}
 use Rattle.emit_outcome.specs.Emit.{refuse, call_refused, list_outcome, emit_outcome}
 use Rattle.emit_outcome.proofs.Refused.{refused_stays}
-use Rattle.emit_outcome.specs.declared.EmitAnswer.{EmitAnswer}
-use Rattle.emit_outcome.specs.declared.EmitAnswer.TheVariants.{Done, Refused}
+use Rattle.emit_outcome.specs.Answer.{EmitAnswer, done_at, refused_at}
 use Rattle.label_uses.specs.UseBytes.{index_of, index_layout}
 use Rattle.indexed_outcome.specs.Indexed.{IndexedCall, IndexedOutcome, filled_pending, indexed_stop, indexed_refuse, indexed_accept, indexed_by, indexed_unless, indexed_outcome}
 use Rattle.indexed_outcome.specs.Beside.{Added, labels_bad, index_bad, labels_share, no_room, SameCall}
@@ -65,7 +64,7 @@ module _ (job : Job) (x : IndexedCall) where
   emit_is = refl
 
   abbrev Either : Type 0
-  Either = SameCall job x ⊎ ((r : Refusal) × (position : ℕ) × ((indexed_outcome job x).answer ≡ Refused r position) × Added r)
+  Either = SameCall job x ⊎ ((r : Refusal) × (position : ℕ) × ((indexed_outcome job x).answer ≡ refused_at r position) × Added r)
 
   -- both stop for the same reason
   stop_same : (r : Refusal) → indexed_stop x ≡ Err r → and_then lists names_once ≡ Err r → SameCall job x
@@ -102,7 +101,7 @@ module _ (job : Job) (x : IndexedCall) where
       → indexed_accept x o new answer position ≡ indexed_refuse x (NoIndexSpace (mnemonic_location c.mnemonic)) position
   accept_short answer position e = rw (e, indexed_accept)
 
-  refused_same : indexed_stop x ≡ Ok tt → (r : Refusal) (p : ℕ) → o.answer ≡ Refused r p → SameCall job x
+  refused_same : indexed_stop x ≡ Ok tt → (r : Refusal) (p : ℕ) → o.answer ≡ refused_at r p → SameCall job x
   refused_same e r p f =
       let i : indexed_outcome job x ≡ indexed_refuse x r p = passes_is e ∙ ap (indexed_by x o) f in
       let s : o ≡ refuse c.numbers.counts c.lent p r = refused_stays job c r p f in
@@ -112,12 +111,12 @@ module _ (job : Job) (x : IndexedCall) where
         lent_is = ap (λ (y : IndexedOutcome). y.lent) i ∙ sym (ap (λ (y : EmitOutcome). y.lent) s);
       }
 
-  done_is : indexed_stop x ≡ Ok tt → (p : ℕ) (l : LoadForm) → o.answer ≡ Done p l → indexed_outcome job x ≡ indexed_accept x o new (Done p l) p
+  done_is : indexed_stop x ≡ Ok tt → (p : ℕ) (l : LoadForm) → o.answer ≡ done_at p l → indexed_outcome job x ≡ indexed_accept x o new (done_at p l) p
   done_is e p l f = passes_is e ∙ ap (indexed_by x o) f
 
-  done_same : indexed_stop x ≡ Ok tt → (p : ℕ) (l : LoadForm) → o.answer ≡ Done p l → leb (length new) (length x.index) ≡ true → SameCall job x
+  done_same : indexed_stop x ≡ Ok tt → (p : ℕ) (l : LoadForm) → o.answer ≡ done_at p l → leb (length new) (length x.index) ≡ true → SameCall job x
   done_same e p l f b =
-      let i = done_is e p l f ∙ accept_fits (Done p l) p b in
+      let i = done_is e p l f ∙ accept_fits (done_at p l) p b in
       record {
         answer_is = ap (λ (y : IndexedOutcome). y.answer) i ∙ sym f;
         counts_are = ap (λ (y : IndexedOutcome). y.counts.counts) i;
@@ -125,13 +124,13 @@ module _ (job : Job) (x : IndexedCall) where
       }
 
   passed : indexed_stop x ≡ Ok tt → (a : EmitAnswer) → o.answer ≡ a → Either
-  passed e (Refused r p) f = inl (refused_same e r p f)
-  passed e (Done p l) f = go (leb (length new) (length x.index)) refl
+  passed e (Err refused) f = inl (refused_same e refused.refusal refused.position f)
+  passed e (Ok done) f = go (leb (length new) (length x.index)) refl
     where
       go : (b : Bool) → leb (length new) (length x.index) ≡ b → Either
-      go true b = inl (done_same e p l f b)
+      go true b = inl (done_same e done.position done.loaded f b)
       go false b =
-          inr (NoIndexSpace (mnemonic_location c.mnemonic), p, ap (λ (y : IndexedOutcome). y.answer) (done_is e p l f ∙ accept_short (Done p l) p b), no_room (mnemonic_location c.mnemonic))
+          inr (NoIndexSpace (mnemonic_location c.mnemonic), done.position, ap (λ (y : IndexedOutcome). y.answer) (done_is e done.position done.loaded f ∙ accept_short (Ok done) done.position b), no_room (mnemonic_location c.mnemonic))
 
   pub beside : (a b d e f : Verdict) → lists ≡ a → labels_well ≡ b → index_well ≡ d → names_once ≡ e → labels_once ≡ f → Either
   beside (Err r) b d e f p q s t u =
@@ -182,5 +181,5 @@ module _ (job : Job) (x : IndexedCall) where
           ∙ ap₂ (λ (v w : Verdict). and_then v (and_then w labels_once)) s t ∙ u
 
       go : (a : EmitAnswer) → o.answer ≡ a → SameCall job x
-      go (Refused r n) f = refused_same passes r n f
-      go (Done n l) f = done_same passes n l f b
+      go (Err refused) f = refused_same passes refused.refusal refused.position f
+      go (Ok done) f = done_same passes done.position done.loaded f b

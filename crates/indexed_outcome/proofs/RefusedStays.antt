@@ -3,24 +3,23 @@ use Rattle.std.specs.Prelude.{ℕ, Bool, true, false, List, ◌≡◌, refl, len
 use Rattle.std.proofs.Common.{sym, ap, ap₂, ◌∙◌}
 use Rattle.jobs.specs.declared.Job.{Job}
 use Rattle.refusal.specs.declared.Refusal.{Refusal}
-use Rattle.emit_outcome.specs.declared.EmitAnswer.{EmitAnswer}
-use Rattle.emit_outcome.specs.declared.EmitAnswer.TheVariants.{Done, Refused}
+use Rattle.emit_outcome.specs.Answer.{EmitAnswer, refused_at}
+use Rattle.emit_outcome.proofs.AnswerLaws.{refused_parts}
 use Rattle.emit_outcome.specs.Emit.{emit_outcome}
 use Rattle.label_uses.specs.UseBytes.{index_of}
 use Rattle.indexed_outcome.specs.Indexed.{IndexedCall, IndexedOutcome, filled_pending, indexed_stop, indexed_refuse, indexed_accept, indexed_by, indexed_unless, indexed_outcome}
 use Rattle.indexed_outcome.proofs.BesideLaws.{never, indexed_is, passes_is, accept_fits, accept_short}
 use Rattle.refusal.specs.Verdicts.{Verdict}
 
-pub refused_stays : (job : Job) (x : IndexedCall) (r : Refusal) (position : ℕ) → (indexed_outcome job x).answer ≡ Refused r position → indexed_outcome job x ≡ indexed_refuse x r position
+pub refused_stays : (job : Job) (x : IndexedCall) (r : Refusal) (position : ℕ) → (indexed_outcome job x).answer ≡ refused_at r position → indexed_outcome job x ≡ indexed_refuse x r position
 refused_stays job x r position e = go (indexed_stop x) refl
   where
     -- one that leaves all is the one that is asked for
     same : (r' : Refusal) (p : ℕ) → indexed_outcome job x ≡ indexed_refuse x r' p → indexed_outcome job x ≡ indexed_refuse x r position
     same r' p i =
-        let j : ◌≡◌ {A = EmitAnswer} (Refused r' p) (Refused r position) = sym (ap (λ (y : IndexedOutcome). y.answer) i) ∙ e in
-        let k : r' ≡ r = cc in
-        let l : p ≡ position = cc in
-        i ∙ ap₂ (indexed_refuse x) k l
+        let j : ◌≡◌ {A = EmitAnswer} (refused_at r' p) (refused_at r position) = sym (ap (λ (y : IndexedOutcome). y.answer) i) ∙ e in
+        let k = refused_parts j in
+        i ∙ ap₂ (indexed_refuse x) k.0 k.1
 
     go : (v : Verdict) → indexed_stop x ≡ v → indexed_outcome job x ≡ indexed_refuse x r position
     go (Err r') s = same r' x.call.numbers.place.position (indexed_is job x ∙ ap (indexed_unless job x) s)
@@ -30,14 +29,14 @@ refused_stays job x r position e = go (indexed_stop x) refl
         n = index_of x.labels (filled_pending (emit_outcome job x.call).lent (emit_outcome job x.call).counts)
 
         answered : (a : EmitAnswer) → (emit_outcome job x.call).answer ≡ a → indexed_outcome job x ≡ indexed_refuse x r position
-        answered (Refused r' p) f = same r' p (passes_is job x s ∙ ap (indexed_by x (emit_outcome job x.call)) f)
-        answered (Done p l) f = room (leb (length n) (length x.index)) refl
+        answered (Err refused) f = same refused.refusal refused.position (passes_is job x s ∙ ap (indexed_by x (emit_outcome job x.call)) f)
+        answered (Ok done) f = room (leb (length n) (length x.index)) refl
           where
-            by : indexed_outcome job x ≡ indexed_accept x (emit_outcome job x.call) n (Done p l) p
+            by : indexed_outcome job x ≡ indexed_accept x (emit_outcome job x.call) n (Ok done) done.position
             by = passes_is job x s ∙ ap (indexed_by x (emit_outcome job x.call)) f
 
             room : (b : Bool) → leb (length n) (length x.index) ≡ b → indexed_outcome job x ≡ indexed_refuse x r position
             room true b =
-                let i : (indexed_outcome job x).answer ≡ Done p l = ap (λ (y : IndexedOutcome). y.answer) (by ∙ accept_fits job x (Done p l) p b) in
+                let i : (indexed_outcome job x).answer ≡ Ok done = ap (λ (y : IndexedOutcome). y.answer) (by ∙ accept_fits job x (Ok done) done.position b) in
                 never (cc)
-            room false b = same _ p (by ∙ accept_short job x (Done p l) p b)
+            room false b = same _ done.position (by ∙ accept_short job x (Ok done) done.position b)

@@ -1,7 +1,7 @@
 -- What an emit call with an index promises in each sort of job, whether its counts go by value or are lent. Assumes nothing.
 use Rattle.std.specs.Prelude.{ℕ, List, ◌≡◌}
 use Rattle.jobs.specs.declared.Job.{Job}
-use Rattle.emit_outcome.specs.declared.EmitAnswer.{EmitAnswer}
+use Rattle.emit_outcome.specs.Answer.{EmitAnswer}
 use Rattle.emit_outcome.specs.Call.{Lent}
 use Rattle.emit_outcome.specs.Returned.{returned}
 use Rattle.indexed_outcome.specs.declared.IndexedCounts.{IndexedCounts}

@@ -11,8 +11,7 @@ use Rattle.descriptors.specs.Mnemonics.{mnemonic_location}
 use Rattle.emit_outcome.specs.Checks.{layout_stop}
 use Rattle.emit_outcome.specs.Call.{Call, Lent, EmitOutcome}
 use Rattle.emit_outcome.specs.Emit.{emit_outcome}
-use Rattle.emit_outcome.specs.declared.EmitAnswer.{EmitAnswer}
-use Rattle.emit_outcome.specs.declared.EmitAnswer.TheVariants.{Done, Refused}
+use Rattle.emit_outcome.specs.Answer.{EmitAnswer, refused_at}
 use Rattle.emit_outcome.specs.declared.FillCounts.{FillCounts}
 use Rattle.indexed_outcome.specs.declared.IndexedCounts.{IndexedCounts}
 use Rattle.label_uses.specs.UseBytes.{index_of, index_layout}
@@ -48,7 +47,7 @@ indexed_stop x =
 -- counts and lent bytes as at entry
 abbrev pub indexed_refuse : IndexedCall → Refusal → (position : ℕ) → IndexedOutcome
 indexed_refuse x r position = record {
-  answer = Refused r position;
+  answer = refused_at r position;
   counts = record { counts = x.call.numbers.counts; index = x.fill };
   lent = x.call.lent;
   index = x.index;
@@ -63,8 +62,8 @@ indexed_accept x o new answer position =
     ]
 
 abbrev pub indexed_by : IndexedCall → EmitOutcome → EmitAnswer → IndexedOutcome
-indexed_by x o (Done position loaded) = indexed_accept x o (index_of x.labels (filled_pending o.lent o.counts)) (Done position loaded) position
-indexed_by x o (Refused r position) = indexed_refuse x r position
+indexed_by x o (Ok done) = indexed_accept x o (index_of x.labels (filled_pending o.lent o.counts)) (Ok done) done.position
+indexed_by x o (Err refused) = indexed_refuse x refused.refusal refused.position
 
 abbrev pub indexed_unless : Job → IndexedCall → Verdict → IndexedOutcome
 indexed_unless job x (Err r) = indexed_refuse x r x.call.numbers.place.position

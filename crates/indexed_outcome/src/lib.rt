@@ -2,13 +2,20 @@
 // and theorems, and no functions.
 #![tactic(auto)]
 
-use emit_outcome::{EmitAnswer, FillCounts};
+use emit_outcome::{DoneLine, EmitAnswer, FillCounts};
 
 // The caller's four fill counts.
 #[derive(Clone, Copy)]
 pub struct IndexedCounts {
     pub counts: FillCounts,
     pub index: u32,
+}
+
+// An accepted line's answer, and the counts that have grown by it.
+#[derive(Clone, Copy)]
+pub struct IndexedAppended {
+    pub done: DoneLine,
+    pub counts: IndexedCounts,
 }
 
 // The answer and the counts.

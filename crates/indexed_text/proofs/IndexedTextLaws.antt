@@ -2,7 +2,7 @@
 use Rattle.std.specs.Prelude.{◌+◌, ◌≤◌, ◌≡◌, ◌++◌, length}
 use Rattle.std.proofs.Common.{arith, length-append}
 use Rattle.pseudo_names.specs.PseudoNames.{bytes_of}
-use Rattle.emit_outcome.specs.declared.EmitAnswer.{EmitAnswer}
+use Rattle.emit_outcome.specs.Answer.{EmitAnswer}
 use Rattle.indexed_outcome.specs.declared.IndexedCounts.{IndexedCounts}
 use Rattle.text.specs.Text.{field, last_field}
 use Rattle.text.proofs.TextLaws.{field_most, last_most}
@@ -21,8 +21,9 @@ fills_length c =
 pub fills_most : (c : IndexedCounts) → length (fills_line c) ≤ 90
 fills_most c = omega (arith, fills_length c, field_most c.counts.data_len, field_most c.counts.pending, field_most c.counts.breakpoints, last_most c.index)
 
-pub head_most : (a : EmitAnswer) (c : IndexedCounts) → length (head_text a c) ≤ 247
+pub head_length : (a : EmitAnswer) (c : IndexedCounts) → length (head_text a c) ≡ length (answer_text a) + length (fills_line c) + length (loaded_text a)
 unfolding head_text
-head_most a c =
-    let front = answer_text a ++ fills_line c in
-    omega (arith, length-append front (loaded_text a), length-append (answer_text a) (fills_line c), answer_most a, fills_most c, loaded_most a)
+head_length a c = omega (arith, length-append (answer_text a ++ fills_line c) (loaded_text a), length-append (answer_text a) (fills_line c))
+
+pub head_most : (a : EmitAnswer) (c : IndexedCounts) → length (head_text a c) ≤ 247
+head_most a c = omega (arith, head_length a c, answer_most a, fills_most c, loaded_most a)

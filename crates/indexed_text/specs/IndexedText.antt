@@ -5,7 +5,7 @@ use Rattle.jobs.specs.declared.Job.TheVariants.{Commit}
 use Rattle.pseudo_names.specs.PseudoNames.{bytes_of}
 use Rattle.emit_outcome.specs.declared.FillCounts.{FillCounts}
 use Rattle.emit_outcome.specs.declared.LinePlace.{LinePlace}
-use Rattle.emit_outcome.specs.declared.EmitAnswer.{EmitAnswer}
+use Rattle.emit_outcome.specs.Answer.{EmitAnswer}
 use Rattle.emit_outcome.specs.Call.{Lent, lent_of, call_of}
 use Rattle.indexed_outcome.specs.declared.IndexedCounts.{IndexedCounts}
 use Rattle.indexed_outcome.specs.Indexed.{IndexedOutcome, indexed_call_of, indexed_outcome}

@@ -2,19 +2,16 @@
 // has it, and what the call leaves.
 #![tactic(auto)]
 
-ghost use Rattle.std.specs.Prelude.{◌≡◌, ◌+◌, ◌≤◌, length};
+ghost use Rattle.std.specs.Prelude.{◌≡◌, [], ◌++◌, ◌+◌, ◌≤◌, length};
 ghost use Rattle.emit_outcome.specs.Call.{lent_of};
 ghost use Rattle.indexed_outcome.specs.Indexed.{indexed_outcome_of};
-ghost use Rattle.text.specs.Text.{Put};
 ghost use Rattle.indexed_text.specs.IndexedText.{fills_line, head_text, outcome_text, counts_in, place_in, call_text, emit_indexed_text};
 
 use emit_outcome::{EmitAnswer, FillCounts, LinePlace};
 use indexed_outcome::IndexedCounts;
 use jobs::Job;
 use program::Program;
-
-// Room for the text of four buffers, each of one byte more than its limit.
-pub const MOST: usize = 525_000;
+use text::{MOST, Printed};
 
 // The four fill counts that stand behind the buffers.
 fn counts_in(rest: &[u8]) -> IndexedCounts
@@ -40,62 +37,63 @@ fn place_in(rest: &[u8]) -> LinePlace
     }
 }
 
-fn put_fills(out: &mut [u8], at: usize, counts: IndexedCounts) -> usize
-    requires { at + length (fills_line counts) ≤ length out.old }
-    ensures { Put out.old at (fills_line counts) out.new result }
+#[tactic(auto, using(crate::proofs::IndexedTextLaws::fills_length), unfolding(crate::specs::IndexedText::fills_line))]
+fn put_fills(out: &mut Printed, counts: IndexedCounts)
+    requires { length out.old + length (fills_line counts) ≤ MOST }
+    ensures { out.new ≡ out.old ++ fills_line counts }
 {
     let three = counts.counts;
-    let data_at = text::put_text(&mut *out, at, b"fills");
-    let pending_at = text::put_field(&mut *out, data_at, three.data_len as u64);
-    let breakpoints_at = text::put_field(&mut *out, pending_at, three.pending as u64);
-    let index_at = text::put_field(&mut *out, breakpoints_at, three.breakpoints as u64);
-    text::put_last_field(out, index_at, counts.index as u64)
+    out.push(b"fills");
+    out.push_field(three.data_len as u64);
+    out.push_field(three.pending as u64);
+    out.push_field(three.breakpoints as u64);
+    out.push_last_field(counts.index as u64);
 }
 
 // All but the buffers.
-fn put_head(out: &mut [u8], answer: EmitAnswer, counts: IndexedCounts) -> usize
-    requires { 256 ≤ length out.old }
-    ensures { Put out.old 0 (head_text answer counts) out.new result }
+#[tactic(auto, using(crate::proofs::IndexedTextLaws::head_length, std::proofs::lemmas::Grind::common_steps), unfolding(crate::specs::IndexedText::head_text))]
+fn put_head(out: &mut Printed, answer: EmitAnswer, counts: IndexedCounts)
+    requires { length out.old + length (head_text answer counts) ≤ MOST }
+    ensures { out.new ≡ out.old ++ head_text answer counts }
 {
-    let fills_at = line_text::lines::put_answer(&mut *out, answer);
-    let loaded_at = put_fills(&mut *out, fills_at, counts);
-    line_text::lines::put_loaded(out, loaded_at, answer)
+    line_text::lines::put_answer(&mut *out, answer);
+    put_fills(&mut *out, counts);
+    line_text::lines::put_loaded(out, answer);
 }
 
 // What a call answers and what the buffers hold after it.
+#[tactic(auto, using(crate::proofs::IndexedTextLaws::head_most, bytes_line::proofs::BytesLineLaws::bytes_length, std::proofs::lemmas::Grind::common_steps))]
 fn put_emitted(
-    out: &mut [u8],
+    out: &mut Printed,
     answer: EmitAnswer,
     counts: IndexedCounts,
     data: &[u8],
     pending: &[u8],
     breakpoints: &[u8],
     index: &[u8],
-) -> usize
-    requires { (525000 ≤ length out.old) × (length «data».now ≤ 65537) × (length pending.now ≤ 65537) × (length breakpoints.now ≤ 65537) × (length index.now ≤ 65537) }
-    ensures { Put out.old 0
-        (outcome_text (indexed_outcome_of answer counts
-        (lent_of «data».now pending.now breakpoints.now) index.now)) out.new result }
+)
+    requires { (out.old ≡ []) × (length «data».now ≤ 65537) × (length pending.now ≤ 65537) × (length breakpoints.now ≤ 65537) × (length index.now ≤ 65537) }
+    ensures { out.new ≡ outcome_text (indexed_outcome_of answer counts
+        (lent_of «data».now pending.now breakpoints.now) index.now) }
 {
-    let data_at = put_head(&mut *out, answer, counts);
-    let pending_at = bytes_line::put_bytes(&mut *out, data_at, b"data ", data);
-    let breakpoints_at = bytes_line::put_bytes(&mut *out, pending_at, b"pending ", pending);
-    let index_at = bytes_line::put_bytes(&mut *out, breakpoints_at, b"breakpoints ", breakpoints);
-    bytes_line::put_bytes(out, index_at, b"index ", index)
+    put_head(&mut *out, answer, counts);
+    bytes_line::push_bytes(&mut *out, b"data ", data);
+    bytes_line::push_bytes(&mut *out, b"pending ", pending);
+    bytes_line::push_bytes(&mut *out, b"breakpoints ", breakpoints);
+    bytes_line::push_bytes(out, b"index ", index);
 }
 
 // Makes the call of an input whose buffers that it may change are these.
 fn put_call(
-    out: &mut [u8],
+    out: &mut Printed,
     input: &[u8],
     data: &mut [u8],
     pending: &mut [u8],
     breakpoints: &mut [u8],
     index: &mut [u8],
-) -> usize
-    requires { (525000 ≤ length out.old) × (length «data».old ≤ 65537) × (length pending.old ≤ 65537) × (length breakpoints.old ≤ 65537) × (length index.old ≤ 65537) }
-    ensures { Put out.old 0
-        (call_text input.now (lent_of «data».old pending.old breakpoints.old) index.old) out.new result }
+)
+    requires { (out.old ≡ []) × (length «data».old ≤ 65537) × (length pending.old ≤ 65537) × (length breakpoints.old ≤ 65537) × (length index.old ≤ 65537) }
+    ensures { out.new ≡ call_text input.now (lent_of «data».old pending.old breakpoints.old) index.old }
 {
     let rest = input::behind_lists(input, 8);
     let mut counts = counts_in(rest);
@@ -121,12 +119,12 @@ fn put_call(
         &*pending,
         &*breakpoints,
         &*index,
-    )
+    );
 }
 
 // The text that `emit_indexed` prints for an input.
-pub fn emit_indexed(input: &[u8], out: &mut [u8; MOST]) -> usize
-    ensures { Put out.old 0 (emit_indexed_text input.now) out.new result }
+pub fn emit_indexed(input: &[u8], out: &mut Printed)
+    ensures { out.new ≡ emit_indexed_text input.now }
 {
     let mut data = [0u8; record::LIMIT + 1];
     let mut pending = [0u8; record::LIMIT + 1];
@@ -136,6 +134,7 @@ pub fn emit_indexed(input: &[u8], out: &mut [u8; MOST]) -> usize
     let p = input::hold(&mut pending, input::list_of(input, 4));
     let b = input::hold(&mut breakpoints, input::list_of(input, 5));
     let u = input::hold(&mut index, input::list_of(input, 7));
+    out.clear();
     put_call(
         out,
         input,
@@ -143,14 +142,16 @@ pub fn emit_indexed(input: &[u8], out: &mut [u8; MOST]) -> usize
         &mut pending[..p],
         &mut breakpoints[..b],
         &mut index[..u],
-    )
+    );
 }
 
 // `emit_indexed` as a program.
 pub struct EmitIndexedText;
 
-impl Program<{ MOST }> for EmitIndexedText {
-    fn print(&self, input: &[u8], out: &mut [u8; MOST]) -> usize {
-        emit_indexed(input, out)
+impl Program for EmitIndexedText {
+    ghost text_of = { emit_indexed_text };
+
+    fn print(&self, input: &[u8], out: &mut Printed) {
+        emit_indexed(input, out);
     }
 }

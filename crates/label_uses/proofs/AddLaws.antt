@@ -6,7 +6,7 @@ use mathlib.Core.List.{List, [], ◌∷◌, ◌++◌, append_assoc}
 use Rattle.std.proofs.Math.Path.{sym, ap}
 use Rattle.record.specs.Bytes.{part}
 use Rattle.record.specs.Stores.{le16_bytes, le32_bytes, append}
-use Rattle.label_uses.specs.Uses.{Use, more_use}
+use Rattle.label_uses.specs.Uses.{is_known, kept_of, Use, more_use}
 use Rattle.label_uses.specs.UseBytes.{flag_of, numbers_bytes, use_body, uses_bytes, use_bytes}
 use Rattle.label_uses.proofs.UseBytesLaws.{numbers_length, numbers_append, numbers_one, body_length, uses_cons, uses_append}
 use Rattle.label_uses.specs.Held.{Holds}
@@ -14,16 +14,16 @@ use Rattle.label_uses.proofs.MoveLaws.{append_over, put_between}
 
 -- ---- a record, taken apart: its length, what stands between length and count, its count, its numbers, the rest
 abbrev pub between_of : Use → List ℕ
-between_of u = 39 ∷ 0 ∷ flag_of u.key.standing.known ∷ []
+between_of u = 39 ∷ 0 ∷ flag_of (is_known u.key.standing) ∷ []
 
 abbrev pub rest_of : Use → List ℕ
-rest_of u = le32_bytes u.key.standing.owner ++ u.key.name
+rest_of u = le32_bytes (kept_of u.key.standing) ++ u.key.name
 
 abbrev pub apart : (len : ℕ) → Use → (count : ℕ) → (numbers : List ℕ) → List ℕ
 apart len u count numbers = le16_bytes len ++ (between_of u ++ (le16_bytes count ++ (numbers ++ rest_of u)))
 
 pub use_apart : (u : Use) → use_bytes u ≡ apart (length (use_body u)) u (length u.numbers) (numbers_bytes u.numbers)
-use_apart u = ap (λ (x : List ℕ). le16_bytes (length (use_body u)) ++ (between_of u ++ (le16_bytes (length u.numbers) ++ x))) (append_assoc (numbers_bytes u.numbers) (le32_bytes u.key.standing.owner) u.key.name)
+use_apart u = ap (λ (x : List ℕ). le16_bytes (length (use_body u)) ++ (between_of u ++ (le16_bytes (length u.numbers) ++ x))) (append_assoc (numbers_bytes u.numbers) (le32_bytes (kept_of u.key.standing)) u.key.name)
 
 -- with a number more
 pub more_apart : (u : Use) (n : ℕ) → use_bytes (more_use u n) ≡ apart (length (use_body u) + 2) u (length u.numbers + 1) (numbers_bytes u.numbers ++ le16_bytes n)

@@ -6,9 +6,10 @@ use Rattle.std.proofs.lemmas.Bool.{eqb-false}
 use Rattle.record.specs.Bytes.{byte_at, le16, le32, part}
 use Rattle.record.specs.Records.{next, body_len}
 use Rattle.record.specs.Stores.{le16_bytes, le32_bytes}
-use Rattle.label_uses.specs.Uses.{Use}
+use Rattle.label_uses.specs.Uses.{is_known, Use}
 use Rattle.label_uses.specs.UseBytes.{flag_of, numbers_bytes, use_body, use_bytes}
 use Rattle.label_uses.proofs.UseBytesLaws.{body_length}
+use Rattle.label_uses.proofs.UseOrderLaws.{known_read, kept_read}
 use Rattle.label_uses.proofs.AddLaws.{between_of, rest_of, use_apart}
 use Rattle.label_uses.proofs.OneMoreLaws.{AllBytes}
 use Rattle.label_uses.specs.ReadUse.{count_at, owner_place, halves_at, use_read, RecordOk}
@@ -115,8 +116,8 @@ module _ (s : List ℕ) (b : AllBytes s) (at : ℕ) (ok : RecordOk s at) where
       let j₂ : at + 3 + 1 ≡ at + 4 = omega arith in
       let w = ok.within in
       let r = ok.room in
-      ap₂ (λ (x y : ℕ). x ∷ y ∷ flag_of (eqb (byte_at s (at + 4)) 1) ∷ []) e₁ e₂
-      ∙ ap (λ (x : ℕ). byte_at s (at + 2) ∷ byte_at s (at + 3) ∷ x ∷ []) (flag_back (byte_at s (at + 4)) ok.flag_is)
+      ap₂ (λ (x y : ℕ). x ∷ y ∷ flag_of (is_known u.key.standing) ∷ []) e₁ e₂
+      ∙ ap (λ (x : ℕ). byte_at s (at + 2) ∷ byte_at s (at + 3) ∷ x ∷ []) (ap flag_of (known_read (eqb (byte_at s (at + 4)) 1) (le32 s o)) ∙ flag_back (byte_at s (at + 4)) ok.flag_is)
       ∙ sym (part_cons s (at + 2) 2 (omega arith)
       ∙ ap (λ (x : List ℕ). byte_at s (at + 2) ∷ x) (ap (λ (j : ℕ). part s j 2) j₁ ∙ part_cons s (at + 3) 1 (omega arith)
       ∙ ap (λ (x : List ℕ). byte_at s (at + 3) ∷ x) (ap (λ (j : ℕ). part s j 1) j₂ ∙ part_cons s (at + 4) 0 (omega arith))))
@@ -130,7 +131,7 @@ module _ (s : List ℕ) (b : AllBytes s) (at : ℕ) (ok : RecordOk s at) where
       let len : le16_bytes (length (use_body u)) ≡ part s at 2 = ap le16_bytes body_back ∙ half_bytes s b at (omega arith) in
       let cnt : le16_bytes (length u.numbers) ≡ part s (at + 5) 2 = ap le16_bytes n ∙ half_bytes s b (at + 5) (omega arith) in
       let nums : numbers_bytes u.numbers ≡ part s (at + 7) (2 * c) = halves_bytes s b c (at + 7) (omega arith) in
-      let rest : rest_of u ≡ part s o (4 + name_len) = ap (λ (x : List ℕ). x ++ part s (o + 4) name_len) (word_bytes s b o (omega arith)) ∙ sym (part_add s o 4 name_len) in
+      let rest : rest_of u ≡ part s o (4 + name_len) = ap (λ (x : List ℕ). x ++ part s (o + 4) name_len) (ap le32_bytes (kept_read (eqb (byte_at s (at + 4)) 1) (le32 s o)) ∙ word_bytes s b o (omega arith)) ∙ sym (part_add s o 4 name_len) in
       let j₁ : at + 2 + 3 ≡ at + 5 = omega arith in
       let j₂ : at + 5 + 2 ≡ at + 7 = omega arith in
       let m₁ : 2 + (3 + (2 + (2 * c + (4 + name_len)))) ≡ 4 + body_len s at = omega arith in

@@ -6,7 +6,7 @@ use Rattle.record.specs.Bytes.{byte_at}
 use Rattle.record.specs.Records.{next, body_len, kind_at, places, first_bad}
 use Rattle.record.proofs.BehindLaws.{byte_behind, le16_behind}
 use Rattle.pending.specs.Pendings.{pending_ok}
-use Rattle.label_uses.specs.Uses.{UseKey, Use, use_order, uses_of}
+use Rattle.label_uses.specs.Uses.{is_known, UseKey, Use, use_order, uses_of}
 use Rattle.label_uses.specs.UseBytes.{flag_of, uses_bytes, index_of, use_bytes}
 use Rattle.label_uses.proofs.UseBytesLaws.{body_length, uses_none, uses_cons, uses_append}
 use Rattle.label_uses.proofs.InsertLaws.{Below, Rises, none_left, one_left, below_none}
@@ -142,11 +142,11 @@ module _ (labels pending s : List ℕ) (fill : ℕ) (lb : AllBytes labels) (pb :
       let b : body_len s at ≡ _ = ap (λ (x : List ℕ). body_len x at) w ∙ body_read a z u fits at p in
       let c : count_at s at ≡ length u.numbers = ap (λ (x : List ℕ). count_at x at) w ∙ count_read a z u fits at p in
       let kind : kind_at s at ≡ 39 = ap (λ (x : List ℕ). kind_at x at) w ∙ le16_behind a (use_bytes u ++ z) 2 (at + 2) (omega arith) in
-      let flag : byte_at s (at + 4) ≡ flag_of u.key.standing.known = ap (λ (x : List ℕ). byte_at x (at + 4)) w ∙ byte_behind a (use_bytes u ++ z) 4 (at + 4) (omega arith) in
+      let flag : byte_at s (at + 4) ≡ flag_of (is_known u.key.standing) = ap (λ (x : List ℕ). byte_at x (at + 4)) w ∙ byte_behind a (use_bytes u ++ z) 4 (at + 4) (omega arith) in
       record {
         rest = r;
         split = e ∙ ap (λ (x : Use). l ++ (x ∷ r)) (sym read);
-        well = record { within = omega arith; kind_is = kind; flag_is = omega (arith, flag_most u.key.standing.known); room = omega (arith, body_length u) };
+        well = record { within = omega arith; kind_is = kind; flag_is = omega (arith, flag_most (is_known u.key.standing)); room = omega (arith, body_length u) };
         inside = omega arith;
       }
     where

@@ -23,6 +23,7 @@ use Rattle.labels.specs.Labels.{or_else, labelled}
 use Rattle.label_uses.specs.Uses.{standing_by}
 use Rattle.label_uses.proofs.UseOrderLaws.{never}
 use Rattle.label_uses.specs.declared.Standing.{Standing}
+use Rattle.label_uses.specs.declared.Standing.TheVariants.{Known, Unknown}
 use Rattle.std.specs.declared.cmp.Ordering.TheVariants.{Less, Equal, Greater}
 use Rattle.std.specs.declared.cmp.Ordering.{Ordering}
 
@@ -151,12 +152,9 @@ lookup_hits skip s l ix owner name =
 
 -- ---- what a name stands for, by whether its source has a label of the name and whether one is for all
 abbrev pub standing_hit : (source : ℕ) → (own shared : Bool) → Standing
-standing_hit source true shared = record { known = true; owner = source }
-standing_hit source false true = record { known = true; owner = for_all }
-standing_hit source false false = record { known = false; owner = source }
-
-abbrev standing_of : Bool → ℕ → Standing
-standing_of known owner = record { known = known; owner = owner }
+standing_hit source true shared = Known source
+standing_hit source false true = Known for_all
+standing_hit source false false = Unknown source
 
 owner_found : (labels : List ℕ) (owner : ℕ) (name : List ℕ) (p : ℕ) → first_owned 4 labels owner name ≡ Some p → owner_of 4 labels p ≡ owner
 owner_found labels owner name p e =
@@ -171,11 +169,11 @@ standing_by_hits labels source name = go (first_owned 4 labels source name) refl
         → standing_by labels source (labelled labels source name) ≡ standing_hit source (is_hit (first_owned 4 labels source name)) (is_hit (first_owned 4 labels for_all name))
     go (Some p) e y f =
         ap₂ (λ (a b : Option ℕ). standing_by labels source (or_else a b)) e f
-        ∙ ap (standing_of true) (owner_found labels source name p e)
+        ∙ ap Known (owner_found labels source name p e)
         ∙ sym (ap₂ (λ (a b : Option ℕ). standing_hit source (is_hit a) (is_hit b)) e f)
     go None e (Some p) f =
         ap₂ (λ (a b : Option ℕ). standing_by labels source (or_else a b)) e f
-        ∙ ap (standing_of true) (owner_found labels for_all name p f)
+        ∙ ap Known (owner_found labels for_all name p f)
         ∙ sym (ap₂ (λ (a b : Option ℕ). standing_hit source (is_hit a) (is_hit b)) e f)
     go None e None f =
         ap₂ (λ (a b : Option ℕ). standing_by labels source (or_else a b)) e f ∙ sym (ap₂ (λ (a b : Option ℕ). standing_hit source (is_hit a) (is_hit b)) e f)

@@ -23,7 +23,7 @@ use Rattle.pending.proofs.Written.{Written}
 use Rattle.pending.specs.declared.InstructionLabel.{InstructionLabel}
 use Rattle.pending.specs.declared.Origin.{Origin}
 use Rattle.pending.specs.declared.Pending.{Pending}
-use Rattle.label_uses.specs.Uses.{UseKey, Use, key_for, standing_by, insert_use, use_of, uses_from, uses_of}
+use Rattle.label_uses.specs.Uses.{kept_of, UseKey, Use, key_for, standing_by, insert_use, use_of, uses_from, uses_of}
 use Rattle.label_uses.specs.Says.{key_in}
 use Rattle.label_uses.proofs.UseOrderLaws.{never}
 use Rattle.label_uses.proofs.SaysLaws.{says_all}
@@ -111,19 +111,19 @@ owner_fits labels b p = go (has_owner labels p) refl
     go true e = omega (arith, (with_owner 4 labels p e).owner, word_fits labels b (p + 4 + 4))
     go false e = omega (arith, (without_owner 4 labels p e).owner)
 
-pub key_fits : (labels : List ℕ) → AllBytes labels → (source : ℕ) (name : List ℕ) → source < 2 ^ 32 → (key_for labels source name).standing.owner < 2 ^ 32
+pub key_fits : (labels : List ℕ) → AllBytes labels → (source : ℕ) (name : List ℕ) → source < 2 ^ 32 → kept_of (key_for labels source name).standing < 2 ^ 32
 unfolding key_for
 key_fits labels b source name h = go (labelled labels source name)
   where
-    go : (x : Option ℕ) → (standing_by labels source x).owner < 2 ^ 32
+    go : (x : Option ℕ) → kept_of (standing_by labels source x) < 2 ^ 32
     go (Some p) = owner_fits labels b p
     go None = h
 
 module _ (labels pending : List ℕ) (lb : AllBytes labels) (pb : AllBytes pending) where
-  pub key_in_fits : (at : ℕ) (key : UseKey) → key_in labels pending (label_of pending at) ≡ Some key → key.standing.owner < 2 ^ 32
+  pub key_in_fits : (at : ℕ) (key : UseKey) → key_in labels pending (label_of pending at) ≡ Some key → kept_of key.standing < 2 ^ 32
   key_in_fits at key e = go (eqb (byte_at pending (at + 19)) 0) refl
     where
-      go : (t : Bool) → eqb (byte_at pending (at + 19)) 0 ≡ t → key.standing.owner < 2 ^ 32
+      go : (t : Bool) → eqb (byte_at pending (at + 19)) 0 ≡ t → kept_of key.standing < 2 ^ 32
       go true t =
           let r = at_constant pending (at + 19) (next pending at) (eqb-true (byte_at pending (at + 19)) 0 t) in
           let z : key_in labels pending (label_of pending at) ≡ None = ap (key_in labels pending) r in
@@ -134,13 +134,13 @@ module _ (labels pending : List ℕ) (lb : AllBytes labels) (pb : AllBytes pendi
           let name = part pending (at + 19 + 17) (next pending at - (at + 19 + 17)) in
           let z : key_in labels pending (label_of pending at) ≡ Some (key_for labels source name) = ap (key_in labels pending) r in
           let k : key ≡ key_for labels source name = cc in
-          subst (λ (x : UseKey). x.standing.owner < 2 ^ 32) (sym k) (key_fits labels lb source name (word_fits pending pb (at + 19 + 9)))
+          subst (λ (x : UseKey). kept_of x.standing < 2 ^ 32) (sym k) (key_fits labels lb source name (word_fits pending pb (at + 19 + 9)))
 
   first_in : (ns : List ℕ) → 0 < length ns → (n : ℕ) × Memᴰ n ns
   first_in [] h = absurd (omega arith)
   first_in (n ∷ ns) h = (n, Memᴰ.head refl)
 
-  pub owners_fit : (u : Use) → Memᴰ u (uses_of labels pending) → u.key.standing.owner < 2 ^ 32
+  pub owners_fit : (u : Use) → Memᴰ u (uses_of labels pending) → kept_of u.key.standing < 2 ^ 32
   owners_fit u m =
       let s = says_all labels pending in
       let f = first_in u.numbers (s.in_order u m).1 in

@@ -6,24 +6,21 @@ use Rattle.record.specs.Bytes.{byte_at, le32, part}
 use Rattle.record.specs.Records.{next, body_len}
 use Rattle.record.proofs.BehindLaws.{byte_behind, le16_behind, le32_behind, part_behind, digits16, digits32}
 use Rattle.record.specs.Stores.{le16_bytes}
-use Rattle.label_uses.specs.Uses.{UseKey, Use}
+use Rattle.label_uses.specs.Uses.{is_known, kept_of, UseKey, Use}
 use Rattle.label_uses.specs.UseBytes.{flag_of, numbers_bytes, use_body, use_bytes}
 use Rattle.label_uses.proofs.UseBytesLaws.{numbers_length, body_length}
 use Rattle.label_uses.proofs.AddLaws.{between_of, rest_of, use_apart}
-use Rattle.label_uses.specs.ReadUse.{count_at, owner_place, key_with, key_read, halves_at, use_read}
-use Rattle.label_uses.specs.declared.Standing.{Standing}
+use Rattle.label_uses.specs.ReadUse.{count_at, owner_place, key_with, standing_read, key_read, halves_at, use_read}
+use Rattle.label_uses.proofs.UseOrderLaws.{standing_kept}
 
 -- a use whose parts fit the record's fields
 pub record UseFits (u : Use) : Type 0 where
   pub body_fits : length (use_body u) < 2 ^ 16
-  pub owner_fits : u.key.standing.owner < 2 ^ 32
+  pub owner_fits : kept_of u.key.standing < 2 ^ 32
 
 flag_read : (b : Bool) → eqb (flag_of b) 1 ≡ b
 flag_read true = refl
 flag_read false = refl
-
-abbrev standing : Bool → ℕ → Standing
-standing known owner = record { known = known; owner = owner }
 
 module _ (l r : List ℕ) (u : Use) (fits : UseFits u) (at : ℕ) (e : at ≡ length l) where
   abbrev s : List ℕ
@@ -52,17 +49,17 @@ module _ (l r : List ℕ) (u : Use) (fits : UseFits u) (at : ℕ) (e : at ≡ le
   count_read =
       le16_behind l (use_bytes u ++ r) 5 (at + 5) (omega arith) ∙ digits16 (length u.numbers) (omega (arith, body_length u, fits.body_fits))
 
-  flag_at : byte_at s (at + 4) ≡ flag_of u.key.standing.known
+  flag_at : byte_at s (at + 4) ≡ flag_of (is_known u.key.standing)
   flag_at = byte_behind l (use_bytes u ++ r) 4 (at + 4) (omega arith)
 
   front_length : length (l ++ front) ≡ owner_place s at
   front_length = omega (arith, length-append l front, numbers_length u.numbers, count_read)
 
-  owner_read : le32 s (owner_place s at) ≡ u.key.standing.owner
+  owner_read : le32 s (owner_place s at) ≡ kept_of u.key.standing
   owner_read =
       let k = owner_place s at in
       let m : k ≡ length (l ++ front) + 0 = omega (arith, front_length) in
-      ap (λ (x : List ℕ). le32 x k) parted ∙ le32_behind (l ++ front) (rest_of u ++ r) 0 k m ∙ digits32 u.key.standing.owner fits.owner_fits
+      ap (λ (x : List ℕ). le32 x k) parted ∙ le32_behind (l ++ front) (rest_of u ++ r) 0 k m ∙ digits32 (kept_of u.key.standing) fits.owner_fits
 
   pub name_length_read : owner_place s at + 4 + length u.key.name ≡ next s at
   name_length_read = omega (arith, count_read, next_read, body_length u)
@@ -78,7 +75,7 @@ module _ (l r : List ℕ) (u : Use) (fits : UseFits u) (at : ℕ) (e : at ≡ le
       ∙ take_at u.key.name r (length u.key.name) refl
 
   pub key_read_lem : key_read s at ≡ u.key
-  key_read_lem = ap₂ key_with name_read (ap₂ standing (ap (λ (b : ℕ). eqb b 1) flag_at ∙ flag_read u.key.standing.known) owner_read)
+  key_read_lem = ap₂ key_with name_read (ap₂ standing_read (ap (λ (b : ℕ). eqb b 1) flag_at ∙ flag_read (is_known u.key.standing)) owner_read ∙ standing_kept u.key.standing)
 
 -- ---- numbers
 pub halves_read : (p r : List ℕ) (ns : List ℕ) (at : ℕ) → at ≡ length p → ((n : ℕ) → Memᴰ n ns → n < 2 ^ 16) → halves_at (length ns) (p ++ (numbers_bytes ns ++ r)) at ≡ ns

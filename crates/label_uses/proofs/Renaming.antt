@@ -1,8 +1,7 @@
 -- "A cutter renaming a seam label wants every place that uses it": a pending is listed under a label exactly if its name resolves to that label.
 -- Assumes nothing.
-use Rattle.std.specs.Prelude.{ℕ, ◌<◌, true, ◌≡◌, refl, length, get_or, None, Option, Some}
+use Rattle.std.specs.Prelude.{ℕ, ◌<◌, ◌≡◌, refl, length, get_or, None, Option, Some}
 use mathlib.Core.List.{List, Memᴰ}
-use Rattle.std.proofs.lemmas.Bool.{false≢true}
 use Rattle.std.proofs.Common.{sym, ap, ◌∙◌}
 use Rattle.record.specs.Bytes.{part}
 use Rattle.record.specs.Records.{places}
@@ -13,14 +12,15 @@ use Rattle.address_label.specs.declared.AddressLabel.TheVariants.{Constant, Labe
 use Rattle.address_label.specs.declared.NamedLabel.{NamedLabel}
 use Rattle.pending.specs.Pendings.{label_of}
 use Rattle.label_uses.specs.declared.Standing.{Standing}
-use Rattle.label_uses.specs.Uses.{UseKey, Use, standing_by, key_for, uses_of}
+use Rattle.label_uses.specs.declared.Standing.TheVariants.{Known}
+use Rattle.label_uses.specs.Uses.{UseKey, Use, kept_of, standing_by, key_for, uses_of}
 use Rattle.label_uses.proofs.UseOrderLaws.{never}
 use Rattle.label_uses.specs.Says.{key_in, key_at}
 use Rattle.label_uses.proofs.IndexSays.{index_says}
 
 -- the key of a label: "the owner (0xFFFFFFFF for all)"
 abbrev pub label_standing : ℕ → Standing
-label_standing owner = record { known = true; owner = owner }
+label_standing owner = Known owner
 
 abbrev pub label_key : (name : List ℕ) (owner : ℕ) → UseKey
 label_key name owner = record { name = name; standing = label_standing owner }
@@ -40,8 +40,8 @@ pub record Resolves (labels pending : List ℕ) (n : ℕ) (name : List ℕ) (own
   pub owner_is : owner_of 4 labels place ≡ owner
 
 standing_known : (labels : List ℕ) (source owner : ℕ) (x : Option ℕ) → standing_by labels source x ≡ label_standing owner → (p : ℕ) × (x ≡ Some p) × (owner_of 4 labels p ≡ owner)
-standing_known labels source owner (Some p) e = (p, refl, ap (λ (s : Standing). s.owner) e)
-standing_known labels source owner None e = absurd (false≢true (ap (λ (s : Standing). s.known) e))
+standing_known labels source owner (Some p) e = (p, refl, ap kept_of e)
+standing_known labels source owner None e = never (cc)
 
 key_known : (labels : List ℕ) (source owner : ℕ) (other name : List ℕ) → key_for labels source other ≡ label_key name owner
     → (other ≡ name) × (p : ℕ) × (labelled labels source other ≡ Some p) × (owner_of 4 labels p ≡ owner)

@@ -2,7 +2,7 @@
 use Rattle.std.specs.Prelude.{ℕ, ◌+◌, ◌*◌, ◌≤◌, List, [], ◌∷◌, ◌++◌, ◌≡◌, refl, length}
 use Rattle.std.proofs.Common.{arith, append_assoc, sym, ap, ◌∙◌, length-append}
 use Rattle.record.specs.Stores.{le16_bytes, le32_bytes}
-use Rattle.label_uses.specs.Uses.{UseKey, Use, use_order, one_use, more_use, insert_use}
+use Rattle.label_uses.specs.Uses.{kept_of, UseKey, Use, use_order, one_use, more_use, insert_use}
 use Rattle.label_uses.specs.Held.{Passed, none_passed, one_passed}
 use Rattle.label_uses.proofs.InsertLaws.{insert_less, insert_same, insert_more, insert_none}
 use Rattle.label_uses.specs.UseBytes.{numbers_bytes, use_body, use_bytes, uses_bytes}
@@ -30,8 +30,8 @@ body_length u =
     omega (
       arith,
       numbers_length u.numbers,
-      length-append (numbers_bytes u.numbers) (le32_bytes u.key.standing.owner),
-      length-append (numbers_bytes u.numbers ++ le32_bytes u.key.standing.owner) u.key.name,
+      length-append (numbers_bytes u.numbers) (le32_bytes (kept_of u.key.standing)),
+      length-append (numbers_bytes u.numbers ++ le32_bytes (kept_of u.key.standing)) u.key.name,
     )
 
 pub use_length : (u : Use) → length (use_bytes u) ≡ 11 + 2 * length u.numbers + length u.key.name

@@ -3,7 +3,10 @@ use Rattle.std.specs.Prelude.{ℕ, List, [], ◌⊎◌, Bool, true, false, ◌�
 use Rattle.std.proofs.Common.{arith, inl, inr, ⊎_elim, sym, ap, ap₂, ◌∙◌}
 use Rattle.name_order.specs.Order.{then_by, numbers, order, Key, key_order}
 use Rattle.name_order.proofs.OrderLaws.{turned, key_same, key_is, key_turned, key_trans}
-use Rattle.label_uses.specs.Uses.{UseKey, known_order, use_order}
+use Rattle.label_uses.specs.Uses.{is_known, kept_of, UseKey, known_order, use_order}
+use Rattle.label_uses.specs.ReadUse.{standing_read}
+use Rattle.label_uses.specs.declared.Standing.{Standing}
+use Rattle.label_uses.specs.declared.Standing.TheVariants.{Known, Unknown}
 use Rattle.std.specs.declared.cmp.Ordering.TheVariants.{Less, Equal, Greater}
 use Rattle.std.specs.declared.cmp.Ordering.{Ordering}
 
@@ -127,14 +130,29 @@ module _ {A B : Type 0} (f : A → A → Ordering) (g : B → B → Ordering) (o
   }
 
 -- ---- keys
+pub standing_kept : (s : Standing) → standing_read (is_known s) (kept_of s) ≡ s
+standing_kept (Known owner) = refl
+standing_kept (Unknown source) = refl
+
+pub known_read : (known : Bool) (n : ℕ) → is_known (standing_read known n) ≡ known
+known_read true n = refl
+known_read false n = refl
+
+pub kept_read : (known : Bool) (n : ℕ) → kept_of (standing_read known n) ≡ n
+kept_read true n = refl
+kept_read false n = refl
+
 abbrev Parts : Type 0
 Parts = List ℕ × (Bool × ℕ)
 
 abbrev parts_of : UseKey → Parts
-parts_of k = (k.name, (k.standing.known, k.standing.owner))
+parts_of k = (k.name, (is_known k.standing, kept_of k.standing))
 
 abbrev key_of : Parts → UseKey
-key_of p = record { name = p.0; standing = record { known = p.1.0; owner = p.1.1 } }
+key_of p = record { name = p.0; standing = standing_read p.1.0 p.1.1 }
+
+key_again : (k : UseKey) → key_of (parts_of k) ≡ k
+key_again k = ap (λ (s : Standing). record { name = k.name; standing = s }) (standing_kept k.standing)
 
 parts : Orders (pair_order order (pair_order known_order numbers flags owners) names (pairs known_order numbers flags owners))
 parts = pairs order (pair_order known_order numbers flags owners) names (pairs known_order numbers flags owners)
@@ -143,7 +161,7 @@ pub use_same : (a : UseKey) → use_order a a ≡ Equal
 use_same a = parts.self (parts_of a)
 
 pub use_is : (a b : UseKey) → use_order a b ≡ Equal → a ≡ b
-use_is a b e = ap key_of (parts.is (parts_of a) (parts_of b) e)
+use_is a b e = sym (key_again a) ∙ ap key_of (parts.is (parts_of a) (parts_of b) e) ∙ key_again b
 
 pub use_turned : (a b : UseKey) → use_order b a ≡ turned (use_order a b)
 use_turned a b = parts.turns (parts_of a) (parts_of b)
@@ -152,7 +170,7 @@ pub use_trans : (a b c : UseKey) → use_order a b ≡ Less → use_order b c �
 use_trans a b c e f = parts.trans (parts_of a) (parts_of b) (parts_of c) e f
 
 -- keys of one name stand to each other as their standings do
-pub standings_decide : (a b : UseKey) → a.name ≡ b.name → use_order a b ≡ then_by (known_order a.standing.known b.standing.known) (numbers a.standing.owner b.standing.owner)
+pub standings_decide : (a b : UseKey) → a.name ≡ b.name → use_order a b ≡ then_by (known_order (is_known a.standing) (is_known b.standing)) (numbers (kept_of a.standing) (kept_of b.standing))
 standings_decide a b e =
-    ap (λ (o : Ordering). then_by o (then_by (known_order a.standing.known b.standing.known) (numbers a.standing.owner b.standing.owner)))
+    ap (λ (o : Ordering). then_by o (then_by (known_order (is_known a.standing) (is_known b.standing)) (numbers (kept_of a.standing) (kept_of b.standing))))
     (ap (order a.name) (sym e) ∙ names.self a.name)

@@ -1,9 +1,10 @@
 -- A record of an index, taken apart (document 02, P1). Assumes nothing.
-use Rattle.std.specs.Prelude.{ℕ, zero, suc, ◌+◌, ◌*◌, ◌-◌, ◌≤◌, List, [], ◌∷◌, ◌≡◌, length, eqb}
+use Rattle.std.specs.Prelude.{ℕ, zero, suc, ◌+◌, ◌*◌, ◌-◌, ◌≤◌, List, [], ◌∷◌, ◌≡◌, length, Bool, true, false, eqb}
 use Rattle.record.specs.Bytes.{byte_at, le16, le32, part}
 use Rattle.record.specs.Records.{next, body_len, kind_at}
 use Rattle.label_uses.specs.Uses.{UseKey, Use}
 use Rattle.label_uses.specs.declared.Standing.{Standing}
+use Rattle.label_uses.specs.declared.Standing.TheVariants.{Known, Unknown}
 
 -- "known flag (1 byte), count (2), list numbers (2 each)", then owner or source (4), name
 abbrev pub count_at : List ℕ → ℕ → ℕ
@@ -16,9 +17,14 @@ owner_place s at = at + 7 + 2 * count_at s at
 abbrev pub key_with : (name : List ℕ) → Standing → UseKey
 key_with name standing = record { name = name; standing = standing }
 
+-- what a known flag and the number behind it say
+abbrev pub standing_read : Bool → ℕ → Standing
+standing_read true owner = Known owner
+standing_read false source = Unknown source
+
 abbrev pub key_read : List ℕ → ℕ → UseKey
 key_read s at =
-    key_with (part s (owner_place s at + 4) (next s at - (owner_place s at + 4))) (record { known = eqb (byte_at s (at + 4)) 1; owner = le32 s (owner_place s at) })
+    key_with (part s (owner_place s at + 4) (next s at - (owner_place s at + 4))) (standing_read (eqb (byte_at s (at + 4)) 1) (le32 s (owner_place s at)))
 
 -- n numbers of two bytes from i on
 unfoldable pub halves_at : (n : ℕ) → List ℕ → ℕ → List ℕ

@@ -3,7 +3,7 @@ use Rattle.std.specs.Prelude.{ℕ, List, [], ◌∷◌, ◌++◌, Bool, true, fa
 use Rattle.record.specs.Bytes.{same_bytes}
 use Rattle.record.specs.Stores.{le16_bytes, le32_bytes, record_bytes}
 use Rattle.breakpoints.specs.Breakpoints.{filled_layout}
-use Rattle.label_uses.specs.Uses.{Use, uses_of}
+use Rattle.label_uses.specs.Uses.{is_known, kept_of, Use, uses_of}
 
 abbrev pub flag_of : Bool → ℕ
 flag_of true = 1
@@ -16,7 +16,7 @@ numbers_bytes (n ∷ ns) = le16_bytes n ++ numbers_bytes ns
 -- "known flag (1 byte), count (2), list numbers (2 each), name"; "the owner .. or source is kept as 4 bytes before the name"
 abbrev pub use_body : Use → List ℕ
 use_body u =
-    flag_of u.key.standing.known ∷ le16_bytes (length u.numbers) ++ numbers_bytes u.numbers ++ le32_bytes u.key.standing.owner ++ u.key.name
+    flag_of (is_known u.key.standing) ∷ le16_bytes (length u.numbers) ++ numbers_bytes u.numbers ++ le32_bytes (kept_of u.key.standing) ++ u.key.name
 
 -- "Its record, kind 39"
 abbrev pub use_bytes : Use → List ℕ

@@ -1,24 +1,51 @@
 -- A lookup through an index finds what the scan finds, with at most 32 comparisons of names (document 02, P13). Assumes nothing.
-use Rattle.std.specs.Prelude.{ℕ, ◌+◌, ◌≤◌, ◌<◌, List, Bool, true, false, ◌≡◌, length, get_or, ltb, None, Option, Some}
-use Rattle.std.proofs.Common.{arith, sym, ◌∙◌, ltb-true, ltb-false, lt-ltb, le-ltb}
+use Rattle.std.specs.Prelude.{ℕ, suc, ◌+◌, ◌≤◌, ◌<◌, List, [], ◌∷◌, ◌++◌, Bool, true, false, ◌≡◌, length, get_or, take, drop, eqb, ltb, None, Option, Some}
+use Rattle.std.proofs.Common.{arith, sym, ◌∙◌, ltb-true, ltb-false, lt-ltb, le-ltb, length-append, length-take, length-drop, subst}
 use Rattle.std.proofs.Math.Path.{refl, ap, ap₂}
+use Rattle.std.proofs.Math.Seq.{drop-cons}
 use Rattle.record.specs.Records.{places, first_bad}
 use Rattle.names.specs.Owners.{for_all, has_owned_name, first_owned}
+use Rattle.name_sort.specs.Sorting.{one, count}
+use Rattle.name_sort.proofs.SortingLaws.{in_head, at_in, count_split, count_append}
 use Rattle.name_index.specs.Index.{IndexOf, lookup_from, lookup, told}
+use Rattle.name_index.specs.Ordered.{Ordered}
 use Rattle.name_index.proofs.CountLaws.{count_at_least}
 use Rattle.name_index.proofs.Lookup.{lookup_is_scan, lookup_count, told_same, told_count, owned_at}
 use Rattle.name_index.proofs.SearchLaws.{lookup_first}
 use Rattle.name_index.specs.declared.Looked.{Looked}
-use Rattle.name_index.specs.declared.Told.{Told}
+use Rattle.name_index.specs.Told.{Told}
 use Rattle.labels.specs.Labels.{label_ok, label_layout, or_else, labelled}
 use Rattle.labels.proofs.LabelsLaws.{label_is, labels_good, labels_named, labels_within}
 use Rattle.labels.specs.Lookup.{most_labels, Indexed, or_looked, or_searched, looked_for_all, looked_up}
+
+-- lists that have each number as often are of one length
+same_length : (a b : List ℕ) → ((v : ℕ) → count v a ≡ count v b) → length a ≡ length b
+unfolding count
+same_length [] [] e = refl
+same_length [] (y ∷ b) e = absurd (omega (arith, in_head y b, e y))
+same_length (x ∷ a) b e =
+    let at = at_in b x (let h : count x (x ∷ a) ≡ count x b = e x in rw (← h) (in_head x a)) in
+    let i : ℕ = at.0 in
+    let d = drop-cons b i 0 at.1 in
+    let rest = same_length a (take i b ++ drop (suc i) b)
+    (λ v.
+    let h : count v (drop i b) ≡ one (eqb x v) + count v (drop (suc i) b) = ap (count v) d ∙ ap (λ (w : ℕ). one (eqb w v) + count v (drop (suc i) b)) at.2 in
+    omega (arith, e v, count_split v i b, count_append v (take i b) (drop (suc i) b), h)) in
+    omega (arith, rest, at.1, length-append (take i b) (drop (suc i) b), length-take {A = ℕ}, length-drop {A = ℕ})
 
 -- each label has nine bytes at least
 pub label_count : (s : List ℕ) → label_layout s ≡ None → length (places s) ≤ most_labels
 label_count s g =
     let n = count_at_least 9 s (label_ok s) (λ p e. let l = label_is s p e in (l.whole_at, omega (arith, l.least))) (labels_good s g) in
     omega (arith, labels_within s g)
+
+-- an index of them has no more places
+pub index_few : (s index : List ℕ) → label_layout s ≡ None → IndexOf 4 s index → length index ≤ most_labels
+index_few s index g ix = omega (arith, label_count s g, same_length index (places s) ix.counts)
+
+-- what is known of a table's fields is known of the table
+pub indexed_as : (a b : Ordered) → a ≡ b → Indexed a.list a.order → Indexed b.list b.order
+indexed_as a b e i = subst (λ (x : Ordered). Indexed x.list x.order) e i
 
 -- ---- two lookups, one after the other
 or_named : (own other : Looked) → (or_looked own other).named ≡ or_else own.named other.named

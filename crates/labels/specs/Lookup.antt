@@ -3,7 +3,7 @@ use Rattle.std.specs.Prelude.{ℕ, ◌≤◌, List, ◌≡◌, true, false, leng
 use Rattle.names.specs.Owners.{for_all}
 use Rattle.name_index.specs.Index.{IndexOf, lookup_from, lookup, told}
 use Rattle.name_index.specs.declared.Looked.{Looked}
-use Rattle.name_index.specs.declared.Told.{Told}
+use Rattle.name_index.specs.Told.{Told}
 use Rattle.labels.specs.Labels.{label_layout, label_repeat}
 
 -- the most labels of a list: 65,536 bytes have no more records of nine

@@ -1,13 +1,17 @@
 // The label table: a list of label records instead of the Rust's map from names to addresses.
 #![tactic(auto)]
 
-ghost use Rattle.std.specs.Prelude.{◌≡◌, ◌≤◌, length, take, true};
+ghost use Rattle.std.specs.Prelude.{◌≡◌, ◌+◌, ◌≤◌, length, true, None};
+ghost use Rattle.std.specs.Option.{ForSome};
+ghost use Rattle.record.specs.Records.{limit};
 ghost use Rattle.names.specs.Owners.{has_owned_name};
-ghost use Rattle.labels.specs.Labels.{label_kind, label_ok, label_layout, label_repeat, resolve};
+ghost use Rattle.labels.specs.Labels.{label_kind, label_ok, label_layout, label_repeat, labelled, resolve};
 ghost use Rattle.labels.specs.Lookup.{most_labels, Indexed, looked_for_all, looked_up};
 ghost use Rattle.name_index.specs.Index.{IndexOf};
 
-use name_index::Looked;
+use name_index::{Looked, NameIndex};
+use names::{Named, NamedRecord};
+use std::marker::Model;
 
 // An address, and how many names were compared to find it.
 #[derive(Clone, Copy)]
@@ -22,12 +26,11 @@ pub const MOST: usize = 7281;
 // The record kind of a label for all files.
 const LABEL: usize = 34;
 
-// Whether the record at `at` is of a label's kind.
-fn kind_ok(labels: &[u8], at: usize) -> bool
-    requires { has_owned_name 4 labels.now at ≡ true }
-    ensures { result ≡ label_kind labels.now at }
+// Whether a record is of a label's kind.
+fn kind_ok(label: NamedRecord<'_, 4>) -> bool
+    ensures { result ≡ label_kind label.entry.list.now label.entry.at }
 {
-    record::half_at(labels, at + 2) == LABEL || names::owner_at(labels, 4, at) < names::FOR_ALL
+    record::half_at(label.list, label.at + 2) == LABEL || label.owner() < names::FOR_ALL
 }
 
 // The layout of a list of labels.
@@ -38,10 +41,13 @@ impl record::Layout for Labels {
     ghost keeps = { λ self s at. label_ok s at };
 
     fn keeps(&self, labels: &[u8], at: usize) -> bool {
-        if !names::has_name(labels, 4, at) || !kind_ok(labels, at) {
+        let Some(label) = NamedRecord::read(labels, at) else {
+            return false;
+        };
+        if !kind_ok(label) {
             return false;
         }
-        let name = names::name_at(labels, 4, at);
+        let name = label.name();
         match name.len() {
             1..=64 => record::all_text(name),
             _ => false,
@@ -57,64 +63,107 @@ pub fn first_bad_label(labels: &[u8]) -> Option<usize>
     record::first_bad_within(&Labels, labels)
 }
 
-// Makes the index of a list of labels, and answers their count; `spare` is scratch.
-pub fn make_index(labels: &[u8], index: &mut [u16], spare: &mut [u16]) -> usize
+// The index of a list of labels, made in a lent array; the other is scratch.
+pub fn make_index<'a>(labels: &'a [u8], order: &'a mut [u16], spare: &mut [u16]) -> NameIndex<'a, 4>
     requires labels_value { label_layout labels.now ≡ None }
-    requires most_labels_in_bounds { (most_labels ≤ length index.old) × (most_labels ≤ length spare.old) }
-    ensures { (result ≤ most_labels) × IndexOf 4 labels.now (take result index.new) }
+    requires most_labels_in_bounds { (most_labels ≤ length order.old) × (most_labels ≤ length spare.old) }
+    ensures { (result.list ≡ labels.now) × (length result.order ≤ most_labels) × IndexOf 4 result.list result.order }
 {
-    name_index::make(labels, 4, index, spare)
+    NameIndex::make(Named::new(labels), order, spare)
 }
 
-// The first label that shares its name and owner with an earlier one, by an index of the list.
-pub fn first_repeat(labels: &[u8], index: &[u16]) -> Option<usize>
-    requires labels_value { label_layout labels.now ≡ None }
-    requires index_of { IndexOf 4 labels.now index.now }
-    ensures { result ≡ label_repeat labels.now }
-{
-    name_index::first_repeat(labels, 4, index)
+// A list of labels that is not refused, with the ordered index of its names.
+#[derive(Drop)]
+pub struct LabelTable<'a> {
+    index: NameIndex<'a, 4>,
 }
 
-// The label for all of that name, which may stand where the search for the source's has ended; so many names have been compared before.
-fn look_for_all(labels: &[u8], index: &[u16], end: usize, name: &[u8], before: u32) -> Looked
-    requires { Indexed labels.now index.now × (before ≤ 13) }
-    ensures { result ≡ looked_for_all labels.now index.now end name.now before }
-{
-    if end >= index.len() {
-        return name_index::find_from(labels, 4, index, names::FOR_ALL, name, before);
+impl<'a> Model for LabelTable<'a> {
+    ghost use Rattle.name_index.specs.Ordered.{Ordered};
+    ghost use Rattle.labels.specs.Lookup.{Indexed};
+
+    ghost Value = { Ordered };
+
+    ghost view = { λ table. table.index };
+
+    ghost invariant = { λ table. Indexed table.index.list table.index.order };
+}
+
+impl<'a> LabelTable<'a> {
+    pub fn new(index: NameIndex<'a, 4>) -> Self
+        requires { (label_layout index.list ≡ None) × (label_repeat index.list ≡ None) }
+        ensures { result ≡ index.entry }
+    {
+        let _ = index.order();
+        LabelTable { index }
     }
-    let place = usize::from(index[end]);
-    let told = name_index::is_owned(labels, 4, names::FOR_ALL, name, place, before);
-    if told.same {
-        return Looked {
-            named: Some(place),
-            compared: told.compared,
-            end,
-        };
-    }
-    name_index::find_from(labels, 4, index, names::FOR_ALL, name, told.compared)
-}
 
-// The label of that name, the source's before the one for all, and how many names were compared.
-pub fn look_up(labels: &[u8], index: &[u16], source: u32, name: &[u8]) -> Looked
-    requires { Indexed labels.now index.now }
-    ensures { result ≡ looked_up labels.now index.now source name.now }
-{
-    let own = name_index::find(labels, 4, index, source, name);
-    match own.named {
-        Some(_) => own,
-        None => look_for_all(labels, index, own.end, name, own.compared),
+    // The bytes of the list.
+    pub fn bytes(&self) -> &'a [u8]
+        ensures value { result.now ≡ self.now.list }
+        ensures indexed { Indexed self.now.list self.now.order }
+    {
+        self.index.bytes()
     }
-}
 
-// The address of the label of that name, and how many names were compared.
-pub fn get(labels: &[u8], index: &[u16], source: u32, name: &[u8]) -> Found
-    requires { Indexed labels.now index.now }
-    ensures { (result.address ≡ resolve labels.now source name.now) × (result.compared ≡ (looked_up labels.now index.now source name.now).compared) × (result.compared ≤ 32) }
-{
-    let looked = look_up(labels, index, source, name);
-    Found {
-        address: looked.named.map(|at| record::word_at(labels, at + 4)),
-        compared: looked.compared,
+    // The index of its names.
+    pub fn index(&self) -> &NameIndex<'a, 4>
+        ensures value { result.now ≡ self.now }
+        ensures indexed { Indexed self.now.list self.now.order }
+    {
+        &self.index
+    }
+
+    // The label for all of that name, which may stand where the search for the source's has ended; so many names have been compared before.
+    fn look_for_all(&self, end: usize, name: &[u8], before: u32) -> Looked
+        requires { before ≤ 13 }
+        ensures { result ≡ looked_for_all self.now.list self.now.order end name.now before }
+    {
+        let order = self.index.order();
+        if end >= order.len() {
+            return self.index.find_from(names::FOR_ALL, name, before);
+        }
+        let label = self.index.record(end);
+        let mut compared = before;
+        if name_index::is_owned(label, names::FOR_ALL, name, &mut compared) {
+            return Looked {
+                named: Some(label.at),
+                compared,
+                end,
+            };
+        }
+        self.index.find_from(names::FOR_ALL, name, compared)
+    }
+
+    // The label of that name, the source's before the one for all, and how many names were compared.
+    pub fn look_up(&self, source: u32, name: &[u8]) -> Looked
+        ensures { result ≡ looked_up self.now.list self.now.order source name.now }
+    {
+        let own = self.index.find(source, name);
+        match own.named {
+            Some(_) => own,
+            None => self.look_for_all(own.end, name, own.compared),
+        }
+    }
+
+    // The place of the label of that name.
+    pub fn find(&self, source: u32, name: &[u8]) -> Option<usize>
+        ensures found { result ≡ labelled self.now.list source name.now }
+        ensures within { ForSome result (λ place. place + 9 ≤ limit) }
+    {
+        let _ = &self.index;
+        self.look_up(source, name).named
+    }
+
+    // The address of the label of that name, and how many names were compared.
+    pub fn get(&self, source: u32, name: &[u8]) -> Found
+        ensures { (result.address ≡ resolve self.now.list source name.now) × (result.compared ≡ (looked_up self.now.list self.now.order source name.now).compared) × (result.compared ≤ 32) }
+    {
+        let looked = self.look_up(source, name);
+        let labels = self.index.bytes();
+        Found {
+            address: looked.named.map(|at| record::word_at(labels, at + 4)),
+            compared: looked.compared,
+        }
     }
 }

@@ -1,6 +1,6 @@
 -- What `emit_line` prints of an emit call: the refusal where there is one, the position, the fill counts, an accepted line's form, and the
 -- three buffers after the call; or that there is no such job. Assumes nothing.
-use Rattle.std.specs.Prelude.{ℕ, List, [], ◌∷◌, ◌++◌, get_or, None, Option, Some}
+use Rattle.std.specs.Prelude.{Ok, Err, ℕ, List, [], ◌∷◌, ◌++◌, get_or, None, Option, Some}
 use Rattle.jobs.specs.declared.Job.{Job}
 use Rattle.jobs.specs.declared.Job.TheVariants.{Commit, Manual, Release6}
 use Rattle.record.specs.Bytes.{byte_at}
@@ -11,8 +11,7 @@ use Rattle.loading.specs.declared.LoadForm.TheVariants.{Nothing, Addiu, Ori, Lui
 use Rattle.emit_outcome.specs.declared.FillCounts.{FillCounts}
 use Rattle.emit_outcome.specs.declared.LinePlace.{LinePlace}
 use Rattle.emit_outcome.specs.declared.LineNumbers.{LineNumbers}
-use Rattle.emit_outcome.specs.declared.EmitAnswer.{EmitAnswer}
-use Rattle.emit_outcome.specs.declared.EmitAnswer.TheVariants.{Done, Refused}
+use Rattle.emit_outcome.specs.Answer.{EmitAnswer}
 use Rattle.emit_outcome.specs.Call.{Lent, EmitOutcome, lent_of, call_of}
 use Rattle.emit_outcome.specs.Emit.{emit_outcome}
 use Rattle.input.specs.Input.{word_or_zero, half_or_zero, behind_lists, list_of, held}
@@ -24,8 +23,8 @@ abbrev pub position_line : ℕ → List ℕ
 position_line position = bytes_of "position" ++ last_field position
 
 abbrev pub answer_text : EmitAnswer → List ℕ
-answer_text (Done position loaded) = position_line position
-answer_text (Refused r position) = refused_line (numbered r) ++ position_line position
+answer_text (Ok done) = position_line done.position
+answer_text (Err refused) = refused_line (numbered refused.refusal) ++ position_line refused.position
 
 -- the counts of data, pending and breakpoints
 unfoldable pub fills_line : FillCounts → List ℕ
@@ -40,8 +39,8 @@ loaded_line Lui = bytes_of "loaded lui\n"
 loaded_line BothHalves = bytes_of "loaded both\n"
 
 abbrev pub loaded_text : EmitAnswer → List ℕ
-loaded_text (Done position loaded) = loaded_line loaded
-loaded_text (Refused r position) = []
+loaded_text (Ok done) = loaded_line done.loaded
+loaded_text (Err refused) = []
 
 unfoldable pub head_text : EmitAnswer → FillCounts → List ℕ
 head_text a c = answer_text a ++ fills_line c ++ loaded_text a

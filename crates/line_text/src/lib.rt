@@ -2,14 +2,14 @@
 // the call leaves.
 #![tactic(auto)]
 
-ghost use Rattle.std.specs.Prelude.{◌≡◌, ◌≤◌, length};
+ghost use Rattle.std.specs.Prelude.{◌≡◌, [], ◌≤◌, length};
 ghost use Rattle.emit_outcome.specs.Call.{lent_of, outcome_of};
-ghost use Rattle.text.specs.Text.{Put};
 ghost use Rattle.line_text.specs.Line.{numbers_in, outcome_text, call_text, job_text, job_numbered, job_in, line_text};
 
 use emit_outcome::{Emitted, FillCounts, LineNumbers, LinePlace};
 use jobs::Job;
 use program::Program;
+use text::Printed;
 
 pub mod lines;
 
@@ -31,38 +31,29 @@ fn numbers_in(input: &[u8]) -> LineNumbers
 }
 
 // What a call answers and what the buffers hold after it.
-fn put_emitted(
-    out: &mut [u8],
-    emitted: Emitted,
-    data: &[u8],
-    pending: &[u8],
-    breakpoints: &[u8],
-) -> usize
-    requires { (400000 ≤ length out.old) × (length «data».now ≤ 65537) × (length pending.now ≤ 65537) × (length breakpoints.now ≤ 65537) }
-    ensures { Put out.old 0
-        (outcome_text (outcome_of emitted.answer emitted.counts
-        (lent_of «data».now pending.now breakpoints.now))) out.new result }
+#[tactic(auto, using(crate::proofs::LineLaws::head_most, bytes_line::proofs::BytesLineLaws::bytes_length, std::proofs::lemmas::Grind::common_steps), unfolding(crate::specs::Line::outcome_text))]
+fn put_emitted(out: &mut Printed, emitted: Emitted, data: &[u8], pending: &[u8], breakpoints: &[u8])
+    requires { (out.old ≡ []) × (length «data».now ≤ 65537) × (length pending.now ≤ 65537) × (length breakpoints.now ≤ 65537) }
+    ensures { out.new ≡ outcome_text (outcome_of emitted.answer emitted.counts
+        (lent_of «data».now pending.now breakpoints.now)) }
 {
-    let answer = emitted.answer;
-    let counts = emitted.counts;
-    let data_at = lines::put_head(&mut *out, answer, counts);
-    let pending_at = bytes_line::put_bytes(&mut *out, data_at, b"data ", data);
-    let breakpoints_at = bytes_line::put_bytes(&mut *out, pending_at, b"pending ", pending);
-    bytes_line::put_bytes(out, breakpoints_at, b"breakpoints ", breakpoints)
+    lines::put_head(&mut *out, emitted.answer, emitted.counts);
+    bytes_line::push_bytes(&mut *out, b"data ", data);
+    bytes_line::push_bytes(&mut *out, b"pending ", pending);
+    bytes_line::push_bytes(out, b"breakpoints ", breakpoints);
 }
 
 // Makes the call of an input whose last three buffers are these.
 fn put_call(
     job: Job,
-    out: &mut [u8],
+    out: &mut Printed,
     input: &[u8],
     data: &mut [u8],
     pending: &mut [u8],
     breakpoints: &mut [u8],
-) -> usize
-    requires { (400000 ≤ length out.old) × (length «data».old ≤ 65537) × (length pending.old ≤ 65537) × (length breakpoints.old ≤ 65537) }
-    ensures { Put out.old 0
-        (call_text job input.now (lent_of «data».old pending.old breakpoints.old)) out.new result }
+)
+    requires { (out.old ≡ []) × (length «data».old ≤ 65537) × (length pending.old ≤ 65537) × (length breakpoints.old ≤ 65537) }
+    ensures { out.new ≡ call_text job input.now (lent_of «data».old pending.old breakpoints.old) }
 {
     let numbers = numbers_in(input::behind_lists(input, 6));
     let place = numbers.place;
@@ -79,12 +70,13 @@ fn put_call(
         place,
     );
     let emitted = Emitted { answer, counts };
-    put_emitted(out, emitted, &*data, &*pending, &*breakpoints)
+    put_emitted(out, emitted, &*data, &*pending, &*breakpoints);
 }
 
 // The text of an input's call in a job.
-fn put_job(job: Job, input: &[u8], out: &mut [u8; text::MOST]) -> usize
-    ensures { Put out.old 0 (job_text job input.now) out.new result }
+fn put_job(job: Job, input: &[u8], out: &mut Printed)
+    requires { out.old ≡ [] }
+    ensures { out.new ≡ job_text job input.now }
 {
     let mut data = [0u8; record::LIMIT + 1];
     let mut pending = [0u8; record::LIMIT + 1];
@@ -99,7 +91,7 @@ fn put_job(job: Job, input: &[u8], out: &mut [u8; text::MOST]) -> usize
         &mut data[..d],
         &mut pending[..p],
         &mut breakpoints[..b],
-    )
+    );
 }
 
 // The job of that number.
@@ -121,20 +113,24 @@ fn job_in(input: &[u8]) -> Option<Job>
 }
 
 // The text that `emit_line` prints for an input.
-pub fn emit_line(input: &[u8], out: &mut [u8; text::MOST]) -> usize
-    ensures { Put out.old 0 (line_text input.now) out.new result }
+#[tactic(auto, unfolding(crate::specs::Line::line_text))]
+pub fn emit_line(input: &[u8], out: &mut Printed)
+    ensures { out.new ≡ line_text input.now }
 {
+    out.clear();
     match job_in(input) {
         Some(job) => put_job(job, input, out),
-        None => text::put_text(out, 0, b"no such job\n"),
+        None => out.push(b"no such job\n"),
     }
 }
 
 // `emit_line` as a program.
 pub struct EmitLineText;
 
-impl Program<{ text::MOST }> for EmitLineText {
-    fn print(&self, input: &[u8], out: &mut [u8; text::MOST]) -> usize {
-        emit_line(input, out)
+impl Program for EmitLineText {
+    ghost text_of = { line_text };
+
+    fn print(&self, input: &[u8], out: &mut Printed) {
+        emit_line(input, out);
     }
 }

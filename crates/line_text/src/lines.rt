@@ -1,71 +1,68 @@
-// The lines of an emit call's outcome. Each function answers where its text ends.
-ghost use Rattle.std.specs.Prelude.{◌+◌, ◌≤◌, length};
-ghost use Rattle.text.specs.Text.{Put};
+// The lines of an emit call's outcome.
+ghost use Rattle.std.specs.Prelude.{◌≡◌, ◌++◌, ◌+◌, ◌≤◌, length};
 ghost use Rattle.line_text.specs.Line.{answer_text, fills_line, loaded_line, loaded_text, head_text};
 
 use emit_outcome::{EmitAnswer, FillCounts};
 use loading::LoadForm;
+use text::{MOST, Printed};
 
 // The refusal where there is one, and the position.
-pub fn put_answer(out: &mut [u8], answer: EmitAnswer) -> usize
-    requires { 144 ≤ length out.old }
-    ensures { Put out.old 0 (answer_text answer) out.new result }
+pub fn put_answer(out: &mut Printed, answer: EmitAnswer)
+    requires { length out.old + length (answer_text answer) ≤ MOST }
+    ensures { out.new ≡ out.old ++ answer_text answer }
 {
     match answer {
-        EmitAnswer::Done {
-            position,
-            loaded: _,
-        } => text::put_number_line(out, 0, b"position", position as u64),
-        EmitAnswer::Refused(refusal, position) => {
-            let at = text::put_refusal(&mut *out, 0, refusal::numbers(refusal));
-            text::put_number_line(out, at, b"position", position as u64)
+        Ok(done) => out.push_number_line(b"position", done.position as u64),
+        Err(refused) => {
+            out.push_refusal(refusal::numbers(refused.refusal));
+            out.push_number_line(b"position", refused.position as u64);
         }
     }
 }
 
-pub fn put_fills(out: &mut [u8], at: usize, counts: FillCounts) -> usize
-    requires { at + length (fills_line counts) ≤ length out.old }
-    ensures { Put out.old at (fills_line counts) out.new result }
+#[tactic(auto, using(crate::proofs::LineLaws::fills_length), unfolding(crate::specs::Line::fills_line))]
+// The fill counts.
+pub fn put_fills(out: &mut Printed, counts: FillCounts)
+    requires { length out.old + length (fills_line counts) ≤ MOST }
+    ensures { out.new ≡ out.old ++ fills_line counts }
 {
-    let data_at = text::put_text(&mut *out, at, b"fills");
-    let pending_at = text::put_field(&mut *out, data_at, counts.data_len as u64);
-    let breakpoints_at = text::put_field(&mut *out, pending_at, counts.pending as u64);
-    text::put_last_field(out, breakpoints_at, counts.breakpoints as u64)
+    out.push(b"fills");
+    out.push_field(counts.data_len as u64);
+    out.push_field(counts.pending as u64);
+    out.push_last_field(counts.breakpoints as u64);
 }
 
-fn put_form(out: &mut [u8], at: usize, form: LoadForm) -> usize
-    requires { at + 13 ≤ length out.old }
-    ensures { Put out.old at (loaded_line form) out.new result }
+fn put_form(out: &mut Printed, form: LoadForm)
+    requires { length out.old + length (loaded_line form) ≤ MOST }
+    ensures { out.new ≡ out.old ++ loaded_line form }
 {
     match form {
-        LoadForm::Nothing => text::put_text(out, at, b"loaded none\n"),
-        LoadForm::Addiu => text::put_text(out, at, b"loaded addiu\n"),
-        LoadForm::Ori => text::put_text(out, at, b"loaded ori\n"),
-        LoadForm::Lui => text::put_text(out, at, b"loaded lui\n"),
-        LoadForm::BothHalves => text::put_text(out, at, b"loaded both\n"),
+        LoadForm::Nothing => out.push(b"loaded none\n"),
+        LoadForm::Addiu => out.push(b"loaded addiu\n"),
+        LoadForm::Ori => out.push(b"loaded ori\n"),
+        LoadForm::Lui => out.push(b"loaded lui\n"),
+        LoadForm::BothHalves => out.push(b"loaded both\n"),
     }
 }
 
 // An accepted line's form.
-pub fn put_loaded(out: &mut [u8], at: usize, answer: EmitAnswer) -> usize
-    requires { at + 13 ≤ length out.old }
-    ensures { Put out.old at (loaded_text answer) out.new result }
+pub fn put_loaded(out: &mut Printed, answer: EmitAnswer)
+    requires { length out.old + length (loaded_text answer) ≤ MOST }
+    ensures { out.new ≡ out.old ++ loaded_text answer }
 {
     match answer {
-        EmitAnswer::Done {
-            position: _,
-            loaded,
-        } => put_form(out, at, loaded),
-        EmitAnswer::Refused(_, _) => at,
+        Ok(done) => put_form(out, done.loaded),
+        Err(_) => {}
     }
 }
 
 // All but the buffers.
-pub(crate) fn put_head(out: &mut [u8], answer: EmitAnswer, counts: FillCounts) -> usize
-    requires { 256 ≤ length out.old }
-    ensures { Put out.old 0 (head_text answer counts) out.new result }
+#[tactic(auto, using(crate::proofs::LineLaws::head_length, std::proofs::lemmas::Grind::common_steps), unfolding(crate::specs::Line::head_text))]
+pub(crate) fn put_head(out: &mut Printed, answer: EmitAnswer, counts: FillCounts)
+    requires { length out.old + length (head_text answer counts) ≤ MOST }
+    ensures { out.new ≡ out.old ++ head_text answer counts }
 {
-    let fills_at = put_answer(&mut *out, answer);
-    let loaded_at = put_fills(&mut *out, fills_at, counts);
-    put_loaded(out, loaded_at, answer)
+    put_answer(&mut *out, answer);
+    put_fills(&mut *out, counts);
+    put_loaded(out, answer);
 }

@@ -1,5 +1,5 @@
 -- Laws of a line's uses, word by word: how long an index is with them, and the index with them. Assumes nothing.
-use Prim.Native.Nat.{ℕ, zero, suc, ◌+◌, ◌≤◌, ◌<◌, ◌^◌}
+use Prim.Native.Nat.{ℕ, zero, suc, ◌+◌, ◌≤◌, ◌<◌}
 use Rattle.std.proofs.Common.{not-suc-le-zero, add-one, sym, ap₂, ◌∙◌, subst}
 use native.Mathlib.Omega.{arith}
 use mathlib.Core.List.{List, [], ◌∷◌}
@@ -7,24 +7,20 @@ use Rattle.std.specs.Prelude.{◌≡◌, length, take, get_or, None, Option, Som
 use Rattle.std.proofs.Math.Path.{refl, ap}
 use Rattle.record.specs.Bytes.{part}
 use Rattle.record.specs.Stores.{append}
-use Rattle.address_label.specs.LabelBytes.{name_bytes}
-use Rattle.address_label.specs.declared.NamedLabel.{NamedLabel}
 use Rattle.address_label.specs.declared.AddressLabel.{AddressLabel}
 use Rattle.address_label.specs.declared.AddressLabel.TheVariants.{Constant, Label}
 use Rattle.pending.specs.declared.InstructionLabel.{InstructionLabel}
 use Rattle.emit_pairs.specs.declared.InstructionPair.{InstructionPair}
-use Rattle.label_uses.specs.Uses.{UseKey, Use, key_for, insert_use, use_of}
+use Rattle.label_uses.specs.Uses.{UseKey, Use, key_for, use_of}
 use Rattle.label_uses.specs.UseBytes.{uses_bytes}
 use Rattle.label_uses.proofs.UseBytesLaws.{insert_length}
 use Rattle.label_uses.proofs.IndexLaws.{written_first}
-use Rattle.label_uses.proofs.InsertLaws.{Rises, Stood, before, new, grown, insert_stood}
-use Rattle.label_uses.specs.ReadUse.{key_with}
-use Rattle.label_uses.specs.declared.Standing.{Standing}
+use Rattle.label_uses.proofs.InsertLaws.{Rises}
 use Rattle.use_adding.specs.Adding.{IndexIn}
-use Rattle.use_adding.specs.Making.{RoomForOne}
+use Rattle.use_adding.specs.Making.{AddsOneTo, KeepsOwners, RoomForOne}
 use Rattle.use_adding.proofs.MakingLaws.{append_again, held_is}
 use Rattle.line_uses.specs.LineUses.{pair_use, next_number, line_uses, number_after, has_key, pair_growth}
-use Rattle.line_uses.specs.LineIndex.{held_by, OwnersFit, AddsLabelTo, RoomForPair, AddsPair, AddsPairTo, AddsLine}
+use Rattle.line_uses.specs.LineIndex.{held_by, OwnersFit, RoomForPair, AddsPair, AddsPairTo, AddsLine}
 use Rattle.line_uses.proofs.HasLaws.{pair_grows, growth_alike, line_rises, line_has}
 
 module _ (labels names : List ℕ) where
@@ -146,28 +142,6 @@ module _ (labels names : List ℕ) where
           filled = f ∙ ap (λ (m : ℕ). length (uses_bytes (line_uses labels names first (take m ps) us))) e;
         }
 
--- ---- owners
-pub owners_insert : (key : UseKey) (n : ℕ) (us : List Use) → key.standing.owner < 2 ^ 32 → OwnersFit us → OwnersFit (insert_use key n us)
-owners_insert key n us h o u m = go (insert_stood key n us u m)
-  where
-    go : Stood key n us u → u.key.standing.owner < 2 ^ 32
-    go (before t) = o u t
-    go (new i) = subst (λ (w : Use). w.key.standing.owner < 2 ^ 32) (sym i) h
-    go (grown w t j i) = subst (λ (x : Use). x.key.standing.owner < 2 ^ 32) (sym i) (o w t)
-
-abbrev key_in : (labels names : List ℕ) → NamedLabel → UseKey
-key_in labels names l = key_for labels l.location.source (part names l.name_at l.name_len)
-
-pub constant_owners : (labels names : List ℕ) (x : AddressLabel) (value : ℕ) → x ≡ Constant value → (n : ℕ) (us : List Use) → OwnersFit us → OwnersFit (use_of labels names x n us)
-constant_owners labels names x value e n us o = subst (λ (y : AddressLabel). OwnersFit (use_of labels names y n us)) (sym e) o
-
-pub named_owners : (labels names : List ℕ) (x : AddressLabel) (l : NamedLabel) → x ≡ Label l → (name : List ℕ) (standing : Standing) → name ≡ name_bytes names x
-    → key_with name standing ≡ key_for labels l.location.source name → (n : ℕ) (us : List Use) → standing.owner < 2 ^ 32 → OwnersFit us → OwnersFit (use_of labels names x n us)
-named_owners labels names x l e name standing m k n us h o =
-    let q : key_with name standing ≡ key_in labels names l = k ∙ ap (key_for labels l.location.source) (m ∙ ap (name_bytes names) e) in
-    subst (λ (y : AddressLabel). OwnersFit (use_of labels names y n us)) (sym e)
-    (owners_insert (key_in labels names l) n us (subst (λ (y : UseKey). y.standing.owner < 2 ^ 32) q h) o)
-
 -- ---- what a word waits for
 module _ (labels names : List ℕ) (w : Option InstructionLabel) where
   pub nothing_adds : w ≡ None → (d : List ℕ) (fill n : ℕ) → AddsPairTo labels names d d fill w n fill
@@ -187,11 +161,11 @@ module _ (labels names : List ℕ) (w : Option InstructionLabel) where
     pub some_room : (d : List ℕ) (fill n : ℕ) → RoomForPair labels names d fill w n → RoomForOne d labels names fill waits.label n
     some_room d fill n r = record { us = r.us; index_in = r.index_in; room = omega (arith, r.room, ap (λ (y : List Use). length (uses_bytes y)) (use_is n r.us)) }
 
-    pub some_adds : (d f : List ℕ) (fill n after : ℕ) → AddsLabelTo labels names d f fill waits.label n after → AddsPairTo labels names d f fill w n after
-    some_adds d f fill n after h us i =
+    pub some_adds : (d f : List ℕ) (fill n after : ℕ) → AddsOneTo d f labels names fill waits.label n after → KeepsOwners labels names waits.label n → AddsPairTo labels names d f fill w n after
+    some_adds d f fill n after h k us i =
         let a = h us i in
         record {
           bytes = a.bytes ∙ ap (λ (y : List Use). append d 0 (uses_bytes y)) (use_is n us);
           filled = a.filled ∙ ap (λ (y : List Use). length (uses_bytes y)) (use_is n us);
-          owners = subst OwnersFit (use_is n us) a.owners;
+          owners = subst OwnersFit (use_is n us) (k us i.owners);
         }

@@ -1,2 +1,3 @@
+pub mod Line
 pub mod LineUses
 pub mod LineIndex

@@ -4,7 +4,7 @@ use mathlib.Core.List.{List, Memᴰ}
 use Rattle.record.specs.Stores.{append}
 use Rattle.address_label.specs.declared.AddressLabel.{AddressLabel}
 use Rattle.emit_pairs.specs.declared.InstructionPair.{InstructionPair}
-use Rattle.label_uses.specs.Uses.{UseKey, Use, use_of}
+use Rattle.label_uses.specs.Uses.{kept_of, UseKey, Use}
 use Rattle.label_uses.specs.UseBytes.{uses_bytes}
 use Rattle.label_uses.specs.Says.{KeysRise}
 use Rattle.use_adding.specs.Adding.{IndexIn}
@@ -28,16 +28,7 @@ SizeWithLine labels names d fill pairs size = (us : List Use) → IndexIn d fill
 
 -- owners and sources that have four bytes
 abbrev pub OwnersFit : List Use → Type 0
-OwnersFit us = (u : Use) → Memᴰ u us → u.key.standing.owner < 2 ^ 32
-
--- the index with the use of a label, if it is a name
-pub record AddsLabel (labels names d e : List ℕ) (x : AddressLabel) (n fill : ℕ) (us : List Use) : Type 0 where
-  pub bytes : e ≡ append d 0 (uses_bytes (use_of labels names x n us))
-  pub filled : fill ≡ length (uses_bytes (use_of labels names x n us))
-  pub owners : OwnersFit (use_of labels names x n us)
-
-abbrev pub AddsLabelTo : (labels names d e : List ℕ) (fill : ℕ) (x : AddressLabel) (n after : ℕ) → Type 0
-AddsLabelTo labels names d e fill x n after = (us : List Use) → IndexIn d fill us → AddsLabel labels names d e x n after us
+OwnersFit us = (u : Use) → Memᴰ u us → kept_of u.key.standing < 2 ^ 32
 
 -- an index with room for the use of what a word waits for, and the index with it
 pub record RoomForPair (labels names d : List ℕ) (fill : ℕ) (waits : Option InstructionLabel) (n : ℕ) : Type 0 where

@@ -1,237 +1,169 @@
 // The uses of a line's pendings: how long an index is with them, and the index with them, in place.
 #![tactic(auto)]
 
-ghost use Rattle.std.specs.Prelude.{◌≡◌, ◌+◌, ◌^◌, ◌≤◌, ◌<◌, length, take};
-ghost use Rattle.record.specs.Records.{places, first_bad, limit};
-ghost use Rattle.names.specs.Owners.{has_owned_name};
-ghost use Rattle.pending.specs.Pendings.{pending_ok};
-ghost use Rattle.label_uses.specs.Uses.{key_for};
-ghost use Rattle.label_uses.specs.ReadUse.{key_with};
-ghost use Rattle.use_adding.specs.Adding.{AnIndex};
-ghost use Rattle.use_adding.specs.Making.{RoomForOne};
+ghost use Rattle.std.specs.Prelude.{◌≡◌, ◌+◌, ◌≤◌, length};
+ghost use Rattle.record.specs.Records.{limit};
 ghost use Rattle.line_uses.specs.LineUses.{next_number, label_has, pair_has, key_among};
-ghost use Rattle.line_uses.specs.LineIndex.{LabelGrows, PairGrows, SizeWithLine, AddsLabelTo, RoomForPair, AddsPairTo, RoomForLine, AddsLineTo};
+ghost use Rattle.line_uses.specs.LineIndex.{LabelGrows, PairGrows, SizeWithLine, RoomForPair, AddsPairTo, RoomForLine, AddsLineTo};
 
 use address_label::AddressLabel;
-use emit_pairs::EmitInstruction;
-use label_uses::Standing;
+use emit_pairs::InstructionPair;
+use names::Named;
 use pending::InstructionLabel;
+use std::marker::Model;
+use use_adding::{Key, Uses};
 
-// kept: that the labels have names stands in each contract. A struct of labels that says so would change what the public functions take.
-
-// What a name of a source stands for, by a scan of the labels.
-fn standing_by(labels: &[u8], source: u32, name: &[u8]) -> Standing
-    requires { first_bad (has_owned_name 4 labels.now) (places labels.now) ≡ None }
-    ensures { (key_with name.now result ≡ key_for labels.now source name.now) × (result.owner < 2 ^ 32) }
-{
-    if names::find_named(labels, 4, source, name).is_some() {
-        return Standing {
-            known: true,
-            owner: source,
-        };
-    }
-    if names::find_named(labels, 4, names::FOR_ALL, name).is_some() {
-        return Standing {
-            known: true,
-            owner: names::FOR_ALL,
-        };
-    }
-    Standing {
-        known: false,
-        owner: source,
-    }
+// The words of a line, of which some wait for a label, with the token list in which their names stand and the labels.
+#[derive(Drop)]
+pub struct Line<'a> {
+    tokens: &'a [u8],
+    labels: Named<'a, 4>,
+    pairs: &'a [InstructionPair],
 }
 
-// Whether a label is a name with that key.
-fn label_has(
-    tokens: &[u8],
-    labels: &[u8],
-    label: AddressLabel,
-    name: &[u8],
-    standing: Standing,
-) -> bool
-    requires { first_bad (has_owned_name 4 labels.now) (places labels.now) ≡ None }
-    ensures { result ≡ label_has labels.now tokens.now (key_with name.now standing) label }
-{
-    match label {
-        AddressLabel::Constant(_) => false,
-        AddressLabel::Label(l) => {
-            let other = address_label::name_of(tokens, label);
-            if name_order::compare(name, other).is_ne() {
-                return false;
+impl<'a> Model for Line<'a> {
+    ghost use Rattle.std.specs.Prelude.{◌≤◌, length};
+    ghost use Rattle.line_uses.specs.Line.{LineIn};
+
+    ghost Value = { LineIn };
+
+    ghost view = { λ line. record { names = line.tokens.now; labels = line.labels; pairs = line.pairs.now } };
+
+    ghost invariant = { λ line. length line.pairs.now ≤ 5 };
+}
+
+impl<'a> Line<'a> {
+    pub fn new(tokens: &'a [u8], labels: Named<'a, 4>, pairs: &'a [InstructionPair]) -> Self
+        requires { length pairs.now ≤ 5 }
+        ensures { result ≡ (record { names = tokens.now; labels = labels.entry; pairs = pairs.now }) }
+    {
+        Line {
+            tokens,
+            labels,
+            pairs,
+        }
+    }
+
+    // Whether a label is a name with that key. The names are compared first: one that differs is not looked up.
+    fn label_has(&self, label: AddressLabel, key: &Key<'_>) -> bool
+        ensures { result ≡ label_has self.now.labels self.now.names key.now label }
+    {
+        match label {
+            AddressLabel::Constant(_) => false,
+            AddressLabel::Label(l) => {
+                let other = address_label::name_of(self.tokens, label);
+                name_order::compare(key.name(), other).is_eq()
+                    && use_adding::stands(&self.labels, l.location.source, key)
             }
-            let met = standing_by(labels, l.location.source, other);
-            use_adding::order_standing(standing, met.known, met.owner).is_eq()
         }
     }
-}
 
-// Whether what a word waits for is a name with that key.
-fn pair_has(
-    tokens: &[u8],
-    labels: &[u8],
-    waits: Option<InstructionLabel>,
-    name: &[u8],
-    standing: Standing,
-) -> bool
-    requires { first_bad (has_owned_name 4 labels.now) (places labels.now) ≡ None }
-    ensures { result ≡ pair_has labels.now tokens.now (key_with name.now standing) waits }
-{
-    match waits {
-        None => false,
-        Some(x) => label_has(tokens, labels, x.label, name, standing),
-    }
-}
-
-// Whether one of a line's first i words waits for a name with that key.
-fn among(
-    tokens: &[u8],
-    labels: &[u8],
-    e: EmitInstruction,
-    i: usize,
-    name: &[u8],
-    standing: Standing,
-) -> bool
-    requires { (i ≤ 5) × (first_bad (has_owned_name 4 labels.now) (places labels.now) ≡ None) }
-    ensures { result ≡ key_among labels.now tokens.now (key_with name.now standing) (take i e.instructions) }
-{
-    for pair in &e.instructions[..i] {
-        if pair_has(tokens, labels, pair.label, name, standing) {
-            return true;
+    // Whether what a word waits for is a name with that key.
+    fn pair_has(&self, waits: Option<InstructionLabel>, key: &Key<'_>) -> bool
+        ensures { result ≡ pair_has self.now.labels self.now.names key.now waits }
+    {
+        match waits {
+            None => false,
+            Some(x) => self.label_has(x.label, key),
         }
     }
-    false
-}
 
-// How much longer an index is with the use of a label behind those of a line's first i words.
-fn label_growth(
-    index: &[u8],
-    fill: usize,
-    tokens: &[u8],
-    labels: &[u8],
-    e: EmitInstruction,
-    i: usize,
-    label: AddressLabel,
-) -> usize
-    requires an_index { AnIndex index.now fill }
-    requires i_bound { (i ≤ 5) × (length tokens.now ≤ limit) × (first_bad (has_owned_name 4 labels.now) (places labels.now) ≡ None) }
-    ensures { (result ≤ 65549) × LabelGrows labels.now tokens.now index.now fill (take i e.instructions) label result }
-{
-    match label {
-        AddressLabel::Constant(_) => 0,
-        AddressLabel::Label(l) => {
-            let name = address_label::name_of(tokens, label);
-            let standing = standing_by(labels, l.location.source, name);
-            let place = use_adding::find_use(index, fill, name, standing);
-            if place.found || among(tokens, labels, e, i, name, standing) {
-                return 2;
+    // Whether one of the words before waits for a name with that key.
+    fn among(&self, before: &[InstructionPair], key: &Key<'_>) -> bool
+        ensures { result ≡ key_among self.now.labels self.now.names key.now before.now }
+    {
+        for pair in before {
+            if self.pair_has(pair.label, key) {
+                return true;
             }
-            13 + name.len()
+        }
+        false
+    }
+
+    // How much longer an index is with the use of a label behind those of the words before.
+    fn label_growth(
+        &self,
+        uses: &Uses<'_>,
+        before: &[InstructionPair],
+        label: AddressLabel,
+    ) -> usize
+        requires { length self.now.names ≤ limit }
+        ensures { (result ≤ 65549) × LabelGrows self.now.labels self.now.names uses.now (length uses.now) before.now label result }
+    {
+        match label {
+            AddressLabel::Constant(_) => 0,
+            AddressLabel::Label(l) => {
+                let name = address_label::name_of(self.tokens, label);
+                let key = use_adding::key_of(&self.labels, l.location.source, name);
+                if uses.find(&key).is_ok() || self.among(before, &key) {
+                    return 2;
+                }
+                13 + name.len()
+            }
         }
     }
-}
 
-// The same for what a word waits for.
-fn pair_growth(
-    index: &[u8],
-    fill: usize,
-    tokens: &[u8],
-    labels: &[u8],
-    e: EmitInstruction,
-    i: usize,
-    waits: Option<InstructionLabel>,
-) -> usize
-    requires an_index { AnIndex index.now fill }
-    requires i_bound { (i ≤ 5) × (length tokens.now ≤ limit) × (first_bad (has_owned_name 4 labels.now) (places labels.now) ≡ None) }
-    ensures { (result ≤ 65549) × PairGrows labels.now tokens.now index.now fill (take i e.instructions) waits result }
-{
-    match waits {
-        None => 0,
-        Some(x) => label_growth(index, fill, tokens, labels, e, i, x.label),
-    }
-}
-
-// How long an index is with the uses of a line's pendings: for refusal 17, before anything is written.
-pub fn size_with_line(
-    index: &[u8],
-    fill: usize,
-    tokens: &[u8],
-    labels: &[u8],
-    e: EmitInstruction,
-) -> usize
-    requires an_index { AnIndex index.now fill }
-    requires count_bound { (e.count ≤ 5) × (length tokens.now ≤ limit) × (first_bad (has_owned_name 4 labels.now) (places labels.now) ≡ None) }
-    ensures { SizeWithLine labels.now tokens.now index.now fill (take e.count e.instructions) result }
-{
-    let mut size = fill;
-    for i in 0..e.count {
-        size += pair_growth(index, fill, tokens, labels, e, i, e.instructions[i].label);
-    }
-    size
-}
-
-// The use of a label, as that of pending n. The index's new fill count.
-fn add_label(
-    index: &mut [u8],
-    fill: usize,
-    n: u16,
-    tokens: &[u8],
-    labels: &[u8],
-    label: AddressLabel,
-) -> usize
-    requires labels_value { first_bad (has_owned_name 4 labels.now) (places labels.now) ≡ None }
-    requires room_for_one { RoomForOne index.old labels.now tokens.now fill label n }
-    ensures { AddsLabelTo labels.now tokens.now index.old index.new fill label n result }
-{
-    match label {
-        AddressLabel::Constant(_) => fill,
-        AddressLabel::Label(l) => {
-            let name = address_label::name_of(tokens, label);
-            let standing = standing_by(labels, l.location.source, name);
-            use_adding::add_use(&mut *index, fill, name, standing, n)
+    // The same for what a word waits for.
+    fn pair_growth(
+        &self,
+        uses: &Uses<'_>,
+        before: &[InstructionPair],
+        waits: Option<InstructionLabel>,
+    ) -> usize
+        requires { length self.now.names ≤ limit }
+        ensures { (result ≤ 65549) × PairGrows self.now.labels self.now.names uses.now (length uses.now) before.now waits result }
+    {
+        match waits {
+            None => 0,
+            Some(x) => self.label_growth(uses, before, x.label),
         }
     }
-}
 
-// The same for what a word waits for.
-fn add_pair(
-    index: &mut [u8],
-    fill: usize,
-    n: u16,
-    tokens: &[u8],
-    labels: &[u8],
-    waits: Option<InstructionLabel>,
-) -> usize
-    requires labels_value { first_bad (has_owned_name 4 labels.now) (places labels.now) ≡ None }
-    requires room_for_pair { RoomForPair labels.now tokens.now index.old fill waits n }
-    ensures { AddsPairTo labels.now tokens.now index.old index.new fill waits n result }
-{
-    match waits {
-        None => fill,
-        Some(x) => add_label(&mut *index, fill, n, tokens, labels, x.label),
+    // How long an index is with the uses of the line's pendings: for refusal 17, before anything is written.
+    pub fn size_with(&self, uses: &Uses<'_>) -> usize
+        requires { length self.now.names ≤ limit }
+        ensures { SizeWithLine self.now.labels self.now.names uses.now (length uses.now) self.now.pairs result }
+    {
+        let pairs = self.pairs;
+        let mut size = uses.len();
+        for (i, pair) in pairs.iter().enumerate() {
+            size += self.pair_growth(uses, &pairs[..i], pair.label);
+        }
+        size
     }
-}
 
-// The uses of a line's pendings, of which the first is number `first` of its list. The index's new fill count.
-pub fn add_line(
-    index: &mut [u8],
-    fill: usize,
-    first: u16,
-    tokens: &[u8],
-    labels: &[u8],
-    e: EmitInstruction,
-) -> usize
-    requires labels_value { first_bad (has_owned_name 4 labels.now) (places labels.now) ≡ None }
-    requires count_bound { (e.count ≤ 5) × (first ≤ 60000) × RoomForLine labels.now tokens.now index.old fill (take e.count e.instructions) first }
-    ensures { AddsLineTo labels.now tokens.now index.old index.new fill (take e.count e.instructions) first result }
-{
-    let mut filled = fill;
-    let mut n = first;
-    for pair in &e.instructions[..e.count] {
-        filled = add_pair(&mut *index, filled, n, tokens, labels, pair.label);
-        n = next_number(n, pair.label);
+    // The use of what a word waits for, as that of pending n. The index's new fill count.
+    fn add_pair(
+        &self,
+        index: &mut [u8],
+        fill: usize,
+        n: u16,
+        waits: Option<InstructionLabel>,
+    ) -> usize
+        requires { RoomForPair self.now.labels self.now.names index.old fill waits n }
+        ensures { AddsPairTo self.now.labels self.now.names index.old index.new fill waits n result }
+    {
+        match waits {
+            None => fill,
+            Some(x) => {
+                use_adding::add_label(&mut *index, fill, self.tokens, x.label, n, &self.labels)
+            }
+        }
     }
-    filled
+
+    // The uses of the line's pendings, of which the first is number `first` of its list. The index's new fill count.
+    pub fn add_to(&self, index: &mut [u8], fill: usize, first: u16) -> usize
+        requires { (first ≤ 60000) × RoomForLine self.now.labels self.now.names index.old fill self.now.pairs first }
+        ensures { AddsLineTo self.now.labels self.now.names index.old index.new fill self.now.pairs first result }
+    {
+        let mut filled = fill;
+        let mut n = first;
+        for pair in self.pairs {
+            filled = self.add_pair(&mut *index, filled, n, pair.label);
+            n = next_number(n, pair.label);
+        }
+        filled
+    }
 }
 
 // The number of the pending behind that of a word, if the word has one.
@@ -240,12 +172,4 @@ fn next_number(n: u16, waits: Option<InstructionLabel>) -> u16
     ensures { result ≡ next_number waits n }
 {
     n + u16::from(waits.is_some())
-}
-
-// How many pendings a list has.
-pub fn count_pendings(pending: &[u8]) -> u16
-    requires { (first_bad (pending_ok 16 pending.now) (places pending.now) ≡ None) × (length pending.now ≤ limit) }
-    ensures { (result ≡ length (places pending.now)) × (result ≤ 1820) }
-{
-    record::places(pending).count() as u16
 }

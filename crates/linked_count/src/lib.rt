@@ -16,10 +16,7 @@ const FORM_COUNT_BYTES: usize = 32;
 fn counted_words(answer: Result<FormCounts, Refusal>) -> [u32; 6]
     ensures { result ≡ counted_words answer }
 {
-    match answer {
-        Ok(_) => linked_answer::done_words(0, 0),
-        Err(refusal) => linked_answer::refusal_words(refusal, 0),
-    }
+    linked_answer::answered_words(answer.map(|_| 0))
 }
 
 fn store_form_counts(counts: &mut [u8], counted: FormCounts)

@@ -1,6 +1,6 @@
 -- The registers' bytes and the pc of the answer that a call leaves are the state in which its run stopped, or which was given to a call that is
 -- refused: a next call is the dry run from there. Assumes nothing.
-use Rattle.std.specs.Prelude.{ℕ, zero, suc, ◌+◌, ◌*◌, ◌^◌, ◌≤◌, ◌<◌, Bool, true, false, ◌≡◌, refl, leb, get_or, drop, replicate}
+use Rattle.std.specs.Prelude.{ℕ, zero, suc, ◌+◌, ◌*◌, ◌^◌, ◌≤◌, ◌<◌, Bool, true, false, ◌≡◌, refl, leb, get_or, drop, replicate, Err, Ok}
 use Rattle.std.proofs.Common.{add-zero, arith, sym, ap₂, subst, ◌∙◌, length-append, leb-true, leb-false}
 use mathlib.Core.List.{List, [], ◌∷◌, ◌++◌, map, append_assoc}
 use Rattle.std.proofs.Math.Path.{ap}
@@ -16,10 +16,8 @@ use Rattle.finished_words.proofs.ListedLaws.{of_bytes, le32_fits}
 use Rattle.machine.specs.declared.Machine.{Machine}
 use Rattle.machine.specs.declared.Reason.{Reason}
 use Rattle.machine.specs.Fits.{Fits}
-use Rattle.dry_run_outcome.specs.declared.RunAnswer.{RunAnswer}
-use Rattle.dry_run_outcome.specs.declared.RunAnswer.TheVariants.{Stopped, Refused}
 use Rattle.dry_run_outcome.specs.declared.DryRun.{DryRun}
-use Rattle.dry_run_outcome.specs.DryRun.{dry_run_outcome}
+use Rattle.dry_run_outcome.specs.DryRun.{RunAnswer, stopped, dry_run_outcome}
 use Rattle.dry_run_outcome.proofs.Call.{call_refused, call_fits}
 use Rattle.emit_pairs.specs.Pairs.{plain}
 use Rattle.emit_bytes.specs.Appended.{word_bytes}
@@ -49,7 +47,7 @@ words_read (n ∷ ns) front back h =
 
 module _ (m : Machine) (reason : Reason) (steps : ℕ) (registers : List ℕ) where
   pub left_reads_back : length m.registers ≡ 32 → ((i : ℕ) → i < length m.registers → get_or m.registers i 0 < 2 ^ 32)
-      → machine_of (registers_after (Stopped reason steps) m registers) m.pc ≡ m
+      → machine_of (registers_after (stopped reason steps) m registers) m.pc ≡ m
   unfolding append
   left_reads_back l h =
       let s = append registers 0 (words_as_bytes m.registers) in
@@ -78,16 +76,16 @@ machine_fits registers bytes pc h = record { count = refl; held = words_fit regi
 -- the last number of an answer
 last_read : (answer : RunAnswer) (pc : ℕ) (buffer : List ℕ) → pc < 2 ^ 32 → le32 (append buffer 0 (words_as_bytes (run_words answer pc))) 20 ≡ pc
 unfolding append word_bytes
-last_read (Stopped reason steps) pc buffer h = digits32 pc h
-last_read (Refused r) pc buffer h = digits32 pc h
+last_read (Ok s) pc buffer h = digits32 pc h
+last_read (Err r) pc buffer h = digits32 pc h
 
 -- as many bytes of registers as before
 registers_left : (answer : RunAnswer) (m : Machine) (registers : List ℕ) → length m.registers ≡ 32 → register_bytes ≤ length registers → register_bytes ≤ length (registers_after answer m registers)
 unfolding append
-registers_left (Stopped reason steps) m registers l h =
+registers_left (Ok s) m registers l h =
     let n : length (words_as_bytes m.registers) ≡ 128 = words_length (map plain m.registers) ∙ ap (λ (k : ℕ). 4 * k) (length-map m.registers plain ∙ l) in
     omega (arith, n, length-append (words_as_bytes m.registers) (drop (0 + length (words_as_bytes m.registers)) registers))
-registers_left (Refused r) m registers l h = h
+registers_left (Err r) m registers l h = h
 
 module _ (regions registers : List ℕ) (pc allowance : ℕ) (answer : List ℕ) where
   abbrev pub left : DryRun
@@ -104,8 +102,8 @@ module _ (regions registers : List ℕ) (pc allowance : ℕ) (answer : List ℕ)
     left_fits = call_fits regions (machine_of registers pc) allowance (machine_fits registers bytes pc fits)
 
     same_registers : (a : RunAnswer) → left.answer ≡ a → machine_of (registers_after a left.machine registers) left.machine.pc ≡ left.machine
-    same_registers (Stopped reason steps) e = left_reads_back left.machine reason steps registers left_fits.count (λ i h. left_fits.held i)
-    same_registers (Refused r) e =
+    same_registers (Ok s) e = left_reads_back left.machine s.reason s.steps registers left_fits.count (λ i h. left_fits.held i)
+    same_registers (Err r) e =
         let k = call_refused regions (machine_of registers pc) allowance r e in
         ap (λ (m : Machine). machine_of registers m.pc) k ∙ sym k
 

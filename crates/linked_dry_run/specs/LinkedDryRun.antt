@@ -1,14 +1,12 @@
 -- What the linked call for a dry run gives back and leaves in its lent buffers. Assumes nothing.
-use Rattle.std.specs.Prelude.{ℕ, List, true, false, ◌&&◌, pos, length, leb}
+use Rattle.std.specs.Prelude.{ℕ, List, true, false, ◌&&◌, pos, length, leb, Err, Ok}
 use Rattle.record.specs.Stores.{append}
 use Rattle.refusal.specs.Numbers.{zero_location, numbered}
 use Rattle.machine.specs.declared.Machine.{Machine}
 use Rattle.machine.specs.declared.Reason.{Reason}
 use Rattle.machine.specs.declared.Reason.TheVariants.{Allowance, Pc, Word, Overflow}
-use Rattle.dry_run_outcome.specs.declared.RunAnswer.{RunAnswer}
-use Rattle.dry_run_outcome.specs.declared.RunAnswer.TheVariants.{Stopped, Refused}
 use Rattle.dry_run_outcome.specs.declared.DryRun.{DryRun}
-use Rattle.dry_run_outcome.specs.DryRun.{dry_run_outcome}
+use Rattle.dry_run_outcome.specs.DryRun.{RunAnswer, dry_run_outcome}
 use Rattle.register_bytes.specs.RegisterBytes.{registers_in}
 use Rattle.linked_answer.specs.Words.{answer_bytes, too_short, answer_words, number_of, words_as_bytes}
 
@@ -26,13 +24,13 @@ reason_number Overflow = 3
 -- "It returns state, reason and the number of steps taken" (document 02, P10): number 0, the reason as a, the steps as b and the pc as the
 -- last word; of a refusal, as of a refused build, "its number, a location and numbers a and b", and the pc that was given
 abbrev pub run_words : RunAnswer → (pc : ℕ) → List ℕ
-run_words (Stopped reason steps) pc = answer_words 0 zero_location (pos (reason_number reason)) steps pc
-run_words (Refused r) pc = let n = numbered r in answer_words n.number n.location n.a n.b pc
+run_words (Ok s) pc = answer_words 0 zero_location (pos (reason_number s.reason)) s.steps pc
+run_words (Err r) pc = let n = numbered r in answer_words n.number n.location n.a n.b pc
 
 -- a refused run leaves the bytes of the registers as they are
 abbrev pub registers_after : RunAnswer → Machine → List ℕ → List ℕ
-registers_after (Stopped reason steps) m registers = append registers 0 (words_as_bytes m.registers)
-registers_after (Refused r) m registers = registers
+registers_after (Ok s) m registers = append registers 0 (words_as_bytes m.registers)
+registers_after (Err r) m registers = registers
 
 pub record LinkedDryRun : Type 0 where
   pub result : ℕ

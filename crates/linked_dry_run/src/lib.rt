@@ -2,33 +2,22 @@
 #![tactic(auto)]
 
 ghost use Rattle.std.specs.Prelude.{◌≡◌, ◌≤◌, length};
-ghost use Rattle.linked_dry_run.specs.LinkedDryRun.{reason_number, run_words, register_bytes, registers_after, linked_dry_run};
+ghost use Rattle.linked_dry_run.specs.LinkedDryRun.{run_words, register_bytes, registers_after, linked_dry_run};
 
-use dry_run_outcome::RunAnswer;
+use dry_run_outcome::{RunAnswer, Stopped};
 use linked_answer::{ANSWER_BYTES, TOO_SHORT};
-use machine::{Machine, Reason};
+use machine::Machine;
 
 // The 32 registers, each four bytes.
 const REGISTER_BYTES: usize = 128;
-
-fn reason_number(reason: Reason) -> u32
-    ensures { result ≡ reason_number reason }
-{
-    match reason {
-        Reason::Allowance => 0,
-        Reason::Pc => 1,
-        Reason::Word => 2,
-        Reason::Overflow => 3,
-    }
-}
 
 // Why the run stopped, its steps and its pc, or the refusal and the pc that was given.
 fn run_words(answer: RunAnswer, pc: u32) -> [u32; 6]
     ensures { result ≡ run_words answer pc }
 {
     match answer {
-        RunAnswer::Stopped(reason, steps) => [0, 0, 0, reason_number(reason), steps, pc],
-        RunAnswer::Refused(refusal) => linked_answer::refusal_words(refusal, pc),
+        Ok(Stopped { reason, steps }) => [0, 0, 0, reason as u32, steps, pc],
+        Err(refusal) => linked_answer::refusal_words(refusal, pc),
     }
 }
 
@@ -37,12 +26,9 @@ fn put_registers(registers: &mut [u8], answer: RunAnswer, machine: Machine)
     requires { register_bytes ≤ length registers.old }
     ensures { registers.new ≡ registers_after answer machine registers.old }
 {
-    match answer {
-        RunAnswer::Stopped(_, _) => {
-            let words = machine.registers;
-            linked_answer::store_words(registers, &words[..]);
-        }
-        RunAnswer::Refused(_) => {}
+    if answer.is_ok() {
+        let words = machine.registers;
+        linked_answer::store_words(registers, &words[..]);
     }
 }
 

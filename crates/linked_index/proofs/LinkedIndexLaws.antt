@@ -1,12 +1,12 @@
 -- Laws of the linked calls that keep an index: what is not answerable, and an answered call. Assumes nothing.
-use Rattle.std.specs.Prelude.{ℕ, ◌≤◌, ◌<◌, ◌≡◌, List, false, length, Result}
+use Rattle.std.specs.Prelude.{ℕ, ◌≤◌, ◌<◌, ◌≡◌, List, false, length, refl, Err, Ok, Result}
 use Rattle.std.proofs.Common.{sym, ap, ap₂, ◌∙◌}
 use borrow.Author.Tests.{le-leb, lt-leb}
 use Rattle.jobs.specs.declared.Job.{Job}
 use Rattle.record.specs.Stores.{append}
-use Rattle.linked_answer.specs.Words.{answer_bytes, too_short, number_of, words_as_bytes}
+use Rattle.linked_answer.specs.Words.{answer_bytes, too_short, answered_words, number_of, words_as_bytes}
 use Rattle.linked_line.specs.LineWords.{emitted_words}
-use Rattle.emit_outcome.specs.declared.EmitAnswer.{EmitAnswer}
+use Rattle.emit_outcome.specs.Answer.{EmitAnswer}
 use Rattle.emit_outcome.specs.declared.LinePlace.{LinePlace}
 use Rattle.emit_outcome.specs.Call.{Lent, call_of}
 use Rattle.indexed_outcome.specs.declared.IndexedCounts.{IndexedCounts}
@@ -39,6 +39,11 @@ module _ (token_list mnemonic descriptors : List ℕ) (lent : Lent) (labels inde
       answered h k l ∙ ap (λ (y : IndexedOutcome). indexed_answered y counts answer) (ap₂ outcome (sym e) (sym f) ∙ o) ∙ rw (a, n, w)
 
 -- ---- an index made afresh
+-- the words are those of an answer that gives one number
+pub words_are : (answer : Result ℕ Refusal) → answered_words answer ≡ made_words answer
+words_are (Ok last) = refl
+words_are (Err r) = refl
+
 module _ (pending : List ℕ) (fill : ℕ) (labels index answer : List ℕ) where
   pub make_short : length answer < answer_bytes → linked_make pending fill labels index answer ≡ (record { result = too_short; index = index; answer = answer })
   unfolding linked_make

@@ -7,8 +7,7 @@ use Rattle.record.specs.Stores.{append}
 use Rattle.refusal.specs.Numbers.{zero_location, numbered}
 use Rattle.linked_answer.specs.Words.{answer_bytes, too_short, answer_words, number_of, words_as_bytes}
 use Rattle.linked_line.specs.LineWords.{emitted_words}
-use Rattle.emit_outcome.specs.declared.EmitAnswer.{EmitAnswer}
-use Rattle.emit_outcome.specs.declared.EmitAnswer.TheVariants.{Done, Refused as LineRefused}
+use Rattle.emit_outcome.specs.Answer.{EmitAnswer}
 use Rattle.emit_outcome.specs.declared.LinePlace.{LinePlace}
 use Rattle.emit_outcome.specs.Call.{Lent, call_of}
 use Rattle.indexed_outcome.specs.declared.IndexedCounts.{IndexedCounts}
@@ -29,8 +28,8 @@ indexed_count_words c = c.counts.data_len ∷ c.counts.pending ∷ c.counts.brea
 
 -- a refused line leaves their bytes
 abbrev pub indexed_counts_after : EmitAnswer → IndexedCounts → List ℕ → List ℕ
-indexed_counts_after (Done position loaded) c counts = append counts 0 (words_as_bytes (indexed_count_words c))
-indexed_counts_after (LineRefused r position) c counts = counts
+indexed_counts_after (Ok done) c counts = append counts 0 (words_as_bytes (indexed_count_words c))
+indexed_counts_after (Err refused) c counts = counts
 
 -- the jobs by their numbers, 0 to 2 (docs/DECISIONS.md)
 abbrev pub last_job : ℕ

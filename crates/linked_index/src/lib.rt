@@ -4,13 +4,12 @@
 
 ghost use Rattle.std.specs.Prelude.{◌≡◌, ◌≤◌, length};
 ghost use Rattle.emit_outcome.specs.Call.{lent_of};
-ghost use Rattle.linked_index.specs.LinkedIndex.{indexed_counts_bytes, indexed_counts_at, indexed_counts_after, job_numbered, linked_indexed, made_words, linked_make};
+ghost use Rattle.linked_index.specs.LinkedIndex.{indexed_counts_bytes, indexed_counts_at, indexed_counts_after, job_numbered, linked_indexed, linked_make};
 
 use emit_outcome::{EmitAnswer, FillCounts, LinePlace};
 use indexed_outcome::IndexedCounts;
 use jobs::Job;
 use linked_answer::{ANSWER_BYTES, TOO_SHORT};
-use refusal::Refusal;
 
 // The fill counts of the region data, the pending, the breakpoint and the index buffer, each four bytes.
 const COUNTS_BYTES: usize = 16;
@@ -51,21 +50,15 @@ fn put_counts(counts: &mut [u8], answer: EmitAnswer, filled: IndexedCounts)
     requires { indexed_counts_bytes ≤ length counts.old }
     ensures { counts.new ≡ indexed_counts_after answer filled counts.old }
 {
-    match answer {
-        EmitAnswer::Done {
-            position: _,
-            loaded: _,
-        } => {
-            let three = filled.counts;
-            let words = [
-                three.data_len,
-                three.pending,
-                three.breakpoints,
-                filled.index,
-            ];
-            linked_answer::store_words(counts, &words[..]);
-        }
-        EmitAnswer::Refused(_, _) => {}
+    if answer.is_ok() {
+        let three = filled.counts;
+        let words = [
+            three.data_len,
+            three.pending,
+            three.breakpoints,
+            filled.index,
+        ];
+        linked_answer::store_words(counts, &words[..]);
     }
 }
 
@@ -125,16 +118,6 @@ pub fn do_indexed(
     words[0]
 }
 
-// A refused index has no fill.
-fn made_words(answer: Result<u32, Refusal>) -> [u32; 6]
-    ensures { result ≡ made_words answer }
-{
-    match answer {
-        Ok(fill) => linked_answer::done_words(0, fill),
-        Err(refusal) => linked_answer::refusal_words(refusal, 0),
-    }
-}
-
 // Makes the index of a filled pending buffer afresh or refuses, writes the answer and returns its number: 0 for an index.
 // Where the answer is too short it returns TOO_SHORT and changes nothing.
 pub fn make_index(
@@ -151,7 +134,7 @@ pub fn make_index(
         return TOO_SHORT;
     }
     let given = index_maker::make_index(pending, fill, labels, index);
-    let words = made_words(given);
+    let words = linked_answer::answered_words(given);
     linked_answer::store_words(answer, &words[..]);
     words[0]
 }

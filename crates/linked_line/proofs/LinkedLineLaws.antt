@@ -6,7 +6,7 @@ use Rattle.record.specs.Stores.{append}
 use Rattle.linked_answer.specs.Words.{answer_bytes, too_short, number_of, words_as_bytes}
 use Rattle.emit_outcome.specs.declared.FillCounts.{FillCounts}
 use Rattle.emit_outcome.specs.declared.LinePlace.{LinePlace}
-use Rattle.emit_outcome.specs.declared.EmitAnswer.{EmitAnswer}
+use Rattle.emit_outcome.specs.Answer.{EmitAnswer}
 use Rattle.emit_outcome.specs.Call.{Lent, call_of, outcome_of}
 use Rattle.emit_outcome.specs.Emit.{emit_outcome}
 use Rattle.linked_line.specs.LineWords.{emitted_words, counts_bytes, counts_at}

@@ -1,7 +1,7 @@
 -- The words of a line's answer, and its fill counts in the caller's buffer. Assumes nothing.
 use Rattle.std.specs.Prelude.{ℕ, List, [], ◌∷◌}
 use Rattle.record.specs.Bytes.{le32}
-use Rattle.emit_outcome.specs.declared.EmitAnswer.{EmitAnswer}
+use Rattle.emit_outcome.specs.Answer.{EmitAnswer}
 use Rattle.emit_outcome.specs.declared.FillCounts.{FillCounts}
 use Rattle.emit_outcome.specs.Returned.{returned}
 use Rattle.linked_answer.specs.Words.{answer_words}

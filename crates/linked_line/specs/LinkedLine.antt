@@ -1,12 +1,11 @@
 -- What the linked call for a line gives back and leaves in its lent buffers. Assumes nothing.
-use Rattle.std.specs.Prelude.{ℕ, List, true, false, ◌&&◌, length, leb}
+use Rattle.std.specs.Prelude.{Ok, Err, ℕ, List, true, false, ◌&&◌, length, leb}
 use Rattle.jobs.specs.declared.Job.{Job}
 use Rattle.jobs.specs.declared.Job.TheVariants.{Commit}
 use Rattle.record.specs.Stores.{append}
 use Rattle.linked_answer.specs.Words.{answer_bytes, too_short, number_of, words_as_bytes}
 use Rattle.emit_outcome.specs.declared.FillCounts.{FillCounts}
-use Rattle.emit_outcome.specs.declared.EmitAnswer.{EmitAnswer}
-use Rattle.emit_outcome.specs.declared.EmitAnswer.TheVariants.{Done, Refused}
+use Rattle.emit_outcome.specs.Answer.{EmitAnswer}
 use Rattle.emit_outcome.specs.declared.LinePlace.{LinePlace}
 use Rattle.emit_outcome.specs.Call.{Lent, EmitOutcome, call_of}
 use Rattle.emit_outcome.specs.Emit.{emit_outcome}
@@ -14,8 +13,8 @@ use Rattle.linked_line.specs.LineWords.{emitted_words, counts_bytes, counts_at, 
 
 -- a refused line leaves their bytes
 abbrev pub counts_after : EmitAnswer → FillCounts → List ℕ → List ℕ
-counts_after (Done position loaded) c counts = append counts 0 (words_as_bytes (count_words c))
-counts_after (Refused r position) c counts = counts
+counts_after (Ok done) c counts = append counts 0 (words_as_bytes (count_words c))
+counts_after (Err refused) c counts = counts
 
 pub record LinkedLine : Type 0 where
   pub result : ℕ

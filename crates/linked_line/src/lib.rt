@@ -3,38 +3,23 @@
 
 ghost use Rattle.std.specs.Prelude.{◌≡◌, ◌≤◌, length};
 ghost use Rattle.emit_outcome.specs.Call.{lent_of};
-ghost use Rattle.emit_outcome.specs.Returned.{form_number};
 ghost use Rattle.linked_line.specs.LineWords.{emitted_words, counts_bytes, counts_at};
 ghost use Rattle.linked_line.specs.LinkedLine.{counts_after, linked_line_by};
 
 use emit_outcome::{EmitAnswer, FillCounts, LinePlace};
 use jobs::Job;
 use linked_answer::{ANSWER_BYTES, TOO_SHORT, done_words, refusal_words};
-use loading::LoadForm;
 
 // The fill counts of the region data, the pending and the breakpoint buffer, each four bytes.
 pub const COUNTS_BYTES: usize = 12;
-
-// How a line's constant is loaded, as a number.
-fn form_number(form: LoadForm) -> u32
-    ensures { result ≡ form_number form }
-{
-    match form {
-        LoadForm::Nothing => 0,
-        LoadForm::Addiu => 1,
-        LoadForm::Ori => 2,
-        LoadForm::Lui => 3,
-        LoadForm::BothHalves => 4,
-    }
-}
 
 // A line has a position, refused or not.
 pub fn emitted_words(answer: EmitAnswer) -> [u32; 6]
     ensures { result ≡ emitted_words answer }
 {
     match answer {
-        EmitAnswer::Done { position, loaded } => done_words(form_number(loaded), position),
-        EmitAnswer::Refused(refusal, position) => refusal_words(refusal, position),
+        Ok(done) => done_words(done.loaded as u32, done.position),
+        Err(refused) => refusal_words(refused.refusal, refused.position),
     }
 }
 
@@ -57,15 +42,9 @@ fn put_counts(counts: &mut [u8], answer: EmitAnswer, filled: FillCounts)
     requires { counts_bytes ≤ length counts.old }
     ensures { counts.new ≡ counts_after answer filled counts.old }
 {
-    match answer {
-        EmitAnswer::Done {
-            position: _,
-            loaded: _,
-        } => {
-            let words = [filled.data_len, filled.pending, filled.breakpoints];
-            linked_answer::store_words(counts, &words[..]);
-        }
-        EmitAnswer::Refused(_, _) => {}
+    if answer.is_ok() {
+        let words = [filled.data_len, filled.pending, filled.breakpoints];
+        linked_answer::store_words(counts, &words[..]);
     }
 }
 

@@ -9,7 +9,7 @@ use Rattle.refusal.specs.declared.Refusal.{Refusal}
 use Rattle.refusal.specs.Numbers.{numbered}
 use Rattle.finished_words.specs.Listed.{Bytes}
 use Rattle.emit_bytes.specs.Appended.{word_bytes}
-use Rattle.emit_outcome.specs.declared.EmitAnswer.TheVariants.{Refused}
+use Rattle.emit_outcome.specs.Answer.{refused_at}
 use Rattle.linked_line.specs.LineWords.{emitted_words}
 use Rattle.linked_answer.specs.Words.{answer_bytes, words_as_bytes}
 use Rattle.patching_outcome.specs.Patching.{patching_of}
@@ -63,7 +63,7 @@ module _ (state : List ℕ) (bytes : Bytes state) where
 
 -- the elements of a record that is lent are bytes; the call writes its five numbers again, as they were
 pub line_refused : (job : Job) (given : LineGiven) (regions pending breakpoints state answer : List ℕ) (r : Refusal) (p : ℕ)
-    → answer_bytes ≤ length answer → state_bytes ≤ length state → Bytes state → (line_outcome job given (patching_of regions pending breakpoints [] (state_at state))).answer ≡ Refused r p
+    → answer_bytes ≤ length answer → state_bytes ≤ length state → Bytes state → (line_outcome job given (patching_of regions pending breakpoints [] (state_at state))).answer ≡ refused_at r p
     → linked_patch_line job given regions pending breakpoints state answer
     ≡ (record {
       result = (numbered r).number;
@@ -71,7 +71,7 @@ pub line_refused : (job : Job) (given : LineGiven) (regions pending breakpoints 
       pending = pending;
       breakpoints = breakpoints;
       state = state;
-      answer = append answer 0 (words_as_bytes (emitted_words (Refused r p)));
+      answer = append answer 0 (words_as_bytes (emitted_words (refused_at r p)));
     })
 unfolding linked_patch_line
 line_refused job given regions pending breakpoints state answer r p h k bytes e =

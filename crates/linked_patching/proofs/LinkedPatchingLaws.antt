@@ -1,4 +1,5 @@
 -- Laws of the linked calls of patching: too short a buffer, and an answered call. Assumes nothing.
+use Rattle.patching_outcome.specs.Step.{StepAnswer}
 use Rattle.std.specs.Prelude.{ℕ, ◌≤◌, ◌≡◌, List, [], false, ◌&&◌, length, leb}
 use borrow.Author.Tests.{le-leb}
 use Rattle.jobs.specs.declared.Job.{Job}
@@ -7,10 +8,9 @@ use Rattle.labels.specs.Labels.{table_of}
 use Rattle.linked_line.specs.LineWords.{emitted_words}
 use Rattle.linked_answer.specs.Words.{answer_bytes, too_short, number_of, words_as_bytes}
 use Rattle.patching_outcome.specs.declared.PatchCounts.{PatchCounts}
-use Rattle.patching_outcome.specs.declared.StepAnswer.{StepAnswer}
 use Rattle.patching_outcome.specs.Contract.{StepIs}
 use Rattle.patching_outcome.specs.Line.{LineGiven}
-use Rattle.emit_outcome.specs.declared.EmitAnswer.{EmitAnswer}
+use Rattle.emit_outcome.specs.Answer.{EmitAnswer}
 use Rattle.patching_line.specs.Contract.{LineIs}
 use Rattle.linked_patching.specs.LinkedPatching.{state_bytes, state_at, state_words, step_words, linked_step, linked_patch_line}
 

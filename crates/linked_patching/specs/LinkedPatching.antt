@@ -1,5 +1,5 @@
 -- What the linked calls of patching give back and leave in their lent buffers. Assumes nothing.
-use Rattle.std.specs.Prelude.{ℕ, List, [], ◌∷◌, true, false, ◌&&◌, pos, length, leb}
+use Rattle.std.specs.Prelude.{ℕ, List, [], ◌∷◌, true, false, ◌&&◌, pos, length, leb, Err, Ok}
 use Rattle.jobs.specs.declared.Job.{Job}
 use Rattle.record.specs.Bytes.{le32}
 use Rattle.record.specs.Stores.{append}
@@ -8,10 +8,9 @@ use Rattle.labels.specs.Labels.{table_of}
 use Rattle.linked_line.specs.LineWords.{emitted_words}
 use Rattle.linked_answer.specs.Words.{answer_bytes, too_short, answer_words, number_of, words_as_bytes}
 use Rattle.patching_outcome.specs.declared.PatchCounts.{PatchCounts}
-use Rattle.patching_outcome.specs.declared.StepAnswer.{StepAnswer}
-use Rattle.patching_outcome.specs.declared.StepAnswer.TheVariants.{Patched, Ended, Refused}
+use Rattle.patching_outcome.specs.declared.Progress.TheVariants.{Patched, Ended}
 use Rattle.patching_outcome.specs.Patching.{patching_of}
-use Rattle.patching_outcome.specs.Step.{StepOutcome, step_outcome}
+use Rattle.patching_outcome.specs.Step.{StepAnswer, StepOutcome, step_outcome}
 use Rattle.patching_outcome.specs.Line.{LineGiven, LineOutcome, line_outcome}
 
 -- ---- the caller's record: five numbers of four bytes
@@ -28,9 +27,9 @@ state_words c = c.regions ∷ c.pending ∷ c.breakpoints ∷ c.patches ∷ c.st
 -- Number 0 is a step that was not refused: a is 0 and the last word how many pendings are patched, or a is 1 and the last word the entry
 -- (docs/DECISIONS.md). A refusal has, as a refused build has, "its number, a location and numbers a and b", and the last word 0.
 abbrev pub step_words : StepAnswer → List ℕ
-step_words (Patched patches) = answer_words 0 zero_location (pos 0) 0 patches
-step_words (Ended entry) = answer_words 0 zero_location (pos 1) 0 entry
-step_words (Refused r) = let n = numbered r in answer_words n.number n.location n.a n.b 0
+step_words (Ok (Patched patches)) = answer_words 0 zero_location (pos 0) 0 patches
+step_words (Ok (Ended entry)) = answer_words 0 zero_location (pos 1) 0 entry
+step_words (Err r) = let n = numbered r in answer_words n.number n.location n.a n.b 0
 
 pub record LinkedStep : Type 0 where
   pub result : ℕ

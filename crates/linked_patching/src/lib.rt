@@ -9,7 +9,7 @@ ghost use Rattle.linked_patching.specs.LinkedPatching.{state_bytes, state_at, st
 
 use jobs::Job;
 use linked_answer::{ANSWER_BYTES, TOO_SHORT};
-use patching_outcome::{PatchCounts, StepAnswer};
+use patching_outcome::{PatchCounts, Progress, StepAnswer};
 
 // The caller's record: the fill counts of the region list, the pendings and the breakpoints, how many pendings are patched, and whether
 // patching runs, each four bytes.
@@ -52,9 +52,9 @@ fn step_words(answer: StepAnswer) -> [u32; 6]
     ensures { result ≡ step_words answer }
 {
     match answer {
-        StepAnswer::Patched(patches) => linked_answer::done_words(0, patches),
-        StepAnswer::Ended(entry) => linked_answer::done_words(1, entry),
-        StepAnswer::Refused(refusal) => linked_answer::refusal_words(refusal, 0),
+        Ok(Progress::Patched(patches)) => linked_answer::done_words(0, patches),
+        Ok(Progress::Ended(entry)) => linked_answer::done_words(1, entry),
+        Err(refusal) => linked_answer::refusal_words(refusal, 0),
     }
 }
 

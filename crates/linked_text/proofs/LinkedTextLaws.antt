@@ -1,12 +1,17 @@
 -- Laws of the linked call for a text: too short an answer, and an answered call. Assumes nothing.
-use Rattle.std.specs.Prelude.{ℕ, ◌≤◌, ◌<◌, ◌≡◌, List, length, Result}
+use Rattle.std.specs.Prelude.{ℕ, ◌≤◌, ◌<◌, ◌≡◌, List, length, refl, Err, Ok, Result}
 use Rattle.std.proofs.Common.{le-leb}
 use Rattle.std.proofs.lemmas.Bool.{lt-leb}
 use Rattle.record.specs.Stores.{append}
-use Rattle.linked_answer.specs.Words.{answer_bytes, too_short, number_of, words_as_bytes}
+use Rattle.linked_answer.specs.Words.{answer_bytes, too_short, answered_words, number_of, words_as_bytes}
 use Rattle.text_reader.specs.Outcome.{read_text}
 use Rattle.linked_text.specs.LinkedText.{read_words, linked_text}
 use Rattle.refusal.specs.declared.Refusal.{Refusal}
+
+-- the words are those of an answer that gives one number
+pub words_are : (answer : Result ℕ Refusal) → answered_words answer ≡ read_words answer
+words_are (Ok last) = refl
+words_are (Err r) = refl
 
 module _ (text : List ℕ) (source : ℕ) (tokens answer : List ℕ) where
   pub text_short : length answer < answer_bytes → linked_text text source tokens answer ≡ (record { result = too_short; tokens = tokens; answer = answer })

@@ -2,20 +2,9 @@
 #![tactic(auto)]
 
 ghost use Rattle.std.specs.Prelude.{◌≡◌};
-ghost use Rattle.linked_text.specs.LinkedText.{read_words, linked_text};
+ghost use Rattle.linked_text.specs.LinkedText.{linked_text};
 
 use linked_answer::{ANSWER_BYTES, TOO_SHORT};
-use refusal::Refusal;
-
-// A refused text has no fill.
-fn read_words(answer: Result<u32, Refusal>) -> [u32; 6]
-    ensures { result ≡ read_words answer }
-{
-    match answer {
-        Ok(fill) => linked_answer::done_words(0, fill),
-        Err(refusal) => linked_answer::refusal_words(refusal, 0),
-    }
-}
 
 // Writes the text's tokens or refuses, writes the answer and returns its number: 0 for a text that was read.
 // Where the answer is too short it returns TOO_SHORT and changes nothing.
@@ -27,7 +16,7 @@ pub fn read_text(text: &[u8], source: u32, tokens: &mut [u8], answer: &mut [u8])
         return TOO_SHORT;
     }
     let given = text_reader::read_text(text, source, tokens);
-    let words = read_words(given);
+    let words = linked_answer::answered_words(given);
     linked_answer::store_words(answer, &words[..]);
     words[0]
 }

@@ -11,8 +11,7 @@ use Rattle.lexer.specs.Tokens.{tokens}
 use Rattle.descriptors.specs.Mnemonics.{mnemonic_name, mnemonic_location}
 use Rattle.descriptors.specs.Descriptors.{instruction_at}
 use Rattle.emit_pairs.specs.declared.InstructionPair.{InstructionPair}
-use Rattle.emit_dispatch.specs.declared.LineAnswer.{LineAnswer}
-use Rattle.emit_dispatch.specs.declared.LineAnswer.TheVariants.{Made, Missed, OutOfRange}
+use Rattle.emit_dispatch.specs.LineAnswers.{LineAnswer, Made, Missed, OutOfRange}
 use Rattle.emit_dispatch.specs.Lines.{Line, pseudo_line}
 use Rattle.formats.specs.Operations.{Operation, encoded, pseudo, line_of, words_of}
 use Rattle.emit_bytes.specs.Appended.{word_bytes}
@@ -21,7 +20,8 @@ use Rattle.loading.specs.declared.LoadForm.{LoadForm}
 use Rattle.emit_outcome.specs.declared.Meaning.{Meaning}
 use Rattle.emit_outcome.specs.declared.Meaning.TheVariants.{Table, Builtin, Neither}
 use Rattle.emit_outcome.specs.declared.LineNumbers.{LineNumbers}
-use Rattle.emit_outcome.specs.declared.EmitAnswer.TheVariants.{Done}
+use Rattle.emit_outcome.specs.Answer.{done_at}
+use Rattle.emit_outcome.proofs.AnswerLaws.{done_parts}
 use Rattle.emit_outcome.specs.Dispatch.{meaning, table_line}
 use Rattle.emit_outcome.specs.Call.{Lent, Call, EmitOutcome}
 use Rattle.emit_outcome.specs.Checks.{list_stop}
@@ -55,12 +55,12 @@ module _ (token_list : List ℕ) (line : Location) (numbers : LineNumbers) (lent
     form_is : made.form ≡ loaded
     outcome_is : o ≡ accept token_list line numbers lent made
 
-  by_verdict : (v : Verdict) → line_stop token_list line numbers lent made ≡ v → (accept_or token_list line numbers lent made v).answer ≡ Done position loaded
+  by_verdict : (v : Verdict) → line_stop token_list line numbers lent made ≡ v → (accept_or token_list line numbers lent made v).answer ≡ done_at position loaded
       → AcceptedLine (accept_or token_list line numbers lent made v)
-  by_verdict (Ok tt) e h = record { answer_is = answer_made made.answer e; form_is = cc; outcome_is = refl }
+  by_verdict (Ok tt) e h = record { answer_is = answer_made made.answer e; form_is = (done_parts h).1; outcome_is = refl }
   by_verdict (Err r) e h = let z : ◌≡◌ {A = ℕ} 0 1 = cc in absurd (omega arith)
 
-  accepted_line : (line_outcome token_list line numbers lent made).answer ≡ Done position loaded → AcceptedLine (line_outcome token_list line numbers lent made)
+  accepted_line : (line_outcome token_list line numbers lent made).answer ≡ done_at position loaded → AcceptedLine (line_outcome token_list line numbers lent made)
   unfolding line_outcome
   accepted_line h = by_verdict (line_stop token_list line numbers lent made) refl h
 
@@ -88,12 +88,12 @@ pub record AcceptedCall (job : Job) (c : Call) (loaded : LoadForm) (m : Meaning)
   pub appended : Appended c o (words_of (line_of job operation (tokens c.token_list) (start_of c)).pairs)
 
 module _ (job : Job) (c : Call) (position : ℕ) (loaded : LoadForm) (fits : c.numbers.counts.data_len ≤ length c.lent.region_data) where
-  line_appends : (made : Line) → (call_line c made).answer ≡ Done position loaded → (made.answer ≡ Made) × (made.form ≡ loaded) × Appended c (call_line c made) (words_of made.pairs)
+  line_appends : (made : Line) → (call_line c made).answer ≡ done_at position loaded → (made.answer ≡ Made) × (made.form ≡ loaded) × Appended c (call_line c made) (words_of made.pairs)
   line_appends made h =
       let a = accepted_line c.token_list (mnemonic_location c.mnemonic) c.numbers c.lent made position loaded h in
       (a.answer_is, a.form_is, subst (λ (o : EmitOutcome). Appended c o (words_of made.pairs)) (sym a.outcome_is) (accept_appends c fits made))
 
-  accepted_meaning : (m : Meaning) → (meaning_outcome job c m).answer ≡ Done position loaded → AcceptedCall job c loaded m (meaning_outcome job c m)
+  accepted_meaning : (m : Meaning) → (meaning_outcome job c m).answer ≡ done_at position loaded → AcceptedCall job c loaded m (meaning_outcome job c m)
   unfolding table_line
   accepted_meaning (Table p) h =
       let l = line_appends (table_line job c.descriptors p (tokens c.token_list) (start_of c)) h in
@@ -107,12 +107,12 @@ module _ (job : Job) (c : Call) (position : ℕ) (loaded : LoadForm) where
   abbrev stop : Verdict
   stop = list_stop c.token_list c.mnemonic c.descriptors c.lent c.numbers.place.region c.numbers.counts
 
-  by_lists : (v : Verdict) → stop ≡ v → (list_outcome job c v).answer ≡ Done position loaded → AcceptedCall job c loaded (meaning c.descriptors (mnemonic_name c.mnemonic)) (list_outcome job c v)
+  by_lists : (v : Verdict) → stop ≡ v → (list_outcome job c v).answer ≡ done_at position loaded → AcceptedCall job c loaded (meaning c.descriptors (mnemonic_name c.mnemonic)) (list_outcome job c v)
   by_lists (Err r) e h = let z : ◌≡◌ {A = ℕ} 0 1 = cc in absurd (omega arith)
   by_lists (Ok tt) e h =
       accepted_meaning job c position loaded (lists_pass c.token_list c.mnemonic c.descriptors c.lent c.numbers.place.region c.numbers.counts e).filled.data_filled
       (meaning c.descriptors (mnemonic_name c.mnemonic)) h
 
-  pub accepted_call : (emit_outcome job c).answer ≡ Done position loaded → AcceptedCall job c loaded (meaning c.descriptors (mnemonic_name c.mnemonic)) (emit_outcome job c)
+  pub accepted_call : (emit_outcome job c).answer ≡ done_at position loaded → AcceptedCall job c loaded (meaning c.descriptors (mnemonic_name c.mnemonic)) (emit_outcome job c)
   unfolding emit_outcome
   accepted_call h = by_lists stop refl h

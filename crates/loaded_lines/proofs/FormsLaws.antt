@@ -27,7 +27,7 @@ use Rattle.emit_pairs.specs.declared.InstructionPair.{InstructionPair}
 use Rattle.emit_pairs.specs.declared.Fault.TheVariants.{Immediate as ImmediateFault}
 use Rattle.emit_pairs.specs.Pairs.{label_form, is_immediate, immediate_range, immediate_form}
 use Rattle.emit_pairs.specs.Values.{value_form, maybe_form, offset_form}
-use Rattle.emit_dispatch.specs.declared.LineAnswer.TheVariants.{Made}
+use Rattle.emit_dispatch.specs.LineAnswers.{Made}
 use Rattle.emit_dispatch.specs.Wants.{encoding_wants, pseudo_wants}
 use Rattle.emit_dispatch.proofs.LinesLaws.{within_made, then_within}
 use Rattle.emit_dispatch.specs.Lines.{kept_range, encoding_range, encoding_pairs, encoding_form, pseudo_pairs, pseudo_form, line_by, encoding_line, pseudo_line}

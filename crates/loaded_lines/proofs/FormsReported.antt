@@ -6,7 +6,7 @@ use Rattle.jobs.specs.declared.Job.{Job}
 use Rattle.loading.specs.declared.LoadForm.{LoadForm}
 use Rattle.formats.specs.Operations.{loads_of}
 use Rattle.lexer.specs.Tokens.{tokens}
-use Rattle.emit_outcome.specs.declared.EmitAnswer.TheVariants.{Done}
+use Rattle.emit_outcome.specs.Answer.{done_at}
 use Rattle.emit_outcome.specs.Call.{Call}
 use Rattle.emit_outcome.specs.Emit.{start_of, emit_outcome}
 use Rattle.loaded_lines.proofs.Loaded.{read_loads, meant_loads, call_loads}
@@ -15,7 +15,7 @@ use Rattle.loaded_lines.proofs.LinesLoad.{line_loads}
 use Rattle.loaded_lines.proofs.Forms.{form_from, Reported}
 use Rattle.loaded_lines.proofs.FormsLaws.{line_form, formed}
 
-pub reported : (job : Job) (c : Call) (position : ℕ) (form : LoadForm) → (emit_outcome job c).answer ≡ Done position form → Reported job c form
+pub reported : (job : Job) (c : Call) (position : ℕ) (form : LoadForm) → (emit_outcome job c).answer ≡ done_at position form → Reported job c form
 reported job c position form h =
     let a = accepted_call job c position form h in
     let line = line_loads job a.operation (tokens c.token_list) (start_of c) a.made in

@@ -9,14 +9,14 @@ use Rattle.loading.specs.Load.{load_words}
 use Rattle.loading.proofs.Loading.{loads}
 use Rattle.lexer.specs.declared.Token.{Token}
 use Rattle.lexer.specs.Tokens.{tokens}
-use Rattle.emit_dispatch.specs.declared.LineAnswer.TheVariants.{Made}
+use Rattle.emit_dispatch.specs.LineAnswers.{Made}
 use Rattle.formats.proofs.Formats.{Format, InFormats}
 use Rattle.formats.specs.Operations.{Operation, loads_of, line_of, words_of}
 use Rattle.formats.specs.LineLoads.{LoadedConstant}
 use Rattle.formats.proofs.LineFormats.{own_formats, LoadThen}
 use Rattle.formats.proofs.EveryWord.{every_word}
 use Rattle.loading.specs.declared.LoadForm.{LoadForm}
-use Rattle.emit_outcome.specs.declared.EmitAnswer.TheVariants.{Done}
+use Rattle.emit_outcome.specs.Answer.{done_at}
 use Rattle.emit_outcome.specs.Call.{Call}
 use Rattle.emit_outcome.specs.Emit.{start_of, emit_outcome}
 use Rattle.loaded_lines.proofs.Loaded.{LoadsFirst, LoadedFirst, LoadedLine, filled_data, bytes_of, LoadedCall, read_loads, meant_loads, call_loads, ConstantAppended}
@@ -38,13 +38,13 @@ line_loads job o ts i h =
     record { operands = w.operands; operands_are = w.operands_are; loaded = loaded_first (loads_of o w.operands) w.loads }
 
 -- every accepted call
-pub call_loads_lem : (job : Job) (c : Call) (position : ℕ) (loaded : LoadForm) → (emit_outcome job c).answer ≡ Done position loaded → LoadedCall job c
+pub call_loads_lem : (job : Job) (c : Call) (position : ℕ) (loaded : LoadForm) → (emit_outcome job c).answer ≡ done_at position loaded → LoadedCall job c
 call_loads_lem job c position loaded h =
     let a = accepted_call job c position loaded h in
     record { operation = a.operation; means = a.means; made = a.made; line = line_loads job a.operation _ _ a.made; appended = a.appended }
 
 -- every accepted call whose line loads a constant
-pub constant_appended : (job : Job) (c : Call) (position : ℕ) (loaded : LoadForm) → (emit_outcome job c).answer ≡ Done position loaded → (l : LoadedConstant)
+pub constant_appended : (job : Job) (c : Call) (position : ℕ) (loaded : LoadForm) → (emit_outcome job c).answer ≡ done_at position loaded → (l : LoadedConstant)
     → call_loads c ≡ Some l → ConstantAppended job c l
 constant_appended job c position loaded h l e =
     let r = call_loads_lem job c position loaded h in

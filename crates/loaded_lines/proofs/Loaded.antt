@@ -12,7 +12,7 @@ use Rattle.operand.specs.Answers.{Answer, Got, Missed}
 use Rattle.operand_list.specs.OperandLists.{AskedAll, read_operands}
 use Rattle.descriptors.specs.Mnemonics.{mnemonic_name}
 use Rattle.descriptors.specs.Descriptors.{instruction_at}
-use Rattle.emit_dispatch.specs.declared.LineAnswer.TheVariants.{Made}
+use Rattle.emit_dispatch.specs.LineAnswers.{Made}
 use Rattle.formats.proofs.Formats.{Format, InFormats}
 use Rattle.formats.specs.Operations.{Operation, encoded, pseudo, wants_of, loads_of, line_of, words_of}
 use Rattle.formats.specs.LineLoads.{LoadedConstant}

@@ -34,16 +34,17 @@ pub enum Instruction {
     Other,
 }
 
-// Why a run stops.
+// Why a run stops, with its number in a linked answer.
 #[derive(Clone, Copy, PartialEq, Eq)]
 pub enum Reason {
-    Allowance,
-    Pc,
-    Word,
-    Overflow,
+    Allowance = 0,
+    Pc = 1,
+    Word = 2,
+    Overflow = 3,
 }
 
 // What a word does: it sets rt or rd and the next word follows, or it goes to a pc, or it overflows, or it is another word.
+// kept: two cases stop a run, each for its own reason, so neither is an Option's nothing.
 #[derive(Clone, Copy, PartialEq, Eq)]
 pub enum Effect {
     SetRt(u32),

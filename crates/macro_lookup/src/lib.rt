@@ -5,8 +5,12 @@ ghost use Rattle.std.specs.Prelude.{◌≡◌, true, ◌≤◌, length};
 ghost use Rattle.record.specs.Bytes.{same_bytes};
 ghost use Rattle.record.specs.Records.{places};
 ghost use Rattle.name_index.specs.Index.{IndexOf};
-ghost use Rattle.macros.specs.Macros.{name_at, name_ok, macro_layout, macro_repeat};
+ghost use Rattle.macros.specs.Macros.{name_at, name_ok, body_at, macro_at_ok, macro_repeat};
 ghost use Rattle.macro_lookup.specs.Lookup.{CalleeIs};
+
+use macros::Macros;
+use name_index::NameIndex;
+use names::Named;
 
 // The most macros of a list: one has seven bytes at least.
 const MOST: usize = 9362;
@@ -24,10 +28,11 @@ fn is_named(list: &[u8], name: &[u8]) -> bool
 }
 
 // The place of the last macro before `limit` that has the name, or `limit`.
-pub fn callee(macros: &[u8], limit: usize, name: &[u8]) -> usize
-    requires { (macro_layout macros.now ≡ None) × (limit ≤ length macros.now) }
-    ensures { CalleeIs macros.now name.now limit result }
+pub fn callee(macros: &Macros<'_>, limit: usize, name: &[u8]) -> usize
+    requires { limit ≤ length macros.now.bytes.now }
+    ensures { CalleeIs macros.now.bytes.now name.now limit result }
 {
+    let macros = macros.bytes;
     let mut found = limit;
     for at in record::places(&macros[..limit]) {
         let next = record::next(macros, at);
@@ -36,6 +41,15 @@ pub fn callee(macros: &[u8], limit: usize, name: &[u8]) -> usize
         }
     }
     found
+}
+
+// The bytes of the macro at `at`.
+fn body_at(macros: &[u8], at: usize) -> &[u8]
+    requires { macro_at_ok macros.now at ≡ true }
+    ensures { result.now ≡ body_at macros.now at }
+{
+    let end = record::next(macros, at);
+    &macros[at + 4..end]
 }
 
 // Whether the macros of these bytes have one name.
@@ -49,9 +63,9 @@ fn same_name(list: &[u8], other: &[u8]) -> bool
 
 // The first macro that has the name of one above it, by an index of the list: in the order of their bytes, which begin with their names,
 // macros of one name are neighbours. `low` is the least place of those that have the name at hand.
-fn repeat_in(macros: &[u8], index: &[u16]) -> Option<usize>
-    requires { (macro_layout macros.now ≡ None) × IndexOf 0 macros.now index.now }
-    ensures { result ≡ macro_repeat macros.now }
+fn repeat_in(macros: &Macros<'_>, index: &[u16]) -> Option<usize>
+    requires { IndexOf 0 macros.now.bytes.now index.now }
+    ensures { result ≡ macro_repeat macros.now.bytes.now }
 {
     if index.is_empty() {
         return None;
@@ -60,7 +74,7 @@ fn repeat_in(macros: &[u8], index: &[u16]) -> Option<usize>
     let mut low = record::widened(index[0]);
     for i in 1..index.len() {
         let p = record::widened(index[i]);
-        if !same_name(names::name_at(macros, 0, p), names::name_at(macros, 0, low)) {
+        if !same_name(body_at(macros.bytes, p), body_at(macros.bytes, low)) {
             low = p;
         } else if p < low {
             best = Some(name_order::smaller(best.unwrap_or(low), low));
@@ -73,21 +87,20 @@ fn repeat_in(macros: &[u8], index: &[u16]) -> Option<usize>
 }
 
 // The same, by an index made in the first array; the other is scratch.
-fn repeat_by(macros: &[u8], index: &mut [u16], spare: &mut [u16]) -> Option<usize>
-    requires macros_value { macro_layout macros.now ≡ None }
-    requires macros_in_bounds { (length (places macros.now) ≤ length index.old) × (length (places macros.now) ≤ length spare.old) }
-    ensures { result ≡ macro_repeat macros.now }
+fn repeat_by(macros: &Macros<'_>, index: &mut [u16], spare: &mut [u16]) -> Option<usize>
+    requires { (length (places macros.now.bytes.now) ≤ length index.old) × (length (places macros.now.bytes.now) ≤ length spare.old) }
+    ensures { result ≡ macro_repeat macros.now.bytes.now }
 {
-    let n = name_index::make(macros, 0, &mut *index, spare);
-    repeat_in(macros, &index[..n])
+    let list: Named<'_, 0> = Named::new(macros.bytes);
+    let index = NameIndex::make(list, index, spare);
+    repeat_in(macros, index.order())
 }
 
 // The first macro that has the name of one above it. A short list has small arrays.
-pub fn first_repeat(macros: &[u8]) -> Option<usize>
-    requires { macro_layout macros.now ≡ None }
-    ensures { result ≡ macro_repeat macros.now }
+pub fn first_repeat(macros: &Macros<'_>) -> Option<usize>
+    ensures { result ≡ macro_repeat macros.now.bytes.now }
 {
-    if macros.len() <= 7 * FEW {
+    if macros.bytes.len() <= 7 * FEW {
         let mut index = [0u16; FEW];
         let mut spare = [0u16; FEW];
         return repeat_by(macros, &mut index, &mut spare);

@@ -1,7 +1,7 @@
 // The tokens that writing out reads, by their places: a body with its arguments put in, a call's arguments, and what is done with a token.
 #![tactic(auto)]
 
-ghost use Rattle.std.specs.Prelude.{◌≡◌, ◌+◌, ◌*◌, ◌≤◌, length};
+ghost use Rattle.std.specs.Prelude.{◌≡◌, None, ◌+◌, ◌*◌, ◌≤◌, length};
 ghost use Rattle.record.specs.Bytes.{location_at};
 ghost use Rattle.record.specs.Records.{kind_at, limit};
 ghost use Rattle.record.specs.Stores.{append};
@@ -15,6 +15,7 @@ ghost use Rattle.macro_tokens.specs.Places.{token_record, TokenIn, only, place_o
 ghost use Rattle.macro_tokens.specs.Arguments.{with_token, arguments_from, Takes};
 ghost use Rattle.macro_tokens.specs.Meant.{ActIs};
 
+use macros::{Macros, Names};
 use record::Location;
 use written_out::Mode;
 
@@ -27,6 +28,21 @@ pub struct Body {
     pub names: usize,
     pub count: usize,
     pub args: [usize; 8],
+}
+
+// A body with the list that its tokens and its parameters' names stand in.
+#[derive(Clone, Copy)]
+pub struct Reading<'a> {
+    pub list: &'a [u8],
+    pub body: Body,
+}
+
+// The token list and the macro list, which a place is in.
+// kept: that the macro list keeps its layout is a clause of those that look a macro up; the others that take the two lists do not ask for it.
+#[derive(Clone, Copy)]
+pub struct Source<'a> {
+    pub text: &'a [u8],
+    pub macros: &'a [u8],
 }
 
 // A call's arguments: how many, and the places of the first eight.
@@ -47,122 +63,131 @@ pub enum Act {
 }
 
 // ---- the token at a place
-// kept: the two lists are two parameters, as the contracts that callers rest on name them.
 
 // The bytes of its record.
-fn token_bytes<'a>(text: &'a [u8], macros: &'a [u8], place: usize) -> &'a [u8]
-    requires { TokenIn text.now macros.now place }
-    ensures { (result.now ≡ token_record text.now macros.now place) × (12 ≤ length result.now) }
+fn token_bytes<'a>(source: &Source<'a>, place: usize) -> &'a [u8]
+    requires { TokenIn source.now.text.now source.now.macros.now place }
+    ensures { (result.now ≡ token_record source.now.text.now source.now.macros.now place) × (12 ≤ length result.now) }
 {
-    if place < text.len() {
-        let next = record::next(text, place);
-        &text[place..next]
+    if place < source.text.len() {
+        let next = record::next(source.text, place);
+        &source.text[place..next]
     } else {
-        let at = place - text.len();
-        let next = record::next(macros, at);
-        &macros[at..next]
+        let at = place - source.text.len();
+        let next = record::next(source.macros, at);
+        &source.macros[at..next]
     }
 }
 
-fn kind_of(text: &[u8], macros: &[u8], place: usize) -> usize
-    requires { TokenIn text.now macros.now place }
-    ensures { result ≡ kind_at (token_record text.now macros.now place) 0 }
+fn kind_of(source: &Source<'_>, place: usize) -> usize
+    requires { TokenIn source.now.text.now source.now.macros.now place }
+    ensures { result ≡ kind_at (token_record source.now.text.now source.now.macros.now place) 0 }
 {
-    record::half_at(token_bytes(text, macros, place), 2)
+    record::half_at(token_bytes(source, place), 2)
 }
 
 // The length of its record.
-pub fn size_of(text: &[u8], macros: &[u8], place: usize) -> usize
-    requires { TokenIn text.now macros.now place }
-    ensures { result ≡ length (token_record text.now macros.now place) }
+pub fn size_of(source: &Source<'_>, place: usize) -> usize
+    requires { TokenIn source.now.text.now source.now.macros.now place }
+    ensures { result ≡ length (token_record source.now.text.now source.now.macros.now place) }
 {
-    token_bytes(text, macros, place).len()
+    token_bytes(source, place).len()
 }
 
-pub fn location_of(text: &[u8], macros: &[u8], place: usize) -> Location
-    requires { TokenIn text.now macros.now place }
-    ensures { result ≡ location_at (token_record text.now macros.now place) 4 }
+pub fn location_of(source: &Source<'_>, place: usize) -> Location
+    requires { TokenIn source.now.text.now source.now.macros.now place }
+    ensures { result ≡ location_at (token_record source.now.text.now source.now.macros.now place) 4 }
 {
-    record::location_at(token_bytes(text, macros, place), 4)
+    record::location_at(token_bytes(source, place), 4)
 }
 
 // The macro before `limit` that the token's text names, or `limit`.
-fn callee_of(text: &[u8], macros: &[u8], limit: usize, place: usize) -> usize
-    requires { TokenIn text.now macros.now place × (macro_layout macros.now ≡ None) × (limit ≤ length macros.now) }
-    ensures { CalleeIs macros.now (text_of (token_record text.now macros.now place) 0) limit result }
+fn callee_of(source: &Source<'_>, limit: usize, place: usize) -> usize
+    requires { TokenIn source.now.text.now source.now.macros.now place × (limit ≤ length source.now.macros.now) × (macro_layout source.now.macros.now ≡ None) }
+    ensures { CalleeIs source.now.macros.now (text_of (token_record source.now.text.now source.now.macros.now place) 0) limit result }
 {
-    let bytes = token_bytes(text, macros, place);
-    macro_lookup::callee(macros, limit, &bytes[12..])
+    let bytes = token_bytes(source, place);
+    let macros = Macros {
+        bytes: source.macros,
+    };
+    macro_lookup::callee(&macros, limit, &bytes[12..])
 }
 
 // A copy of its record from `fill` on, where that is `really` to be made.
-pub fn put_token(
-    text: &[u8],
-    macros: &[u8],
-    place: usize,
-    really: bool,
-    out: &mut [u8],
-    fill: usize,
-)
-    requires { TokenIn text.now macros.now place × (fill + length (token_record text.now macros.now place) ≤ length out.old) }
-    ensures { out.new ≡ append out.old fill (only really (token_record text.now macros.now place)) }
+pub fn put_token(source: &Source<'_>, place: usize, really: bool, out: &mut [u8], fill: usize)
+    requires { TokenIn source.now.text.now source.now.macros.now place × (fill + length (token_record source.now.text.now source.now.macros.now place) ≤ length out.old) }
+    ensures { out.new ≡ append out.old fill (only really (token_record source.now.text.now source.now.macros.now place)) }
 {
     if really {
-        record::put_all(out, fill, token_bytes(text, macros, place));
+        record::put_all(out, fill, token_bytes(source, place));
     }
 }
 
 // ---- a body
 
-// The place of the token at `at`, the arguments put in.
-pub fn place_at(list: &[u8], body: Body, at: usize) -> usize
-    requires { Readable list.now body × TokenIs list.now at }
-    ensures { result ≡ place_of list.now body at }
+// The place of the argument of the Parameter at `at`, or its own if it is none of the body's. It stays a call, so that `place_at` is short enough
+// to be inlined.
+#[inline(never)]
+fn argument_at(reading: &Reading<'_>, at: usize) -> usize
+    requires { Readable reading.now.list.now reading.now.body × TokenIs reading.now.list.now at × (kind_at reading.now.list.now at ≡ 2) }
+    ensures { result ≡ place_of reading.now.list.now reading.now.body at }
 {
-    let own = body.base + at;
-    if record::half_at(list, at + 2) != 2 {
-        return own;
+    let names = Names {
+        list: reading.list,
+        count: reading.body.count,
+        at: reading.body.names,
+    };
+    let next = record::next(reading.list, at);
+    let i = names.index_of(&reading.list[at + 12..next]);
+    if i < reading.body.count {
+        reading.body.args[i]
+    } else {
+        reading.body.base + at
     }
-    let next = record::next(list, at);
-    let i = macros::index_of(list, body.count, body.names, &list[at + 12..next]);
-    if i < body.count { body.args[i] } else { own }
+}
+
+// The place of the token at `at`, the arguments put in.
+pub fn place_at(reading: &Reading<'_>, at: usize) -> usize
+    requires { Readable reading.now.list.now reading.now.body × TokenIs reading.now.list.now at }
+    ensures { result ≡ place_of reading.now.list.now reading.now.body at }
+{
+    if record::half_at(reading.list, at + 2) == 2 {
+        argument_at(reading, at)
+    } else {
+        reading.body.base + at
+    }
 }
 
 // Whether the token at `at`, if there is one, is a Colon.
-fn colon_at(text: &[u8], macros: &[u8], list: &[u8], body: Body, at: usize) -> bool
-    requires { ReadableFrom text.now macros.now list.now body at }
-    ensures { result ≡ starts_colon (read_from text.now macros.now list.now body at) }
+fn colon_at(source: &Source<'_>, reading: &Reading<'_>, at: usize) -> bool
+    requires { ReadableFrom source.now.text.now source.now.macros.now reading.now.list.now reading.now.body at }
+    ensures { result ≡ starts_colon (read_from source.now.text.now source.now.macros.now reading.now.list.now reading.now.body at) }
 {
-    if at < list.len() {
-        kind_of(text, macros, place_at(list, body, at)) == 12
+    if at < reading.list.len() {
+        kind_of(source, place_at(reading, at)) == 12
     } else {
         false
     }
 }
 
 // One token more of a call: a Comma and a Comment are no arguments, and the ninth is only counted.
-fn with_token(taken: Taken, kind: usize, place: usize) -> Taken
-    requires { (taken.count ≤ 2 * limit) × (length taken.args ≡ 8) }
-    ensures { result ≡ with_token taken kind place }
+fn take(taken: &mut Taken, kind: usize, place: usize)
+    requires { (taken.old.count ≤ 2 * limit) × (length taken.old.args ≡ 8) }
+    ensures { taken.new ≡ with_token taken.old kind place }
 {
     if kind == 11 || kind == 0 {
-        return taken;
+        return;
     }
-    let count = taken.count;
-    let mut args = taken.args;
-    if count < 8 {
-        args[count] = place;
+    if taken.count < 8 {
+        taken.args[taken.count] = place;
     }
-    Taken {
-        count: count + 1,
-        args,
-    }
+    taken.count += 1;
 }
 
 // The arguments from `from` on up to NewLine or the end.
-pub fn arguments_from(text: &[u8], macros: &[u8], list: &[u8], body: Body, from: usize) -> Taken
-    requires { ReadableFrom text.now macros.now list.now body from }
-    ensures { Takes text.now macros.now result (arguments_from text.now macros.now list.now body from) }
+pub fn arguments_from(source: &Source<'_>, reading: &Reading<'_>, from: usize) -> Taken
+    requires { ReadableFrom source.now.text.now source.now.macros.now reading.now.list.now reading.now.body from }
+    ensures { Takes source.now.text.now source.now.macros.now result (arguments_from source.now.text.now source.now.macros.now reading.now.list.now reading.now.body from) }
 {
     let mut taken = Taken {
         count: 0,
@@ -170,37 +195,38 @@ pub fn arguments_from(text: &[u8], macros: &[u8], list: &[u8], body: Body, from:
     };
     let mut at = from;
     // kept: `record::places` begins at a list's first record, and this walk at `from`
-    while at < list.len() {
-        let place = place_at(list, body, at);
-        let kind = kind_of(text, macros, place);
+    while at < reading.list.len() {
+        let place = place_at(reading, at);
+        let kind = kind_of(source, place);
         if kind == 13 {
             return taken;
         }
-        taken = with_token(taken, kind, place);
-        at = record::next(list, at);
+        take(&mut taken, kind, place);
+        at = record::next(reading.list, at);
     }
     taken
 }
 
 // ---- what is done with a token
 
-// Before a line's head: `colon` says whether a Colon follows.
+// Before a line's head.
 fn act_leading(
-    text: &[u8],
-    macros: &[u8],
+    source: &Source<'_>,
     limit: usize,
+    reading: &Reading<'_>,
     place: usize,
     kind: usize,
-    colon: bool,
+    next: usize,
 ) -> Act
-    requires { TokenIn text.now macros.now place × (macro_layout macros.now ≡ None) × (limit ≤ length macros.now) × (kind ≡ kind_at (token_record text.now macros.now place) 0) }
-    ensures { ActIs macros.now limit (leading_of (above macros.now limit) (token_record text.now macros.now place) colon) result }
+    requires token_in { TokenIn source.now.text.now source.now.macros.now place × (limit ≤ length source.now.macros.now) × (kind ≡ kind_at (token_record source.now.text.now source.now.macros.now place) 0) × (macro_layout source.now.macros.now ≡ None) }
+    requires readable_from { ReadableFrom source.now.text.now source.now.macros.now reading.now.list.now reading.now.body next }
+    ensures { ActIs source.now.macros.now limit (leading_of (above source.now.macros.now limit) (token_record source.now.text.now source.now.macros.now place) (starts_colon (read_from source.now.text.now source.now.macros.now reading.now.list.now reading.now.body next))) result }
 {
     match kind {
         13 | 0 => Act::Write(Mode::Leading),
-        8 if colon => Act::Write(Mode::Labelled),
+        8 if colon_at(source, reading, next) => Act::Write(Mode::Labelled),
         8 => {
-            let k = callee_of(text, macros, limit, place);
+            let k = callee_of(source, limit, place);
             if k < limit {
                 Act::Call(k)
             } else {
@@ -213,26 +239,21 @@ fn act_leading(
 
 // The token at `place`, behind which the body goes on from `next` on.
 pub fn act_at(
-    text: &[u8],
-    macros: &[u8],
+    source: &Source<'_>,
     limit: usize,
-    list: &[u8],
-    body: Body,
+    reading: &Reading<'_>,
     mode: Mode,
     place: usize,
     next: usize,
 ) -> Act
-    requires token_in { TokenIn text.now macros.now place × (macro_layout macros.now ≡ None) × (limit ≤ length macros.now) }
-    requires readable_from { ReadableFrom text.now macros.now list.now body next }
-    ensures { ActIs macros.now limit (act_of (above macros.now limit) mode (token_record text.now macros.now place) (read_from text.now macros.now list.now body next)) result }
+    requires token_in { TokenIn source.now.text.now source.now.macros.now place × (limit ≤ length source.now.macros.now) × (macro_layout source.now.macros.now ≡ None) }
+    requires readable_from { ReadableFrom source.now.text.now source.now.macros.now reading.now.list.now reading.now.body next }
+    ensures { ActIs source.now.macros.now limit (act_of (above source.now.macros.now limit) mode (token_record source.now.text.now source.now.macros.now place) (read_from source.now.text.now source.now.macros.now reading.now.list.now reading.now.body next)) result }
 {
-    let kind = kind_of(text, macros, place);
+    let kind = kind_of(source, place);
     // kept: an arm `Copied | LeftOut if kind == 13` is no plainer, since each arm behind it is then proved twice
     match mode {
-        Mode::Leading => {
-            let colon = colon_at(text, macros, list, body, next);
-            act_leading(text, macros, limit, place, kind, colon)
-        }
+        Mode::Leading => act_leading(source, limit, reading, place, kind, next),
         Mode::Labelled => Act::Write(Mode::Leading),
         Mode::Copied => {
             if kind == 13 {

@@ -1,7 +1,8 @@
 // Macro records: their layout, and the macro of a name.
 #![tactic(auto)]
 
-ghost use Rattle.std.specs.Prelude.{◌≡◌, true, map, ◌+◌, ◌≤◌, ◌<◌, length};
+ghost use Rattle.std.proofs.Props.{props};
+ghost use Rattle.std.specs.Prelude.{◌≡◌, true, None, map, ◌+◌, ◌≤◌, ◌<◌, length};
 ghost use Rattle.record.specs.Bytes.{all};
 ghost use Rattle.lexer.specs.Tokens.{TokenIs, token_layout};
 ghost use Rattle.line_heads.specs.Lines.{record_at, records_of};
@@ -30,22 +31,6 @@ fn name_ok(list: &[u8], at: usize) -> bool
     1 <= n && n <= 64 && at + 1 + n <= list.len() && record::all_text(&list[at + 1..at + 1 + n])
 }
 
-// The number of the name among the `count` names from `at` on, or `count`.
-pub fn index_of(list: &[u8], count: usize, at: usize, name: &[u8]) -> usize
-    requires { all (name_ok list.now) (name_places count list.now at) ≡ true }
-    ensures { result ≡ index_of name.now (map (name_at list.now) (name_places count list.now at)) }
-{
-    let mut from = at;
-    for i in 0..count {
-        let next = behind_name(list, from);
-        if record::same(&list[from + 1..next], name) {
-            return i;
-        }
-        from = next;
-    }
-    count
-}
-
 // Whether `count` names stand from `at` on.
 fn names_ok(list: &[u8], count: usize, at: usize) -> bool
     requires { (at ≤ length list.now) × (length list.now < 65536) }
@@ -61,55 +46,84 @@ fn names_ok(list: &[u8], count: usize, at: usize) -> bool
     true
 }
 
-// The place behind the `count` names from `at` on.
-pub fn behind_names(list: &[u8], count: usize, at: usize) -> usize
-    requires { (at ≤ length list.now) × (all (name_ok list.now) (name_places count list.now at) ≡ true) }
-    ensures { (result ≡ behind_names count list.now at) × (result ≤ length list.now) }
-{
-    let mut from = at;
-    for _ in 0..count {
-        from = behind_name(list, from);
-    }
-    from
+// The names of a macro's parameters: `count` of its bytes' names from `at` on.
+#[derive(Clone, Copy)]
+pub struct Names<'a> {
+    pub list: &'a [u8],
+    pub count: usize,
+    pub at: usize,
+    pub ghost ok: { all (name_ok list.now) (name_places count list.now at) ≡ true } by { Prim.hlevel props },
 }
 
-// Whether no two of the `count` names from `at` on are the same.
-fn differ(list: &[u8], count: usize, at: usize) -> bool
-    requires { all (name_ok list.now) (name_places count list.now at) ≡ true }
-    ensures { result ≡ different (map (name_at list.now) (name_places count list.now at)) }
-{
-    let mut from = at;
-    for i in 0..count {
-        let next = behind_name(list, from);
-        let rest = count - i - 1;
-        if index_of(list, rest, next, &list[from + 1..next]) < rest {
-            return false;
+impl<'a> Names<'a> {
+    // The number of the name among them, or their count.
+    pub fn index_of(&self, name: &[u8]) -> usize
+        ensures { result ≡ index_of name.now (map (name_at self.now.list.now) (name_places self.now.count self.now.list.now self.now.at)) }
+    {
+        let mut from = self.at;
+        for i in 0..self.count {
+            let next = behind_name(self.list, from);
+            if record::same(&self.list[from + 1..next], name) {
+                return i;
+            }
+            from = next;
         }
-        from = next;
+        self.count
     }
-    true
-}
 
-// Whether the token at `at` is no Parameter, or one of the `count` from `names` on.
-fn token_known(list: &[u8], count: usize, names: usize, body: &[u8], at: usize) -> bool
-    requires { (all (name_ok list.now) (name_places count list.now names) ≡ true) × TokenIs body.now at }
-    ensures { result ≡ knows (map (name_at list.now) (name_places count list.now names)) (record_at body.now at) }
-{
-    record::half_at(body, at + 2) != 2
-        || index_of(list, count, names, &body[at + 12..record::next(body, at)]) < count
-}
-
-// Whether each Parameter of the tokens is one of the `count` from `names` on.
-fn all_known(list: &[u8], count: usize, names: usize, body: &[u8]) -> bool
-    requires { (all (name_ok list.now) (name_places count list.now names) ≡ true) × (token_layout body.now ≡ None) }
-    ensures { result ≡ known (map (name_at list.now) (name_places count list.now names)) (records_of body.now) }
-{
-    for at in record::places(body) {
-        if !token_known(list, count, names, body, at) {
-            return false;
+    // The place behind them.
+    fn behind(&self) -> usize
+        requires { self.now.at ≤ length self.now.list.now }
+        ensures { (result ≡ behind_names self.now.count self.now.list.now self.now.at) × (result ≤ length self.now.list.now) }
+    {
+        let mut from = self.at;
+        for _ in 0..self.count {
+            from = behind_name(self.list, from);
         }
+        from
     }
-    true
+
+    // Whether no two are the same.
+    fn differ(&self) -> bool
+        ensures { result ≡ different (map (name_at self.now.list.now) (name_places self.now.count self.now.list.now self.now.at)) }
+    {
+        let mut from = self.at;
+        for i in 0..self.count {
+            let next = behind_name(self.list, from);
+            let rest = Names {
+                list: self.list,
+                count: self.count - i - 1,
+                at: next,
+            };
+            if rest.index_of(&self.list[from + 1..next]) < rest.count {
+                return false;
+            }
+            from = next;
+        }
+        true
+    }
+
+    // Whether the token at `at` is no Parameter, or one of them.
+    fn knows(&self, body: &[u8], at: usize) -> bool
+        requires { TokenIs body.now at }
+        ensures { result ≡ knows (map (name_at self.now.list.now) (name_places self.now.count self.now.list.now self.now.at)) (record_at body.now at) }
+    {
+        record::half_at(body, at + 2) != 2
+            || self.index_of(&body[at + 12..record::next(body, at)]) < self.count
+    }
+
+    // Whether each Parameter of the tokens is one of them.
+    fn know_all(&self, body: &[u8]) -> bool
+        requires { token_layout body.now ≡ None }
+        ensures { result ≡ known (map (name_at self.now.list.now) (name_places self.now.count self.now.list.now self.now.at)) (records_of body.now) }
+    {
+        for at in record::places(body) {
+            if !self.knows(body, at) {
+                return false;
+            }
+        }
+        true
+    }
 }
 
 // Whether the bytes are those of a macro.
@@ -125,17 +139,25 @@ fn macro_ok(list: &[u8]) -> bool
         return false;
     }
     let count = record::wide(list[at]);
-    if count > MOST || !names_ok(list, count, at + 1) || !differ(list, count, at + 1) {
+    if count > MOST || !names_ok(list, count, at + 1) {
         return false;
     }
-    let end = behind_names(list, count, at + 1);
-    lexer::first_bad_token(&list[end..]).is_none() && all_known(list, count, at + 1, &list[end..])
+    let names = Names {
+        list,
+        count,
+        at: at + 1,
+    };
+    if !names.differ() {
+        return false;
+    }
+    let end = names.behind();
+    lexer::first_bad_token(&list[end..]).is_none() && names.know_all(&list[end..])
 }
 
 // The records that are macros.
-struct Macros;
+struct EachMacro;
 
-impl record::Layout for Macros {
+impl record::Layout for EachMacro {
     ghost keeps = { λ self list at. macro_at_ok list at };
 
     #[tactic(auto, using(crate::proofs::LayoutLaws::body_part), unfolding(crate::specs::Macros::macro_at_ok))]
@@ -151,7 +173,14 @@ impl record::Layout for Macros {
 pub fn first_bad_macro(list: &[u8]) -> Option<usize>
     ensures { result ≡ macro_layout list.now }
 {
-    record::first_bad_within(&Macros, list)
+    record::first_bad_within(&EachMacro, list)
+}
+
+// A list of macros.
+#[derive(Clone, Copy)]
+pub struct Macros<'a> {
+    pub bytes: &'a [u8],
+    pub ghost good: { macro_layout bytes.now ≡ None } by { Prim.hlevel props },
 }
 
 // Where the names of a macro's parameters, and its body, stand in its bytes.
@@ -168,7 +197,12 @@ pub fn head_of(list: &[u8]) -> Head
 {
     let at = behind_name(list, 0);
     let count = record::wide(list[at]);
-    let body = behind_names(list, count, at + 1);
+    let names = Names {
+        list,
+        count,
+        at: at + 1,
+    };
+    let body = names.behind();
     Head {
         names: at + 1,
         count,

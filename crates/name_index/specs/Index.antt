@@ -7,7 +7,7 @@ use Rattle.name_order.specs.Order.{key_order}
 use Rattle.name_sort.specs.Sorting.{SortOf, in_order}
 use Rattle.name_sort.specs.Before.{key_of, before}
 use Rattle.name_index.specs.declared.Looked.{Looked}
-use Rattle.name_index.specs.declared.Told.{Told}
+use Rattle.name_index.specs.Told.{Told}
 use Rattle.names.specs.Names.{is_first}
 use Rattle.std.specs.declared.cmp.Ordering.TheVariants.{Less, Equal, Greater}
 use Rattle.std.specs.declared.cmp.Ordering.{Ordering}

@@ -1,1 +1,3 @@
+pub mod Told
 pub mod Index
+pub mod Ordered

@@ -7,7 +7,28 @@ ghost use Rattle.names.specs.Owners.{has_owned_name, owned_repeat};
 ghost use Rattle.name_index.specs.Index.{IndexOf, below, names_rise, standing, told, lookup_from, lookup};
 ghost use Rattle.name_index.specs.Index.{owned_first};
 
+use names::{Named, NamedRecord};
 use std::cmp::Ordering;
+use std::marker::Model;
+
+// A list of named records with the ordered index of its names.
+#[derive(Drop)]
+pub struct NameIndex<'a, const SKIP: usize> {
+    list: Named<'a, SKIP>,
+    order: &'a [u16],
+}
+
+impl<'a, const SKIP: usize> Model for NameIndex<'a, SKIP> {
+    ghost use Rattle.name_index.specs.Ordered.{Ordered};
+
+    ghost Value = { Ordered };
+
+    ghost use Rattle.name_index.specs.Index.{IndexOf};
+
+    ghost view = { λ index. record { list = index.list; order = index.order.now } };
+
+    ghost invariant = { λ index. IndexOf SKIP index.list index.order.now };
+}
 
 // Where a name stands, how many names were compared to find it, and where in the index the search ended.
 #[derive(Clone, Copy)]
@@ -17,47 +38,146 @@ pub struct Looked {
     pub end: usize,
 }
 
-// Whether a record has a name and an owner, and how many names have been compared by then.
-#[derive(Clone, Copy)]
-pub struct Told {
-    pub same: bool,
-    pub compared: u32,
+impl<'a, const SKIP: usize> NameIndex<'a, SKIP> {
+    pub fn new(list: Named<'a, SKIP>, order: &'a [u16]) -> Self
+        requires { IndexOf SKIP list order.now }
+        ensures { result ≡ (record { list = list.entry; order = order.now }) }
+    {
+        NameIndex { list, order }
+    }
+
+    // The index of the list, made in a lent array; the other is scratch.
+    pub fn make(list: Named<'a, SKIP>, order: &'a mut [u16], spare: &mut [u16]) -> Self
+        requires list_len_bound { length list ≤ limit }
+        requires places_in_bounds { (length (places list) ≤ length order.old) × (length (places list) ≤ length spare.old) }
+        ensures { (result.list ≡ list.entry) × IndexOf SKIP result.list result.order }
+    {
+        let n = make(&list, &mut *order, spare);
+        NameIndex::new(list, &order[..n])
+    }
+
+    // The bytes of the list.
+    pub fn bytes(&self) -> &'a [u8]
+        ensures value { result.now ≡ self.now.list }
+        ensures named { first_bad (has_owned_name SKIP self.now.list) (places self.now.list) ≡ None }
+    {
+        self.list.bytes()
+    }
+
+    // The places of its records in the order of their names.
+    pub fn order(&self) -> &'a [u16]
+        ensures value { result.now ≡ self.now.order }
+        ensures index_of { IndexOf SKIP self.now.list self.now.order }
+    {
+        self.order
+    }
+
+    // The record at the place `i` of the index.
+    pub fn record(&self, i: usize) -> NamedRecord<'a, SKIP>
+        requires { i < length self.now.order }
+        ensures value { (result.list.now ≡ self.now.list) × (result.at ≡ get_or self.now.order i 0) }
+        ensures index_of { IndexOf SKIP self.now.list self.now.order }
+    {
+        NamedRecord::new(self.list.bytes(), usize::from(self.order[i]))
+    }
+
+    // The place of the record of that owner and name; so many names have been compared before.
+    // kept: a loop over `lo` and `hi`, as no search of the library counts its comparisons and says where it has ended.
+    pub fn find_from(&self, owner: u32, name: &[u8], before: u32) -> Looked
+        requires { (length self.now.order < 65536) × (before < 65536) }
+        ensures { result ≡ lookup_from SKIP self.now.list self.now.order owner name.now before }
+    {
+        let mut lo = 0;
+        let mut hi = self.order.len();
+        let mut compared = before;
+        while lo < hi {
+            let mid = lo + (hi - lo) / 2;
+            let named = self.record(mid);
+            match stands(named, owner, name, &mut compared) {
+                Ordering::Less => lo = mid + 1,
+                Ordering::Equal => {
+                    return Looked {
+                        named: Some(named.at),
+                        compared,
+                        end: mid,
+                    };
+                }
+                Ordering::Greater => hi = mid,
+            }
+        }
+        Looked {
+            named: None,
+            compared,
+            end: lo,
+        }
+    }
+
+    // The same where none has been compared before.
+    #[tactic(auto, unfolding(crate::specs::Index::lookup))]
+    pub fn find(&self, owner: u32, name: &[u8]) -> Looked
+        requires { length self.now.order < 65536 }
+        ensures { result ≡ lookup SKIP self.now.list self.now.order owner name.now }
+    {
+        self.find_from(owner, name, 0)
+    }
+
+    // Whether the record at the index's place `i` has the owner and name of an earlier one: equal ones are neighbours.
+    fn repeats(&self, i: usize) -> bool
+        requires { (0 < i) × (i < length self.now.order) }
+        ensures { owned_first SKIP self.now.list (get_or self.now.order i 0) ≡ not result }
+    {
+        let named = self.record(i);
+        self.record(i - 1).is_owned(named.owner(), named.name())
+    }
+
+    // The first record that shares its owner and name with an earlier one.
+    pub fn first_repeat(&self) -> Option<usize>
+        ensures { result ≡ owned_repeat SKIP self.now.list }
+    {
+        let order = self.order();
+        let mut best = None;
+        for i in 1..order.len() {
+            let p = usize::from(order[i]);
+            if best.is_none_or(|best| p < best) && self.repeats(i) {
+                best = Some(p);
+            }
+        }
+        best
+    }
 }
 
 // Writes the places of the list's records, and answers their count. What stands behind them stays.
-pub fn fill(list: &[u8], skip: usize, index: &mut [u16]) -> usize
-    requires list_value { first_bad (has_owned_name skip list.now) (places list.now) ≡ None }
-    requires list_len_bound { (length list.now ≤ limit) × (length (places list.now) ≤ length index.old) }
+// kept: `n` is counted by hand, since the count is the answer too: `enumerate` would count the same records a second time.
+pub fn fill<const SKIP: usize>(list: &Named<'_, SKIP>, index: &mut [u16]) -> usize
+    requires { (length list.now ≤ limit) × (length (places list.now) ≤ length index.old) }
     ensures { (result ≡ length (places list.now)) × (take result index.new ≡ places list.now) × (drop result index.new ≡ drop result index.old) }
 {
     let mut n = 0;
-    for at in record::places(list) {
+    for at in record::places(list.bytes()) {
         index[n] = at as u16;
         n += 1;
     }
     n
 }
 
-// Whether the record at `p` has a name and an owner that go before those of the record at `q`.
-fn is_below(list: &[u8], skip: usize, p: usize, q: usize) -> bool
-    requires { (has_owned_name skip list.now p ≡ true) × (has_owned_name skip list.now q ≡ true) }
-    ensures { result ≡ below skip list.now p q }
+// Whether the one record of a list has a name and an owner that go before those of the other.
+fn is_below<const SKIP: usize>(p: NamedRecord<'_, SKIP>, q: NamedRecord<'_, SKIP>) -> bool
+    requires { p.list.now ≡ q.list.now }
+    ensures { result ≡ below SKIP p.entry.list.now p.entry.at q.entry.at }
 {
-    let owner = names::owner_at(list, skip, q);
-    name_sort::stands(list, skip, p, owner, names::name_at(list, skip, q)).is_lt()
+    name_sort::stands(p, q.owner(), q.name()).is_lt()
 }
 
 // Whether each record's name and owner go before the next one's: then none repeats another, and no index is needed to say so.
-pub fn rises(list: &[u8], skip: usize) -> bool
-    requires { first_bad (has_owned_name skip list.now) (places list.now) ≡ None }
-    ensures { result ≡ names_rise skip list.now }
+pub fn rises<const SKIP: usize>(list: &Named<'_, SKIP>) -> bool
+    ensures { result ≡ names_rise SKIP list.now }
 {
-    let mut places = record::places(list);
+    let mut places = record::places(list.bytes());
     let Some(mut last) = places.next() else {
         return true;
     };
     for at in places {
-        if !is_below(list, skip, last, at) {
+        if !is_below(list.record(last), list.record(at)) {
             return false;
         }
         last = at;
@@ -66,126 +186,48 @@ pub fn rises(list: &[u8], skip: usize) -> bool
 }
 
 // Makes the index of the list's records, and answers their count; `spare` is scratch.
-pub fn make(list: &[u8], skip: usize, index: &mut [u16], spare: &mut [u16]) -> usize
-    requires list_value { first_bad (has_owned_name skip list.now) (places list.now) ≡ None }
-    requires list_len_bound { (length list.now ≤ limit) × (length (places list.now) ≤ length index.old) × (length (places list.now) ≤ length spare.old) }
-    ensures { (result ≡ length (places list.now)) × IndexOf skip list.now (take result index.new) }
+pub fn make<const SKIP: usize>(
+    list: &Named<'_, SKIP>,
+    index: &mut [u16],
+    spare: &mut [u16],
+) -> usize
+    requires { (length list.now ≤ limit) × (length (places list.now) ≤ length index.old) × (length (places list.now) ≤ length spare.old) }
+    ensures { (result ≡ length (places list.now)) × IndexOf SKIP list.now (take result index.new) }
 {
-    let n = fill(list, skip, index);
-    name_sort::sort(list, skip, &mut index[..n], spare);
+    let n = fill(list, index);
+    name_sort::sort::<SKIP>(list.bytes(), &mut index[..n], spare);
     n
 }
 
-// Compares the name of the record at `at`, and then its owner. On the way of a lookup names are compared here and in `is_owned`, and the count of
-// comparisons grows where they are.
-fn stands(
-    list: &[u8],
-    skip: usize,
-    at: usize,
+// Compares a record's name, and then its owner. On the way of a lookup names are compared here and in `is_owned`, and the count of comparisons
+// grows where they are.
+fn stands<const SKIP: usize>(
+    named: NamedRecord<'_, SKIP>,
     owner: u32,
     name: &[u8],
     compared: &mut u32,
 ) -> Ordering
-    requires { (has_owned_name skip list.now at ≡ true) × (compared.old < 131072) }
-    ensures { (result ≡ standing skip list.now owner name.now at) × (compared.new ≡ compared.old + 1) }
+    requires { compared.old < 131072 }
+    ensures { (result ≡ standing SKIP named.entry.list.now owner name.now named.entry.at) × (compared.new ≡ compared.old + 1) }
 {
     *compared += 1;
-    name_sort::stands(list, skip, at, owner, name)
+    name_sort::stands(named, owner, name)
 }
 
-// Whether the record at `at` has that owner and name. The owner is looked at first: a name of another owner is not compared.
-pub fn is_owned(list: &[u8], skip: usize, owner: u32, name: &[u8], at: usize, compared: u32) -> Told
-    requires { (has_owned_name skip list.now at ≡ true) × (compared < 131072) }
-    ensures { result ≡ told skip list.now owner name.now at compared }
-{
-    if names::owner_at(list, skip, at) != owner {
-        return Told {
-            same: false,
-            compared,
-        };
-    }
-    Told {
-        same: record::same(names::name_at(list, skip, at), name),
-        compared: compared + 1,
-    }
-}
-
-// The place of the record of that owner and name, by an index of the list's records; so many names have been compared before.
-pub fn find_from(
-    list: &[u8],
-    skip: usize,
-    index: &[u16],
+// Whether a record has that owner and name. The owner is looked at first: a name of another owner is not compared.
+pub fn is_owned<const SKIP: usize>(
+    named: NamedRecord<'_, SKIP>,
     owner: u32,
     name: &[u8],
-    before: u32,
-) -> Looked
-    requires list_value { first_bad (has_owned_name skip list.now) (places list.now) ≡ None }
-    requires index_of { IndexOf skip list.now index.now × (length index.now < 65536) × (before < 65536) }
-    ensures { result ≡ lookup_from skip list.now index.now owner name.now before }
+    compared: &mut u32,
+) -> bool
+    requires { compared.old < 131072 }
+    ensures { told SKIP named.entry.list.now owner name.now named.entry.at compared.old ≡ (record { same = result; compared = compared.new }) }
 {
-    let mut lo = 0;
-    let mut hi = index.len();
-    let mut compared = before;
-    while lo < hi {
-        let mid = lo + (hi - lo) / 2;
-        let p = usize::from(index[mid]);
-        match stands(list, skip, p, owner, name, &mut compared) {
-            Ordering::Less => lo = mid + 1,
-            Ordering::Equal => {
-                return Looked {
-                    named: Some(p),
-                    compared,
-                    end: mid,
-                };
-            }
-            Ordering::Greater => hi = mid,
-        }
+    if named.owner() == owner {
+        *compared += 1;
+        record::same(named.name(), name)
+    } else {
+        false
     }
-    Looked {
-        named: None,
-        compared,
-        end: lo,
-    }
-}
-
-// The same where none has been compared before.
-#[tactic(auto, unfolding(crate::specs::Index::lookup))]
-pub fn find(list: &[u8], skip: usize, index: &[u16], owner: u32, name: &[u8]) -> Looked
-    requires list_value { first_bad (has_owned_name skip list.now) (places list.now) ≡ None }
-    requires index_of { IndexOf skip list.now index.now × (length index.now < 65536) }
-    ensures { result ≡ lookup skip list.now index.now owner name.now }
-{
-    find_from(list, skip, index, owner, name, 0)
-}
-
-// Whether the record at the index's place `i` has the owner and name of an earlier one: equal ones are neighbours.
-fn repeats(list: &[u8], skip: usize, index: &[u16], i: usize) -> bool
-    requires list_value { first_bad (has_owned_name skip list.now) (places list.now) ≡ None }
-    requires index_of { IndexOf skip list.now index.now × (0 < i) × (i < length index.now) }
-    ensures { owned_first skip list.now (get_or index.now i 0) ≡ not result }
-{
-    let p = usize::from(index[i]);
-    names::is_owned(
-        list,
-        skip,
-        names::owner_at(list, skip, p),
-        names::name_at(list, skip, p),
-        usize::from(index[i - 1]),
-    )
-}
-
-// The first record that shares its owner and name with an earlier one, by an index of the list's records.
-pub fn first_repeat(list: &[u8], skip: usize, index: &[u16]) -> Option<usize>
-    requires list_value { first_bad (has_owned_name skip list.now) (places list.now) ≡ None }
-    requires index_of { IndexOf skip list.now index.now }
-    ensures { result ≡ owned_repeat skip list.now }
-{
-    let mut best = None;
-    for i in 1..index.len() {
-        let p = usize::from(index[i]);
-        if best.is_none_or(|best| p < best) && repeats(list, skip, index, i) {
-            best = Some(p);
-        }
-    }
-    best
 }

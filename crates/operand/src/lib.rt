@@ -5,7 +5,6 @@ ghost use Rattle.std.specs.Prelude.{◌≡◌};
 ghost use Rattle.operand.specs.Held.{slot_in, fp_slot_in, code_in, value_in, constant_in, label_in, offset_in};
 
 use address_label::AddressLabel;
-use cursor::Cursor;
 use record::Location;
 use registers::{FPRegisterSlot, RegisterSlot};
 
@@ -58,14 +57,8 @@ pub enum Operand {
     Absent,
 }
 
-// What a reader answers, and the position behind what it read.
-#[derive(Clone, Copy)]
-pub struct OperandRead {
-    pub answer: Result<Operand, Miss>,
-    pub cursor: Cursor,
-}
-
 // What an operand holds. One that was asked for as something else holds a zero; no reader gives such a one (`held_given`).
+// kept: each of these takes another variant, and one function for all would be handed the `match`, which is all that each of them is.
 pub fn slot_in(operand: Operand) -> RegisterSlot
     ensures { result ≡ slot_in operand }
 {

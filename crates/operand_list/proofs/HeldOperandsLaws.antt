@@ -3,12 +3,12 @@ use Rattle.std.specs.Prelude.{ℕ, ◌≡◌, List, Err, Ok, Result}
 use Rattle.std.proofs.Common.{arith, sym, ap, subst, ◌∙◌}
 use Rattle.lexer.specs.Tokens.{tokens}
 use Rattle.cursor.specs.declared.Cursor.{Cursor}
-use Rattle.cursor.specs.Cursors.{At}
-use Rattle.cursor.specs.Reads.{ReadAs}
+use Rattle.cursor.specs.Cursors.{At, cursor_at}
+use Rattle.cursor.specs.Reads.{Placed, ReadAs, CursorIn, Reads}
+use Rattle.cursor.proofs.ReadsLaws.{read_as}
 use Rattle.operand.specs.declared.Miss.{Miss}
 use Rattle.operand.specs.Answers.{Answer, Got, Missed, Asked, here}
 use Rattle.operand.proofs.HeldLaws.{held_given}
-use Rattle.operands.proofs.OperandsLaws.{read_index}
 use Rattle.operand_list.specs.declared.Wants.{Wants}
 use Rattle.operand_list.specs.declared.Operands.{Operands}
 use Rattle.operand_list.specs.OperandLists.{AskedAll, read_operands, operands_of, operands_answer, given_all}
@@ -34,13 +34,16 @@ all_missed w (Missed n) m e = cc
 module _ (w : Wants) {s : List ℕ} (x : At (Answer (AskedAll w))) {answer : (Result Operands Miss)} {cursor : Cursor} (r : ReadAs s (given_all w x) answer cursor) where
   pub all_given : (o : Operands) → answer ≡ Ok o → x ≡ here (Got (held_values w o)) cursor.index
   all_given o e =
-      ap (λ (a : Answer (AskedAll w)). here a x.index) (all_held w x.answer o (sym e ∙ r.answer_is)) ∙ ap (here (Got (held_values w o))) (sym (read_index r))
+      ap (λ (a : Answer (AskedAll w)). here a x.index) (all_held w x.answer o (sym e ∙ r.answer_is)) ∙ ap (here (Got (held_values w o))) (sym (ap (λ (c : Cursor). c.index) r.cursor_is))
 
   pub none_given : (m : Miss) → answer ≡ Err m → x ≡ here (Missed m) cursor.index
   none_given m e =
-      ap (λ (a : Answer (AskedAll w)). here a x.index) (all_missed w x.answer m (sym e ∙ r.answer_is)) ∙ ap (here (Missed m)) (sym (read_index r))
+      ap (λ (a : Answer (AskedAll w)). here a x.index) (all_missed w x.answer m (sym e ∙ r.answer_is)) ∙ ap (here (Missed m)) (sym (ap (λ (c : Cursor). c.index) r.cursor_is))
 
--- what is read is what was asked for
-pub asked_as : {s : List ℕ} {w v : Wants} {answer : (Result Operands Miss)} {cursor : Cursor} (i : ℕ) → w ≡ v → ReadAs s (given_all w (read_operands w (tokens s) i)) answer cursor
-    → ReadAs s (given_all v (read_operands v (tokens s) i)) answer cursor
-asked_as {s} {answer = answer} {cursor} i e r = subst (λ (u : Wants). ReadAs s (given_all u (read_operands u (tokens s) i)) answer cursor) e r
+-- what is read from a position on is what was asked for
+pub asked_as : {s : List ℕ} {w v : Wants} {before after : CursorIn} {answer : (Result Operands Miss)} {position : Cursor} (i : ℕ) → w ≡ v → before ≡ record { list = s; index = i }
+    → Reads before (given_all w (read_operands w (tokens before.list) before.index)) answer after → (position ≡ cursor_at after.list after.index) × Placed after.list position
+    → ReadAs s (given_all v (read_operands v (tokens s) i)) answer position
+asked_as {s} {w} {v} {before} {after} {answer} {position} i e b r p =
+    subst (λ (c : CursorIn). ReadAs c.list (given_all v (read_operands v (tokens c.list) c.index)) answer position) b
+    (subst (λ (u : Wants). ReadAs before.list (given_all u (read_operands u (tokens before.list) before.index)) answer position) e (read_as r position p))

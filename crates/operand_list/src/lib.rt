@@ -3,12 +3,12 @@
 
 ghost use Rattle.std.specs.Prelude.{◌≡◌};
 ghost use Rattle.lexer.specs.Tokens.{tokens};
-ghost use Rattle.cursor.specs.Reads.{Placed, ReadAs};
+ghost use Rattle.cursor.specs.Reads.{Reads};
 ghost use Rattle.operand.specs.Answers.{given};
 ghost use Rattle.operand_list.specs.OperandLists.{read_operand, read_operands, given_all};
 
-use cursor::Cursor;
-use operand::{Miss, Operand, OperandRead, Want};
+use cursor::LexerCursor;
+use operand::{Miss, Operand, Want};
 
 // What an instruction asks for, left to right.
 #[derive(Clone, Copy)]
@@ -25,64 +25,34 @@ pub struct Operands {
     pub third: Operand,
 }
 
-#[derive(Clone, Copy)]
-pub struct OperandsRead {
-    pub answer: Result<Operands, Miss>,
-    pub cursor: Cursor,
-}
-
 // The next operand, of the kind that is asked for.
-fn read_operand(want: Want, list: &[u8], from: Cursor) -> OperandRead
-    requires { Placed list.now from }
-    ensures { ReadAs list.now (given want (read_operand want (tokens list.now) from.index)) result.answer result.cursor }
+fn read_operand(want: Want, cursor: &mut LexerCursor<'_>) -> Result<Operand, Miss>
+    ensures { Reads cursor.old (given want (read_operand want (tokens cursor.old.list) cursor.old.index)) result cursor.new }
 {
     match want {
-        Want::Register => operands::get_register(list, from),
-        Want::FPRegister => operands::get_fp_register(list, from),
-        Want::Code => operands::get_cc(list, from),
-        Want::Value => operands::get_value(list, from),
-        Want::MaybeValue => operands::maybe_get_value(list, from),
-        Want::Constant => operands::get_constant(list, from),
-        Want::Label => assembler_util::get_label(list, from),
-        Want::OffsetOrLabel => assembler_util::get_offset_or_label(list, from),
-        Want::Nothing => OperandRead {
-            answer: Ok(Operand::Absent),
-            cursor: from,
-        },
+        Want::Register => operands::get_register(cursor),
+        Want::FPRegister => operands::get_fp_register(cursor),
+        Want::Code => operands::get_cc(cursor),
+        Want::Value => operands::get_value(cursor),
+        Want::MaybeValue => operands::maybe_get_value(cursor),
+        Want::Constant => operands::get_constant(cursor),
+        Want::Label => assembler_util::get_label(cursor),
+        Want::OffsetOrLabel => assembler_util::get_offset_or_label(cursor),
+        Want::Nothing => Ok(Operand::Absent),
     }
 }
 
-// The next operand, after which the cursor stands behind what was read.
-fn next_operand(want: Want, list: &[u8], cursor: &mut Cursor) -> Result<Operand, Miss>
-    requires { Placed list.now cursor.old }
-    ensures { ReadAs list.now (given want (read_operand want (tokens list.now) cursor.old.index)) result cursor.new }
+// The operands of a line, in order; the first that is missed ends the reading.
+#[tactic(auto, unfolding(crate::specs::OperandLists::read_operands))]
+pub fn read_operands(wants: Wants, cursor: &mut LexerCursor<'_>) -> Result<Operands, Miss>
+    ensures { Reads cursor.old (given_all wants (read_operands wants (tokens cursor.old.list) cursor.old.index)) result cursor.new }
 {
-    let read = read_operand(want, list, *cursor);
-    *cursor = read.cursor;
-    read.answer
-}
-
-// Up to three operands in order; the first that is missed ends the reading.
-fn next_operands(wants: Wants, list: &[u8], cursor: &mut Cursor) -> Result<Operands, Miss>
-    requires { Placed list.now cursor.old }
-    ensures { ReadAs list.now (given_all wants (read_operands wants (tokens list.now) cursor.old.index)) result cursor.new }
-{
-    let first = next_operand(wants.first, list, &mut *cursor)?;
-    let second = next_operand(wants.second, list, &mut *cursor)?;
-    let third = next_operand(wants.third, list, &mut *cursor)?;
+    let first = read_operand(wants.first, &mut *cursor)?;
+    let second = read_operand(wants.second, &mut *cursor)?;
+    let third = read_operand(wants.third, cursor)?;
     Ok(Operands {
         first,
         second,
         third,
     })
-}
-
-// The operands of a line, and the position behind what was read.
-pub fn read_operands(wants: Wants, list: &[u8], from: Cursor) -> OperandsRead
-    requires { Placed list.now from }
-    ensures { ReadAs list.now (given_all wants (read_operands wants (tokens list.now) from.index)) result.answer result.cursor }
-{
-    let mut cursor = from;
-    let answer = next_operands(wants, list, &mut cursor);
-    OperandsRead { answer, cursor }
 }

@@ -1,2 +1,1 @@
 pub mod OperandsLaws
-pub mod MadeLaws

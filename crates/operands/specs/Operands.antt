@@ -1,5 +1,5 @@
 -- The operand readers (assembler_util.rs) on a decoded token list and an index (document 01, 'Tokens'). Assumes nothing.
-use Rattle.std.specs.Prelude.{ℕ, ◌-◌, ◌%◌, ◌^◌, Bool, true, false, List, ◌==◌, None, Some, Option}
+use Rattle.std.specs.Prelude.{ℕ, ◌-◌, ◌%◌, ◌^◌, Bool, true, false, List, ◌==◌, Err, None, Ok, Option, Result, Some}
 use Rattle.registers.specs.declared.RegisterSlot.{RegisterSlot}
 use Rattle.registers.specs.declared.FPRegisterSlot.{FPRegisterSlot}
 use Rattle.lexer.specs.declared.Token.{Token}
@@ -15,6 +15,15 @@ use Rattle.lexer.specs.Views.{as_register, as_fp_register, as_integer}
 -- the token is of the kind with that number
 abbrev pub is_kind : ℕ → Token → Bool
 is_kind n t = strip t.kind == n
+
+-- "4. The tokens end before an operand does."
+abbrev pub token_due : Option Token → Result Token Miss
+token_due None = Err EndOfFile
+token_due (Some t) = Ok t
+
+unfoldable pub get_token : List Token → ℕ → At (Result Token Miss)
+unfolding next_adjacent
+get_token ts i = here (token_due (next_adjacent ts i).answer) (next_adjacent ts i).index
 
 -- ---- one token: registers and condition codes
 

@@ -3,8 +3,6 @@
 
 ghost use Rattle.std.specs.Prelude.{◌≡◌, ◌+◌, ◌*◌, ◌<◌, ◌≤◌, length};
 ghost use Rattle.record.specs.Records.{places};
-ghost use Rattle.name_index.specs.Index.{IndexOf};
-ghost use Rattle.labels.specs.Labels.{label_layout};
 ghost use Rattle.regions.specs.Regions.{region_layout, region_count, region_place};
 ghost use Rattle.reading.specs.Reading.{image_region, image_of};
 ghost use Rattle.text.specs.Text.{Put};
@@ -14,7 +12,11 @@ ghost use Rattle.page_outcome.specs.Outcome.{layout_verdicts, page_outcome};
 ghost use Rattle.page_labels.specs.Slots.{Shows};
 ghost use Rattle.page_core.specs.Texts.{data_text, region_text};
 
+use labels::LabelTable;
+use name_index::NameIndex;
+use names::Named;
 use refusal::Refusal;
+use regions::Regions;
 
 // "the page buffer, alone allowed up to 1,195,959 bytes"
 pub const LIMIT: usize = 1_195_959;
@@ -57,52 +59,43 @@ fn put_data(
 fn put_region(
     out: &mut [u8],
     at: usize,
-    labels: &[u8],
-    index: &[u16],
+    labels: &LabelTable<'_>,
     regions: &[u8],
     number: usize,
     slots: &mut [u16],
 ) -> usize
-    requires labels_value { (label_layout labels.now ≡ None) × (region_layout regions.now ≡ None) }
-    requires index_of { IndexOf 4 labels.now index.now × (length regions.now ≤ 4 * length slots.old) }
+    requires regions_value { (region_layout regions.now ≡ None) × (length regions.now ≤ 4 * length slots.old) }
     requires number_bound { number < region_count regions.now }
-    requires number_in_bounds { at + length (region_text (label_at labels.now) number (image_region regions.now (region_place regions.now number))) ≤ length out.old }
+    requires number_in_bounds { at + length (region_text (label_at labels.now.list) number (image_region regions.now (region_place regions.now number))) ≤ length out.old }
     ensures { Put out.old at
-        (region_text (label_at labels.now) number (image_region regions.now (region_place regions.now number))) out.new result }
+        (region_text (label_at labels.now.list) number (image_region regions.now (region_place regions.now number))) out.new result }
 {
-    let region = regions::region_at(regions, number);
+    let region = Regions::new(regions).region(number);
     let address = region.address;
     let start = region.start;
     let size = region.size;
-    page_labels::find_shown(labels, index, address, size, &mut *slots);
+    page_labels::find_shown(labels.index(), address, size, &mut *slots);
     let data_at = page_lines::put_number(&mut *out, at, number);
     put_data(
         out,
         data_at,
         address,
         &regions[start..start + size],
-        labels,
+        labels.bytes(),
         slots,
     )
 }
 
 // All regions in turn.
-fn put_page(
-    out: &mut [u8],
-    labels: &[u8],
-    index: &[u16],
-    regions: &[u8],
-    slots: &mut [u16],
-) -> usize
-    requires labels_value { (label_layout labels.now ≡ None) × (region_layout regions.now ≡ None) }
-    requires index_of { IndexOf 4 labels.now index.now × (length regions.now ≤ 4 * length slots.old) }
-    requires regions_in_bounds { length (page_of labels.now regions.now) ≤ length out.old }
-    ensures { Put out.old 0 (page_of labels.now regions.now) out.new result }
+fn put_page(out: &mut [u8], labels: &LabelTable<'_>, regions: &[u8], slots: &mut [u16]) -> usize
+    requires regions_value { (region_layout regions.now ≡ None) × (length regions.now ≤ 4 * length slots.old) }
+    requires regions_in_bounds { length (page_of labels.now.list regions.now) ≤ length out.old }
+    ensures { Put out.old 0 (page_of labels.now.list regions.now) out.new result }
 {
-    let count = regions::region_count(regions);
+    let count = Regions::new(regions).count();
     let mut end = 0;
     for number in 0..count {
-        end = put_region(&mut *out, end, labels, index, regions, number, &mut *slots);
+        end = put_region(&mut *out, end, labels, regions, number, &mut *slots);
     }
     end
 }
@@ -136,19 +129,20 @@ fn lay_out_in(
     labels: &[u8],
     regions: &[u8],
     page: &mut [u8],
-    index: &mut [u16],
+    order: &mut [u16],
     slots: &mut [u16],
 ) -> Result<u32, Refusal>
     requires page_value { layout_verdicts labels.now regions.now (length page.old) ≡ Ok tt }
-    requires labels_in_bounds { (length (places labels.now) ≤ length index.old) × (length (places labels.now) ≤ length slots.old) × (length regions.now ≤ 4 * length slots.old) }
+    requires labels_in_bounds { (length (places labels.now) ≤ length order.old) × (length (places labels.now) ≤ length slots.old) × (length regions.now ≤ 4 * length slots.old) }
     ensures { page_outcome labels.now regions.now page.old ≡ (record { answer = result; page = page.new }) }
 {
-    let n = name_index::make(labels, 4, &mut *index, &mut *slots);
-    refusal::check_names(0, labels::first_repeat(labels, &index[..n]))?;
+    let index = NameIndex::make(Named::new(labels), order, &mut *slots);
+    refusal::check_names(0, index.first_repeat())?;
     if page.len() < 73 * count_lines(regions) {
         return Err(Refusal::NoPageSpace);
     }
-    Ok(put_page(page, labels, &index[..n], regions, slots) as u32)
+    let table = LabelTable::new(index);
+    Ok(put_page(page, &table, regions, slots) as u32)
 }
 
 // Lays the image out and gives the page's length, or refuses and leaves every byte as it was. Short lists have small arrays.
@@ -157,11 +151,11 @@ pub fn lay_out(labels: &[u8], regions: &[u8], page: &mut [u8]) -> Result<u32, Re
 {
     check_layouts(labels, regions, &*page)?;
     if labels.len() + regions.len() <= SHORT {
-        let mut index = [0u16; SHORT / 9];
+        let mut order = [0u16; SHORT / 9];
         let mut slots = [0u16; SHORT / 4];
-        return lay_out_in(labels, regions, page, &mut index, &mut slots);
+        return lay_out_in(labels, regions, page, &mut order, &mut slots);
     }
-    let mut index = [0u16; labels::MOST];
+    let mut order = [0u16; labels::MOST];
     let mut slots = [0u16; page_labels::MOST_WORDS];
-    lay_out_in(labels, regions, page, &mut index, &mut slots)
+    lay_out_in(labels, regions, page, &mut order, &mut slots)
 }

@@ -1,5 +1,5 @@
 -- Every line of a page has 73 bytes, so a page has 73 for each region and each word, part words too, and 1,195,959 at most. Assumes nothing.
-use Rattle.std.specs.Prelude.{ℕ, ◌+◌, ◌-◌, ◌*◌, ◌/◌, ◌≤◌, ◌⊎◌, ◌≡◌, refl, length, None}
+use Rattle.std.specs.Prelude.{ℕ, ◌+◌, ◌-◌, ◌*◌, ◌/◌, ◌≤◌, ◌≡◌, refl, length, None}
 use Rattle.std.proofs.Common.{arith, ⊎_elim, sym, ap, ◌∙◌, length-append, length-take}
 use mathlib.Core.List.Memᴰ
 use mathlib.Core.List.{List, [], ◌∷◌, ◌++◌, map, Memᴰ, flatten}

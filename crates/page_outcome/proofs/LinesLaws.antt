@@ -1,5 +1,5 @@
 -- The lengths of the parts of a page's lines, and a label's columns. Assumes nothing.
-use Rattle.std.specs.Prelude.{ℕ, ◌+◌, ◌-◌, ◌≤◌, ◌<◌, List, ◌++◌, Bool, true, false, ◌≡◌, refl, leb, length, take}
+use Rattle.std.specs.Prelude.{ℕ, ◌-◌, ◌≤◌, ◌<◌, List, ◌++◌, Bool, true, false, ◌≡◌, refl, leb, length, take}
 use Rattle.std.proofs.Common.{arith, ap, length-append, length-take, leb-true, leb-false, le-leb}
 use Rattle.std.proofs.lemmas.List.{length-replicate}
 use Rattle.std.proofs.lemmas.Bool.{lt-leb}

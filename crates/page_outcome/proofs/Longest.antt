@@ -1,5 +1,5 @@
 -- The longest page: one region of 65,528 bytes fills a region list, and its page has 1,195,959 bytes. Assumes nothing.
-use Rattle.std.specs.Prelude.{ℕ, ◌+◌, ◌-◌, true, ◌≡◌, replicate, None}
+use Rattle.std.specs.Prelude.{ℕ, ◌-◌, true, ◌≡◌, replicate, None}
 use Rattle.std.proofs.Common.{arith, ◌∙◌, length-take, length-drop}
 use mathlib.Core.List.{List, [], ◌∷◌, ◌++◌, map}
 use Rattle.std.proofs.Math.Path.{ap}

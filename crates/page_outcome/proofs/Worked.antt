@@ -1,6 +1,6 @@
 -- Pages computed: two regions, one whose pc wraps and that ends in a part word; labels of both kinds at one pc, one inside a word and one at a
 -- region's end, names of 20 and 21 bytes. Accepted at the exact length and with bytes behind it, 18 one byte short of it, 2 before 18. Assumes nothing.
-use Rattle.std.specs.Prelude.{ℕ, ◌+◌, ◌≡◌, refl, replicate, Err, Ok}
+use Rattle.std.specs.Prelude.{ℕ, ◌≡◌, refl, replicate, Err, Ok}
 use mathlib.Core.List.{List, [], ◌∷◌, ◌++◌, flatten}
 use Rattle.pseudo_names.specs.PseudoNames.{bytes_of}
 use Rattle.record.specs.Bytes.{all, same_bytes}

@@ -10,7 +10,6 @@ use Rattle.name_order.specs.Order.{order}
 use Rattle.reading.specs.Reading.{Image, image_of}
 use Rattle.reading.specs.Rows.{Row, rows}
 use Rattle.text.specs.Text.{word_text}
-use mathlib.Core.List.Memᴰ
 use Rattle.std.specs.declared.cmp.Ordering.TheVariants.{Less, Equal, Greater}
 
 -- ---- lines

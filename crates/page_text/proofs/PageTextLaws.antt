@@ -41,13 +41,6 @@ unfolding append
 text_by_lem (Ok tt) text page = take-append_seam text _
 text_by_lem (Err r) text page = refl
 
--- a text put into the first bytes of a space
-append_part : (space text : List ℕ) (room : ℕ) → length text ≤ length (take room space) → append (take room space) 0 text ++ drop room space ≡ append space 0 text
-unfolding append
-append_part space text room h =
-    append_assoc text (drop (0 + length text) (take room space)) (drop room space)
-    ∙ ap (λ (l : List ℕ). text ++ l) (sym (drop-append-le (0 + length text) (take room space) (drop room space) (omega arith)) ∙ ap (drop (0 + length text)) (take-append-drop room space))
-
 -- a refusal of the page, behind which nothing is looked at
 stopped : (a b : Verdict) (r : Refusal) (x y : Verdict) → and_then (and_then a (and_then b (Err r))) x ≡ and_then (and_then a (and_then b (Err r))) y
 stopped (Ok _) (Ok _) r x y = refl
@@ -90,7 +83,7 @@ module _ (labels regions : List ℕ) where
       go true f = let h = leb-true n page_limit f in ap (page_verdict labels regions) (omega (arith, t, u))
       go false f = let h = leb-false n page_limit f in over_limit (length (take room space)) (length (replicate {A = ℕ} n 0)) (omega (arith, t)) (omega (arith, u))
 
-  -- ---- a page put into the first bytes of a space
+  -- ---- a page that is laid out is within its buffer
   pass_room : (size : ℕ) → page_verdict labels regions size ≡ Ok tt → length (page_of labels regions) ≤ size
   unfolding page_verdict
   pass_room size e = go (leb (length (page_of labels regions)) size) refl (both_pass (name_verdict 0 (label_repeat labels)) _ (both_pass (layout_verdicts labels regions size) _ e).1).1
@@ -102,38 +95,16 @@ module _ (labels regions : List ℕ) where
           let z : ◌≡◌ {A = ℕ} 0 1 = cc in
           absurd (omega arith)
 
-  pub page_put : (space part : List ℕ) (room n : ℕ) → room ≤ length space
-      → page_outcome labels regions (take room space) ≡ (record { answer = Ok n; page = part })
-      → Put space 0 (outcome_text (page_outcome labels regions (take room space))) (part ++ drop room space) n
+  pub page_within : (page part : List ℕ) (n : ℕ) → page_outcome labels regions page ≡ (record { answer = Ok n; page = part }) → n ≤ length page
   unfolding page_outcome
-  page_put space part room n h e = go (page_verdict labels regions (length (take room space))) refl e
+  page_within page part n e = go (page_verdict labels regions (length page)) refl e
     where
-      go : (v : Verdict) → page_verdict labels regions (length (take room space)) ≡ v → outcome_by v (page_of labels regions) (take room space) ≡ (record { answer = Ok n; page = part })
-          → Put space 0 (outcome_text (outcome_by v (page_of labels regions) (take room space))) (part ++ drop room space) n
+      go : (v : Verdict) → page_verdict labels regions (length page) ≡ v → outcome_by v (page_of labels regions) page ≡ (record { answer = Ok n; page = part }) → n ≤ length page
       go (Ok tt) f g =
-          let l = pass_room (length (take room space)) f in
           let q = ap (λ (o : PageOutcome). o.answer) g in
           let a : length (page_of labels regions) ≡ n = cc q in
-          let b = ap (λ (o : PageOutcome). o.page) g in
-          rw (text_by_lem (Ok tt) (page_of labels regions) (take room space))
-          (record {
-            fits = omega (arith, l, length-take room space);
-            ends = omega arith;
-            bytes = ap (λ (q : List ℕ). q ++ drop room space) (sym b) ∙ append_part space (page_of labels regions) room l;
-          })
+          omega (arith, pass_room (length page) f)
       go (Err r) f g =
           let q = ap (λ (o : PageOutcome). o.answer) g in
           let z : ◌≡◌ {A = ℕ} 0 1 = cc q in
           absurd (omega arith)
-
-  pub page_refused : (space part : List ℕ) (room : ℕ) (r : Refusal) → page_outcome labels regions (take room space) ≡ (record { answer = Err r; page = part })
-      → (part ++ drop room space ≡ space) × (outcome_text (page_outcome labels regions (take room space)) ≡ refused_line (numbered r))
-  unfolding page_outcome
-  page_refused space part room r e = (go (page_verdict labels regions (length (take room space))) e, ap outcome_text e)
-    where
-      go : (v : Verdict) → outcome_by v (page_of labels regions) (take room space) ≡ (record { answer = Err r; page = part }) → part ++ drop room space ≡ space
-      go (Ok tt) g =
-          let q = ap (λ (o : PageOutcome). o.answer) g in
-          let z : ◌≡◌ {A = ℕ} 0 1 = cc q in
-          absurd (omega arith)
-      go (Err s) g = ap (λ (l : List ℕ). l ++ drop room space) (sym (ap (λ (o : PageOutcome). o.page) g)) ∙ take-append-drop room space

@@ -3,7 +3,6 @@
 
 ghost use Rattle.std.specs.Prelude.{◌≡◌, ◌+◌, ◌^◌, ◌<◌, ◌≤◌, ◌&&◌, length, nat_le};
 ghost use Rattle.labels.specs.Labels.{table_of};
-ghost use Rattle.labels.specs.Lookup.{Indexed};
 ghost use Rattle.jobs.specs.Jobs.{most_back, most_ahead};
 ghost use Rattle.patch.specs.Patches.{destination, plus_offset, name_end, in_range, patched_word, name_location, address_or, patch_stop, write_word};
 ghost use Rattle.patch.specs.Placed.{label_place, placed_destination};
@@ -11,16 +10,16 @@ ghost use Rattle.patch.specs.Placed.{Placed};
 
 use address_label::AddressLabel;
 use jobs::Job;
+use labels::LabelTable;
 use pending::{InstructionLabelKind, Pending};
 use record::Location;
 use refusal::Refusal;
 use regions::Region;
 
 // The destination of a constant, or of a name that stands in `list`.
-pub fn get_address(label: AddressLabel, list: &[u8], labels: &[u8], index: &[u16]) -> Option<u32>
-    requires indexed { Indexed labels.now index.now }
-    requires label_in_bounds { name_end label ≤ length list.now }
-    ensures { result ≡ destination (table_of labels.now) list.now label }
+pub fn get_address(label: AddressLabel, list: &[u8], labels: &LabelTable<'_>) -> Option<u32>
+    requires { name_end label ≤ length list.now }
+    ensures { result ≡ destination (table_of labels.now.list) list.now label }
 {
     match label {
         AddressLabel::Constant(value) => Some((value % 0x1_0000_0000) as u32),
@@ -28,29 +27,24 @@ pub fn get_address(label: AddressLabel, list: &[u8], labels: &[u8], index: &[u16
             let at = name.name_at;
             let end = at + name.name_len;
             let offset = (name.offset % 0x1_0000_0000) as u32;
-            let found = labels::get(labels, index, name.location.source, &list[at..end]);
+            let found = labels.get(name.location.source, &list[at..end]);
             plus_offset(found.address, offset)
         }
     }
 }
 
 // The place of the label that a name in `list` stands for.
-pub fn label_place(label: AddressLabel, list: &[u8], labels: &[u8], index: &[u16]) -> u16
-    requires indexed { Indexed labels.now index.now }
-    requires label_in_bounds { name_end label ≤ length list.now }
-    ensures { result ≡ label_place labels.now list.now label }
+pub fn label_place(label: AddressLabel, list: &[u8], labels: &LabelTable<'_>) -> u16
+    requires { name_end label ≤ length list.now }
+    ensures { result ≡ label_place labels.now.list list.now label }
 {
     match label {
         AddressLabel::Constant(_) => NO_PLACE,
         AddressLabel::Label(name) => {
             let at = name.name_at;
             let end = at + name.name_len;
-            let looked = labels::look_up(labels, index, name.location.source, &list[at..end]);
-            // kept: the cast is proved by what the match says of the place, which a closure would not know
-            match looked.named {
-                Some(place) => place as u16,
-                None => NO_PLACE,
-            }
+            let found = labels.find(name.location.source, &list[at..end]);
+            found.map_or(NO_PLACE, |place| place as u16)
         }
     }
 }

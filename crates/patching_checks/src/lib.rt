@@ -9,24 +9,11 @@ ghost use Rattle.breakpoints.specs.Breakpoints.{filled_layout};
 ghost use Rattle.binary_builder.specs.Steps.{PendingList, most_pendings};
 ghost use Rattle.patching_outcome.specs.Patching.{has_patched};
 
-// Whether the buffer is within the limit and the fill count within the buffer.
-fn filled(buffer: &[u8], fill: usize) -> Option<usize>
-    ensures { result ≡ filled_layout fill buffer.now None }
-{
-    if buffer.len() > record::LIMIT {
-        return Some(record::LIMIT);
-    }
-    if fill > buffer.len() {
-        return Some(buffer.len());
-    }
-    None
-}
-
 // The layout of the first `fill` bytes as a list of regions.
 pub fn check_regions(buffer: &[u8], fill: usize) -> Option<usize>
     ensures { result ≡ filled_layout fill buffer.now (region_layout (take fill buffer.now)) }
 {
-    filled(buffer, fill).or_else(|| regions::first_bad_region(&buffer[..fill]))
+    breakpoints::filled(buffer, fill).or_else(|| regions::first_bad_region(&buffer[..fill]))
 }
 
 // How many pendings a list has.
@@ -54,7 +41,7 @@ pub fn check_pendings(buffer: &[u8], fill: usize, regions: usize, patches: usize
     ensures { result ≡ filled_layout fill buffer.now
         (has_patched patches (take fill buffer.now) (pending_layout regions (take fill buffer.now))) }
 {
-    filled(buffer, fill).or_else(|| check_patched(&buffer[..fill], regions, patches))
+    breakpoints::filled(buffer, fill).or_else(|| check_patched(&buffer[..fill], regions, patches))
 }
 
 // Whether there are four bytes for each pending.
@@ -62,5 +49,5 @@ pub fn check_kept(kept: &[u8], pending: &[u8]) -> Option<usize>
     requires { PendingList pending.now }
     ensures { result ≡ filled_layout (4 * length (places pending.now)) kept.now None }
 {
-    filled(kept, 4 * count_pendings(pending))
+    breakpoints::filled(kept, 4 * count_pendings(pending))
 }

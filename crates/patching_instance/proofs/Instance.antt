@@ -1,6 +1,6 @@
 -- Two scripts computed: two regions, overlapping patches, a line between the steps; the first is refused and gives all back, the second ends.
 -- Assumes nothing.
-use Rattle.std.specs.Prelude.{ℕ, ◌≡◌, refl, List, [], ◌∷◌, ◌++◌}
+use Rattle.std.specs.Prelude.{ℕ, ◌≡◌, refl, List, [], ◌∷◌, ◌++◌, Err, Ok}
 use Rattle.field.specs.Field.{set_field}
 use Rattle.jobs.specs.declared.Job.TheVariants.{Commit}
 use Rattle.record.specs.Bytes.{all, same_bytes}
@@ -36,9 +36,9 @@ use Rattle.emit_outcome.specs.Dispatch.{meaning}
 use Rattle.emit_outcome.specs.Checks.{layout_stop, list_stop}
 use Rattle.emit_outcome.specs.Room.{edge_stop, room_stop}
 use Rattle.emit_outcome.specs.Emit.{line_outcome as emit_line, emit_outcome}
-use Rattle.emit_outcome.specs.declared.EmitAnswer.TheVariants.{Done, Refused as LineRefused}
+use Rattle.emit_outcome.specs.Answer.{done_at, refused_at}
 use Rattle.example_lists.specs.Lists.{zeros}
-use Rattle.patching_outcome.specs.declared.StepAnswer.TheVariants.{Patched, Ended, Refused}
+use Rattle.patching_outcome.specs.declared.Progress.TheVariants.{Patched, Ended}
 use Rattle.patching_outcome.specs.Patching.{Patching, regions_of, regions_layout, pendings_layout, kept_layout}
 use Rattle.patching_outcome.specs.Step.{step_layouts, step_checks, put_back, step_outcome}
 use Rattle.patching_outcome.specs.Grown.{grown}
@@ -111,17 +111,17 @@ good = record {
 }
 
 pub record Computed : Type 0 where
-  pub steps_1 : (step_outcome Commit labels [] start).answer ≡ Patched 1
+  pub steps_1 : (step_outcome Commit labels [] start).answer ≡ Ok (Patched 1)
   pub steps_2 : regions_of (after two) ≡ record_bytes 35 (le32_bytes 0x00400000 ++ le32_bytes 0x11223344) ++ second
   pub kept_2 : (after two).kept ≡ le32_bytes 0x10000000 ++ le32_bytes 0x1000ffff ++ zeros 8
-  pub line_done : (line_outcome Commit (b 0) (after two)).answer ≡ Done 1 Unloaded
+  pub line_done : (line_outcome Commit (b 0) (after two)).answer ≡ done_at 1 Unloaded
   pub steps_3 : regions_of (after three) ≡ record_bytes 35 (le32_bytes 0x00400000 ++ le32_bytes 0x11223344 ++ le32_bytes 0x1000fffe) ++ second
-  pub refuses : (step_outcome Commit labels [] (after three)).answer ≡ Refused (PatchPastEnd (place 90))
+  pub refuses : (step_outcome Commit labels [] (after three)).answer ≡ Err (PatchPastEnd (place 90))
   pub given_back : (after (three ++ Step ∷ [])).regions ≡ record_bytes 35 (le32_bytes 0x00400000 ++ le32_bytes 0x10000000 ++ le32_bytes 0x10000000) ++ second ++ (204 ∷ 205 ∷ 206 ∷ 207 ∷ [])
-  pub again : (step_outcome Commit labels [] (after (three ++ Step ∷ []))).answer ≡ Refused (PatchPastEnd (place 90))
-  pub late : (line_outcome Commit (b 1) (after (three ++ Step ∷ []))).answer ≡ LineRefused (LateLine (place 30)) 1
-  pub ends : (step_outcome Commit labels [] (run Commit labels [] three good)).answer ≡ Ended 0x00400000
-  pub late_then : (line_outcome Commit (b 1) (run Commit labels [] (three ++ Step ∷ []) good)).answer ≡ LineRefused (LateLine (place 30)) 1
+  pub again : (step_outcome Commit labels [] (after (three ++ Step ∷ []))).answer ≡ Err (PatchPastEnd (place 90))
+  pub late : (line_outcome Commit (b 1) (after (three ++ Step ∷ []))).answer ≡ refused_at (LateLine (place 30)) 1
+  pub ends : (step_outcome Commit labels [] (run Commit labels [] three good)).answer ≡ Ok (Ended 0x00400000)
+  pub late_then : (line_outcome Commit (b 1) (run Commit labels [] (three ++ Step ∷ []) good)).answer ≡ refused_at (LateLine (place 30)) 1
 
 pub computed : Computed
 unfolding run step_outcome step_checks step_layouts regions_layout pendings_layout kept_layout put_back grown listed_layout line_layouts line_outcome set_field label_ok label_layout resolve region_ok region_records region_layout entry_ok entry_layout pending_layout kind_from destination field_width field_value branch_in_range jump_in_range in_range reach_verdict pending_verdict write_pending keep order_from first_stop emit_outcome emit_line list_stop layout_stop room_stop edge_stop meaning word_bytes pendings_bytes pcs_bytes append pseudo_in pseudo_line load_pairs label_pairs breakpoint_ok filled_layout pending_buffer_layout breakpoint_buffer_layout data_buffer_layout descriptor_layout mnemonic_ok one_mnemonic mnemonic_layout mnemonic_name read_operand read_operands symbol_label to_label get_label get_register signed get_integer get_constant passed peek step next_adjacent peek_adjacent pending_ok address_label_ok payload_of payload_ok token_ok token_layout tokens is_small form_of load_words first_where first_later places_f places_from places first_bad first_bad_of within_limit all same_bytes

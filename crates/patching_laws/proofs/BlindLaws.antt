@@ -16,8 +16,7 @@ use Rattle.descriptors.specs.Mnemonics.{mnemonic_layout, mnemonic_name, mnemonic
 use Rattle.descriptors.specs.Descriptors.{descriptor_layout, descriptor_repeat}
 use Rattle.breakpoints.specs.Breakpoints.{region_number_ok, filled_layout, data_buffer_layout, pending_buffer_layout, breakpoint_buffer_layout}
 use Rattle.breakpoints.proofs.BreakpointsLaws.{data_good}
-use Rattle.emit_dispatch.specs.declared.LineAnswer.{LineAnswer}
-use Rattle.emit_dispatch.specs.declared.LineAnswer.TheVariants.{Made, Missed, OutOfRange}
+use Rattle.emit_dispatch.specs.LineAnswers.{LineAnswer, Made, Missed, OutOfRange}
 use Rattle.emit_dispatch.specs.Lines.{Line, pseudo_line}
 use Rattle.emit_pairs.specs.declared.InstructionPair.{InstructionPair}
 use Rattle.emit_bytes.specs.Appended.{word_bytes}
@@ -30,7 +29,7 @@ use Rattle.emit_outcome.specs.Checks.{layout_stop, list_stop}
 use Rattle.emit_outcome.specs.Dispatch.{meaning, table_line}
 use Rattle.emit_outcome.specs.Room.{region_stop, edge_stop, space_stop, most_data, new_pending, new_breakpoint, room_stop}
 use Rattle.emit_outcome.specs.Emit.{answer_stop, line_stop, accept_or, line_outcome, start_of, call_line, meaning_outcome, list_outcome, emit_outcome}
-use Rattle.emit_outcome.specs.declared.EmitAnswer.TheVariants.{Done}
+use Rattle.emit_outcome.specs.Answer.{done_at}
 use Rattle.emit_outcome.specs.declared.Meaning.{Meaning}
 use Rattle.emit_outcome.specs.declared.Meaning.TheVariants.{Table, Builtin, Neither}
 use Rattle.finished_words.specs.Listed.{Bytes}
@@ -205,5 +204,5 @@ module _ (job : Job) (c : Call) where
     done_of : CallDone (emit_outcome job c)
     done_of = subst CallDone (sym outcome_with) accept_done
 
-  pub call_done : (position : ℕ) (loaded : LoadForm) → Bytes c.token_list → Bytes c.mnemonic → (emit_outcome job c).answer ≡ Done position loaded → CallDone (emit_outcome job c)
+  pub call_done : (position : ℕ) (loaded : LoadForm) → Bytes c.token_list → Bytes c.mnemonic → (emit_outcome job c).answer ≡ done_at position loaded → CallDone (emit_outcome job c)
   call_done position loaded tokens mnemonic e = done_of (accepted job c position loaded tokens e) mnemonic

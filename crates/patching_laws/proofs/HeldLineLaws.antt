@@ -27,7 +27,7 @@ use Rattle.record_growth.proofs.ChainLaws.{Grows}
 use Rattle.record_growth.proofs.PutLaws.{put_length}
 use Rattle.emit_outcome.specs.Call.{Call, EmitOutcome, call_of, lent_of}
 use Rattle.emit_outcome.specs.Emit.{emit_outcome}
-use Rattle.emit_outcome.specs.declared.EmitAnswer.TheVariants.{Done}
+use Rattle.emit_outcome.specs.Answer.{done_at}
 use Rattle.finished_words.specs.Listed.{Bytes}
 use Rattle.loading.specs.declared.LoadForm.{LoadForm}
 use Rattle.routine.specs.CallValues.{call_pairs}
@@ -153,7 +153,7 @@ module _ (job : Job) (labels : Table) (entry : List ℕ) (of : Job) (g : LineGiv
       ∙ ap₂ (λ (m : ℕ) (s : List ℕ). m + length (take 20 s)) e rest_same
       ∙ sym (length-append (part b.regions g'.start g'.size) (take 20 (drop b.counts.regions b.regions)))
 
-  answers_b : (emit_outcome of (emit_call g b)).answer ≡ Done position loaded
+  answers_b : (emit_outcome of (emit_call g b)).answer ≡ done_at position loaded
   answers_b = sym (ap (λ (c : Call). (emit_outcome of c).answer) calls ∙ emit_blind on other same_room of) ∙ d.answers
 
   -- 1. it is accepted

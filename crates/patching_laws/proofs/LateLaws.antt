@@ -14,8 +14,7 @@ use Rattle.lexer.specs.Tokens.{token_layout, tokens}
 use Rattle.descriptors.specs.Mnemonics.{mnemonic_layout, mnemonic_name, mnemonic_location}
 use Rattle.descriptors.specs.Descriptors.{descriptor_layout, descriptor_repeat}
 use Rattle.breakpoints.specs.Breakpoints.{data_buffer_layout, pending_buffer_layout}
-use Rattle.emit_dispatch.specs.declared.LineAnswer.{LineAnswer}
-use Rattle.emit_dispatch.specs.declared.LineAnswer.TheVariants.{Made, Missed, OutOfRange}
+use Rattle.emit_dispatch.specs.LineAnswers.{LineAnswer, Made, Missed, OutOfRange}
 use Rattle.emit_dispatch.specs.Lines.{Line, pseudo_line}
 use Rattle.emit_pairs.specs.declared.Fault.{Fault}
 use Rattle.emit_pairs.specs.declared.Fault.TheVariants.{Immediate, ShiftAmount, ConditionCode, Dropped}
@@ -28,8 +27,7 @@ use Rattle.emit_outcome.specs.declared.LineNumbers.{LineNumbers}
 use Rattle.emit_outcome.specs.Checks.{layout_stop, list_stop}
 use Rattle.emit_outcome.specs.Dispatch.{meaning, table_line}
 use Rattle.emit_outcome.specs.Emit.{answer_stop, accept_or, line_outcome as emit_line, start_of, call_line, meaning_outcome, list_outcome, emit_outcome}
-use Rattle.emit_outcome.specs.declared.EmitAnswer.{EmitAnswer}
-use Rattle.emit_outcome.specs.declared.EmitAnswer.TheVariants.{Done, Refused}
+use Rattle.emit_outcome.specs.Answer.{EmitAnswer, done_at, refused_at}
 use Rattle.emit_outcome.specs.declared.Meaning.{Meaning}
 use Rattle.emit_outcome.specs.declared.Meaning.TheVariants.{Table, Builtin, Neither}
 use Rattle.loading.specs.declared.LoadForm.{LoadForm}
@@ -107,9 +105,9 @@ module _ (job : Job) (g : LineGiven) (p : Patching) (pass : line_layouts g p ≡
   unfolding room_stop
   made_late made = by (room_stop g.token_list line on.numbers on.lent made.pairs) (room_room g.token_list line on.numbers on.lent made.pairs selected)
     where
-      by : (v : Verdict) → OfRoom v → ◌≡◌ {A = EmitAnswer} (Refused (LateLine line) made.index) (instead line (accept_or g.token_list line on.numbers on.lent made v).answer)
+      by : (v : Verdict) → OfRoom v → ◌≡◌ {A = EmitAnswer} (refused_at (LateLine line) made.index) (instead line (accept_or g.token_list line on.numbers on.lent made v).answer)
       by (Ok tt) e = refl
-      by (Err r) e = ap (λ (b : Bool). Refused (elim b [ true ↦ LateLine line | false ↦ r ]) made.index) (sym e)
+      by (Err r) e = ap (λ (b : Bool). refused_at (elim b [ true ↦ LateLine line | false ↦ r ]) made.index) (sym e)
 
   line_instead : (made : Line) → late_answer (call_line (none_call g p) made).answer ≡ instead line (call_line (emit_call g p) made).answer
   unfolding emit_line
@@ -152,12 +150,12 @@ module _ (job : Job) (g : LineGiven) (p : Patching) (pass : line_layouts g p ≡
       ∙ by_meaning m ∙ sym (ap (λ (v : Verdict). instead line (list_outcome job (emit_call g p) v).answer) s))
 
   -- one that would be accepted
-  pub late_instead : (position : ℕ) (loaded : LoadForm) → (emit_outcome job (emit_call g p)).answer ≡ Done position loaded → is_late p g.region ≡ true
-      → line_outcome job g p ≡ (record { answer = Refused (LateLine (mnemonic_location g.mnemonic)) position; after = p })
+  pub late_instead : (position : ℕ) (loaded : LoadForm) → (emit_outcome job (emit_call g p)).answer ≡ done_at position loaded → is_late p g.region ≡ true
+      → line_outcome job g p ≡ (record { answer = refused_at (LateLine (mnemonic_location g.mnemonic)) position; after = p })
   unfolding emit_outcome
   late_instead position loaded e l = by (call_stop on) refl e
     where
-      by : (v : Verdict) → call_stop (emit_call g p) ≡ v → (list_outcome job (emit_call g p) v).answer ≡ Done position loaded
-          → line_outcome job g p ≡ (record { answer = Refused (LateLine (mnemonic_location g.mnemonic)) position; after = p })
+      by : (v : Verdict) → call_stop (emit_call g p) ≡ v → (list_outcome job (emit_call g p) v).answer ≡ done_at position loaded
+          → line_outcome job g p ≡ (record { answer = refused_at (LateLine (mnemonic_location g.mnemonic)) position; after = p })
       by (Err r) s x = let z : ◌≡◌ {A = ℕ} 0 1 = cc in absurd (omega arith)
       by (Ok tt) s x = late_answer_lem s l ∙ ap (λ (a : EmitAnswer). record { answer = instead line a; after = p }) e

@@ -12,15 +12,12 @@ use Rattle.refusal.specs.declared.Refusal.{Refusal}
 use Rattle.labels.specs.Labels.{Table}
 use Rattle.build_outcome.specs.Build.{patch_verdict, patches_verdict, write_patches, build_verdict, BuildOutcome, build_outcome}
 use Rattle.build_outcome.proofs.BuildLaws.{all_pass, outcome_accepted, outcome_refused}
-use Rattle.emit_outcome.specs.declared.EmitAnswer.{EmitAnswer}
-use Rattle.emit_outcome.specs.declared.EmitAnswer.TheVariants.{Done}
-use Rattle.emit_outcome.specs.declared.EmitAnswer.TheVariants.{Refused as LineRefused}
+use Rattle.emit_outcome.specs.Answer.{EmitAnswer, refused_at}
 use Rattle.finished_words.specs.Listed.{Bytes}
 use Rattle.loading.specs.declared.LoadForm.{LoadForm}
-use Rattle.patching_outcome.specs.declared.StepAnswer.{StepAnswer}
-use Rattle.patching_outcome.specs.declared.StepAnswer.TheVariants.{Patched, Ended, Refused}
+use Rattle.patching_outcome.specs.declared.Progress.TheVariants.{Patched, Ended}
 use Rattle.patching_outcome.specs.Patching.{Patching, regions_of, pendings_of, order_of}
-use Rattle.patching_outcome.specs.Step.{step_checks, StepOutcome, next_by, running_step, stopped_step, step_by, step_outcome, now_at}
+use Rattle.patching_outcome.specs.Step.{StepAnswer, step_checks, StepOutcome, next_by, running_step, stopped_step, step_by, step_outcome, now_at}
 use Rattle.patching_outcome.specs.Line.{LineGiven, is_late, LineOutcome, lined, line_outcome}
 use Rattle.patching_laws.specs.Script.{Turn, Step, Line, turn, run, if_done, accepted_turn, accepted_lines, lines_first}
 use Rattle.patching_laws.specs.Claims.{Start, OfBytes, AllOfBytes, JoinsEnd, JoinsAfter, SameAnswers, ImageIs, ImageAfter, AcceptedFirst, OneMore, patched_by, patched_turn, patched_steps, Counted, AllFinish, AsRequested}
@@ -71,7 +68,7 @@ module _ (job : Job) (labels : Table) (entry : List ℕ) where
           let p = checks_passed job labels entry q s c in
           subst (λ (x : Patching). Open q x) e (passes (fresh_held job labels entry q s p.good p.pendings_good) p.opened (running s.running))
 
-  shut_step : (q : Patching) (r : Refusal) → step_checks labels entry q ≡ Err r → step_outcome job labels entry q ≡ (record { answer = Refused r; after = q })
+  shut_step : (q : Patching) (r : Refusal) → step_checks labels entry q ≡ Err r → step_outcome job labels entry q ≡ (record { answer = Err r; after = q })
   unfolding step_outcome
   shut_step q r c = ap (step_by job labels (the_entry job labels entry) q) c
 
@@ -100,7 +97,7 @@ module _ (job : Job) (labels : Table) (entry : List ℕ) where
   unfolding run accepted_lines
   line_turn of g tokens mnemonic q b i = by (line_outcome of g q).answer refl
     where
-      no_line : (r : Refusal) (position : ℕ) → (line_outcome of g q).answer ≡ LineRefused r position → Lines of g q b
+      no_line : (r : Refusal) (position : ℕ) → (line_outcome of g q).answer ≡ refused_at r position → Lines of g q b
       no_line r position e =
           let none : accepted_turn job labels entry (Line of g) q ≡ [] = ap (λ (a : EmitAnswer). if_done job labels entry a (Line of g)) e in
           record {
@@ -136,8 +133,8 @@ module _ (job : Job) (labels : Table) (entry : List ℕ) where
           (going (held_line job labels entry of g tokens mnemonic q b h position loaded d) o (running (timely_state q g.region d.timely)))
 
       by : (a : EmitAnswer) → (line_outcome of g q).answer ≡ a → Lines of g q b
-      by (LineRefused r position) e = no_line r position e
-      by (Done position loaded) e = done position loaded (line_done of g q tokens mnemonic position loaded e) i
+      by (Err k) e = no_line k.refusal k.position e
+      by (Ok d) e = done d.position d.loaded (line_done of g q tokens mnemonic d.position d.loaded e) i
 
   -- ---- a script
 
@@ -226,10 +223,10 @@ module _ (job : Job) (labels : Table) (entry : List ℕ) where
       ∙ ap (λ (t : Bool).
       elim t [
         | true ↦ next_by labels p at (patch_verdict job labels (regions_of p) (pendings_of p) at)
-        | false ↦ record { answer = Ended (the_entry job labels entry); after = record { regions = p.regions; pending = p.pending; breakpoints = p.breakpoints; kept = p.kept; counts = now_at p.counts p.counts.patches 1 } }
+        | false ↦ record { answer = Ok (Ended (the_entry job labels entry)); after = record { regions = p.regions; pending = p.pending; breakpoints = p.breakpoints; kept = p.kept; counts = now_at p.counts p.counts.patches 1 } }
       ]) (lt-ltb p.counts.patches (length (order_of p)) l)
 
-  next_more : (p : Patching) (at n : ℕ) (v : Verdict) → (next_by labels p at v).answer ≡ Patched n → (n ≡ p.counts.patches + 1) × ((next_by labels p at v).after.counts.patches ≡ n)
+  next_more : (p : Patching) (at n : ℕ) (v : Verdict) → (next_by labels p at v).answer ≡ Ok (Patched n) → (n ≡ p.counts.patches + 1) × ((next_by labels p at v).after.counts.patches ≡ n)
   next_more p at n (Ok tt) e = let z : p.counts.patches + 1 ≡ n = cc in (sym z, z)
   next_more p at n (Err r) e = let z : ◌≡◌ {A = ℕ} 0 1 = cc in absurd (omega arith)
 
@@ -237,7 +234,7 @@ module _ (job : Job) (labels : Table) (entry : List ℕ) where
   one_more p c s l n e =
       let at = get_or (order_of p) p.counts.patches 0 in
       let v = patch_verdict job labels (regions_of p) (pendings_of p) at in
-      subst (λ (o : StepOutcome). o.answer ≡ Patched n → (n ≡ p.counts.patches + 1) × (o.after.counts.patches ≡ n)) (sym (step_next p c s l)) (next_more p at n v) e
+      subst (λ (o : StepOutcome). o.answer ≡ Ok (Patched n) → (n ≡ p.counts.patches + 1) × (o.after.counts.patches ≡ n)) (sym (step_next p c s l)) (next_more p at n v) e
 
   outcome_is : (o : BuildOutcome) (a : Result ℕ Refusal) (d : List ℕ) → o.answer ≡ a → o.regions ≡ d → o ≡ (record { answer = a; regions = d })
   outcome_is o a d e f = λ i. record { answer = e i; regions = f i }
@@ -247,7 +244,7 @@ module _ (job : Job) (labels : Table) (entry : List ℕ) where
     abbrev built : BuildOutcome
     built = build_outcome job labels entry (regions_of b) (pendings_of b)
 
-    ended_by : (a : ℕ) → Open q b → (step_outcome job labels entry q).answer ≡ Ended a → build_outcome job labels entry (regions_of b) (pendings_of b) ≡ (record { answer = Ok a; regions = regions_of q })
+    ended_by : (a : ℕ) → Open q b → (step_outcome job labels entry q).answer ≡ Ok (Ended a) → build_outcome job labels entry (regions_of b) (pendings_of b) ≡ (record { answer = Ok a; regions = regions_of q })
     ended_by a (shut r c e s) x = let y = ap (λ (o : StepOutcome). o.answer) (shut_step q r c) in let z : ◌≡◌ {A = ℕ} 0 1 = cc in absurd (omega arith)
     ended_by a (passes h o m) x = said t.says
       where
@@ -269,7 +266,7 @@ module _ (job : Job) (labels : Table) (entry : List ℕ) where
             image_is job labels entry w b t.held ∙ ap (λ (ps : List ℕ). write_patches labels (regions_of b) (pendings_of b) ps (regions_of b)) (done_same job labels entry w b t.held ∙ all) in
             outcome_is built (Ok a) (regions_of q) (u.0 ∙ ap Ok z) (u.1 ∙ sym image ∙ there)
 
-    refused_by : (r : Refusal) → Open q b → (step_outcome job labels entry q).answer ≡ Refused r
+    refused_by : (r : Refusal) → Open q b → (step_outcome job labels entry q).answer ≡ Err r
         → build_outcome job labels entry (regions_of b) (pendings_of b) ≡ (record { answer = Err r; regions = regions_of (step_outcome job labels entry q).after })
     unfolding write_patches
     refused_by r (shut s c e start) x =
@@ -312,14 +309,14 @@ module _ (job : Job) (labels : Table) (entry : List ℕ) where
   shut_turn r (Line of g) bytes q s = by (line_outcome of g q).answer refl
     where
       by : (a : EmitAnswer) → (line_outcome of g q).answer ≡ a → Shut r (line_outcome of g q).after
-      by (LineRefused k position) e = subst (Shut r) (sym (line_refused of g q k position e)) s
-      by (Done position loaded) e =
-          let d = line_done of g q bytes.0 bytes.1 position loaded e in
+      by (Err k) e = subst (Shut r) (sym (line_refused of g q k.refusal k.position e)) s
+      by (Ok done) e =
+          let d = line_done of g q bytes.0 bytes.1 done.position done.loaded e in
           let l = line_lists g q d.lists_pass in
           let now = fresh_held job labels entry q s.start l.regions_listed.good l.pendings_good.good in
           let w = lined q g.region (emitted of g q) in
-          let then = fresh_line of g bytes.0 bytes.1 q s.start position loaded d in
-          subst (λ (o : LineOutcome). Shut r o.after) (sym (line_from of g q position loaded d))
+          let then = fresh_line of g bytes.0 bytes.1 q s.start done.position done.loaded d in
+          subst (λ (o : LineOutcome). Shut r o.after) (sym (line_from of g q done.position done.loaded d))
           (record { start = held_start job labels entry w then; stop = checks_same job labels entry w w then ∙ sym (checks_same job labels entry q q now) ∙ s.stop })
 
   shut_run : (r : Refusal) (us : List Turn) → AllOfBytes us → (q : Patching) → Shut r q → Shut r (run job labels entry us q)
@@ -334,9 +331,9 @@ module _ (job : Job) (labels : Table) (entry : List ℕ) where
     still (Line of g) bytes = by (line_outcome of g q).answer refl
       where
         by : (a : EmitAnswer) → (line_outcome of g q).answer ≡ a → (line_outcome of g q).after ≡ q
-        by (LineRefused k position) e = line_refused of g q k position e
-        by (Done position loaded) e =
-            let d = line_done of g q bytes.0 bytes.1 position loaded e in
+        by (Err k) e = line_refused of g q k.refusal k.position e
+        by (Ok done) e =
+            let d = line_done of g q bytes.0 bytes.1 done.position done.loaded e in
             absurd (over (timely_state q g.region d.timely))
 
     still_run : (us : List Turn) → AllOfBytes us → run job labels entry us q ≡ q
@@ -344,30 +341,30 @@ module _ (job : Job) (labels : Table) (entry : List ℕ) where
     still_run [] bytes = refl
     still_run (t ∷ us) bytes = ap (run job labels entry us) (still t bytes.0) ∙ still_run us bytes.1
 
-  same_by : (q b : Patching) → Open q b → (r : Refusal) (us : List Turn) → AllOfBytes us → (step_outcome job labels entry q).answer ≡ Refused r
-      → (step_outcome job labels entry (run job labels entry us (step_outcome job labels entry q).after)).answer ≡ Refused r
+  same_by : (q b : Patching) → Open q b → (r : Refusal) (us : List Turn) → AllOfBytes us → (step_outcome job labels entry q).answer ≡ Err r
+      → (step_outcome job labels entry (run job labels entry us (step_outcome job labels entry q).after)).answer ≡ Err r
   same_by q b (shut s c e start) r us bytes x =
       let y = shut_step q s c in
       let z : s ≡ r = cc (ap (λ (o : StepOutcome). o.answer) y) in
       let k = shut_run s us bytes q (record { start = start; stop = c }) in
       ap (λ (o : StepOutcome). (step_outcome job labels entry (run job labels entry us o.after)).answer) y
-      ∙ ap (λ (o : StepOutcome). o.answer) (shut_step (run job labels entry us q) s k.stop) ∙ ap Refused z
+      ∙ ap (λ (o : StepOutcome). o.answer) (shut_step (run job labels entry us q) s k.stop) ∙ ap Err z
   same_by q b (passes h o m) r us bytes x = said t.says
     where
       t : StepKeeps job labels entry q b (step_outcome job labels entry q)
       t = step_held job labels entry q b h o m
 
-      said : Says job labels entry q b (step_outcome job labels entry q) → (step_outcome job labels entry (run job labels entry us (step_outcome job labels entry q).after)).answer ≡ Refused r
+      said : Says job labels entry q b (step_outcome job labels entry q) → (step_outcome job labels entry (run job labels entry us (step_outcome job labels entry q).after)).answer ≡ Err r
       said (more y n) = let z : ◌≡◌ {A = ℕ} 0 1 = cc in absurd (omega arith)
       said (ends y n k same fill one) = let z : ◌≡◌ {A = ℕ} 0 1 = cc in absurd (omega arith)
       said (stops s y v n) =
           let z : s ≡ r = cc in
           let w = (step_outcome job labels entry q).after in
           ap (λ (p : Patching). (step_outcome job labels entry p).answer) (still_run w (λ x. omega (arith, x, n)) (ap (λ (k : StepOutcome). k.after) (step_refused job labels entry w b t.held o s n v)) us bytes)
-          ∙ ap (λ (k : StepOutcome). k.answer) (step_refused job labels entry w b t.held o s n v) ∙ ap Refused z
+          ∙ ap (λ (k : StepOutcome). k.answer) (step_refused job labels entry w b t.held o s n v) ∙ ap Err z
 
-  ended_on : (q b : Patching) → Open q b → (a : ℕ) (us : List Turn) → AllOfBytes us → (step_outcome job labels entry q).answer ≡ Ended a
-      → (step_outcome job labels entry (run job labels entry us (step_outcome job labels entry q).after)).answer ≡ Ended a
+  ended_on : (q b : Patching) → Open q b → (a : ℕ) (us : List Turn) → AllOfBytes us → (step_outcome job labels entry q).answer ≡ Ok (Ended a)
+      → (step_outcome job labels entry (run job labels entry us (step_outcome job labels entry q).after)).answer ≡ Ok (Ended a)
   ended_on q b (shut s c e start) a us bytes x = let y = ap (λ (o : StepOutcome). o.answer) (shut_step q s c) in let z : ◌≡◌ {A = ℕ} 0 1 = cc in absurd (omega arith)
   ended_on q b (passes h o m) a us bytes x = said t.says t.mode
     where
@@ -375,7 +372,7 @@ module _ (job : Job) (labels : Table) (entry : List ℕ) where
       t = step_held job labels entry q b h o m
 
       said : Says job labels entry q b (step_outcome job labels entry q) → Mode job labels entry (step_outcome job labels entry q).after b
-          → (step_outcome job labels entry (run job labels entry us (step_outcome job labels entry q).after)).answer ≡ Ended a
+          → (step_outcome job labels entry (run job labels entry us (step_outcome job labels entry q).after)).answer ≡ Ok (Ended a)
       said (more y n) f = let z : ◌≡◌ {A = ℕ} 0 1 = cc in absurd (omega arith)
       said (stops s y v n) f = let z : ◌≡◌ {A = ℕ} 0 1 = cc in absurd (omega arith)
       said (ends y n k same fill one) f =
@@ -383,7 +380,7 @@ module _ (job : Job) (labels : Table) (entry : List ℕ) where
           let w = (step_outcome job labels entry q).after in
           let e = step_ended job labels entry w b t.held o one in
           ap (λ (p : Patching). (step_outcome job labels entry p).answer) (still_run w (λ u. omega (arith, u, one)) (ap (λ (v : StepOutcome). v.after) e) us bytes)
-          ∙ ap (λ (v : StepOutcome). v.answer) e ∙ ap Ended z
+          ∙ ap (λ (v : StepOutcome). v.answer) e ∙ ap (λ (n : ℕ). Ok (Ended n)) z
 
   pub all_finish : AllFinish job labels entry
   unfolding run lines_first
@@ -423,7 +420,7 @@ module _ (job : Job) (labels : Table) (entry : List ℕ) where
       by (shut r k e s) (inl x) = absurd (omega (arith, x, s.running))
       by (shut r k e s) (inr x) =
           let y = shut_step q r k in
-          same (Refused r) (ap (λ (o : StepOutcome). o.answer) y) refl (ap (λ (o : StepOutcome). o.after.counts.patches) y) x
+          same (Err r) (ap (λ (o : StepOutcome). o.answer) y) refl (ap (λ (o : StepOutcome). o.after.counts.patches) y) x
       by (passes h o (running z)) (inl x) = absurd (omega (arith, x, z))
       by (passes h o (ended z l)) (inl x) = absurd (omega (arith, x, z))
       by (passes h o (refused r z n v)) (inl x) = inl (ap (λ (w : StepOutcome). w.after.counts.state) (step_refused job labels entry q b h o r z v) ∙ x)
@@ -431,7 +428,7 @@ module _ (job : Job) (labels : Table) (entry : List ℕ) where
         where
           said : Says job labels entry q b (step_outcome job labels entry q) → Counts (step_outcome job labels entry q).after (m + patched_by job labels entry (step_outcome job labels entry q).answer)
           said (more y n) = inr (omega (arith, n, x, ap (patched_by job labels entry) y))
-          said (ends y n w d f one) = same (Ended (the_entry job labels entry)) y refl w x
+          said (ends y n w d f one) = same (Ok (Ended (the_entry job labels entry))) y refl w x
           said (stops r y v n) = inl n
 
   line_counts : (of : Job) (g : LineGiven) → Bytes g.token_list → Bytes g.mnemonic → (q : Patching) (m : ℕ) → Counts q m → Counts (line_outcome of g q).after (m + 0)
@@ -441,10 +438,10 @@ module _ (job : Job) (labels : Table) (entry : List ℕ) where
       z = omega arith
 
       by : (a : EmitAnswer) → (line_outcome of g q).answer ≡ a → Counts (line_outcome of g q).after (m + 0)
-      by (LineRefused k position) e = subst (λ (x : Patching). Counts x (m + 0)) (sym (line_refused of g q k position e)) (subst (Counts q) z c)
-      by (Done position loaded) e =
-          let d = line_done of g q tokens mnemonic position loaded e in
-          subst (λ (o : LineOutcome). Counts o.after (m + 0)) (sym (line_from of g q position loaded d)) (subst (Counts q) z c)
+      by (Err k) e = subst (λ (x : Patching). Counts x (m + 0)) (sym (line_refused of g q k.refusal k.position e)) (subst (Counts q) z c)
+      by (Ok done) e =
+          let d = line_done of g q tokens mnemonic done.position done.loaded e in
+          subst (λ (o : LineOutcome). Counts o.after (m + 0)) (sym (line_from of g q done.position done.loaded d)) (subst (Counts q) z c)
 
   turn_counts : (t : Turn) → OfBytes t → (q b : Patching) (m : ℕ) → Between q b → Counts q m → Counts (turn job labels entry t q) (m + patched_turn job labels entry t q)
   turn_counts Step bytes q b m i c = step_counts q b m i c

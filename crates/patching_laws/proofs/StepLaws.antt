@@ -21,10 +21,9 @@ use Rattle.patch.proofs.PatchesLaws.{reached}
 use Rattle.build_outcome.specs.Build.{patch_verdict, patches_verdict, entry_verdict, entry_address, write_patches}
 use Rattle.build_outcome.proofs.BuildLaws.{then_pass}
 use Rattle.build_outcome.proofs.KeptLaws.{InData, in_data}
-use Rattle.patching_outcome.specs.declared.StepAnswer.{StepAnswer}
-use Rattle.patching_outcome.specs.declared.StepAnswer.TheVariants.{Patched, Ended, Refused}
+use Rattle.patching_outcome.specs.declared.Progress.TheVariants.{Patched, Ended}
 use Rattle.patching_outcome.specs.Patching.{Patching, regions_of, pendings_of, order_of, regions_layout, pendings_layout, kept_layout}
-use Rattle.patching_outcome.specs.Step.{step_layouts, step_checks, StepOutcome, patched, put_back, unpatched, next_by, running_step, ended_by, stopped_step, step_by, step_outcome, now_at}
+use Rattle.patching_outcome.specs.Step.{StepAnswer, step_layouts, step_checks, StepOutcome, patched, put_back, unpatched, next_by, running_step, ended_by, stopped_step, step_by, step_outcome, now_at}
 use Rattle.patching_laws.proofs.OrderLaws.{order_few}
 use Rattle.patching_outcome.proofs.LayoutLaws.{Within, regions_is, pendings_is, kept_is, few}
 use Rattle.patching_laws.proofs.UndoLaws.{write_append, write_one, undo_one, back_regions}
@@ -66,9 +65,9 @@ module _ (job : Job) (labels : Table) (entry : List ℕ) where
 
   -- what a step says
   pub data Says (q b : Patching) (o : StepOutcome) : Type 0 where
-    more : o.answer ≡ Patched (q.counts.patches + 1) → o.after.counts.patches ≡ q.counts.patches + 1 → Says q b o
-    ends : o.answer ≡ Ended the_entry → o.after.counts.patches ≡ length (order_of b) → o.after.counts.patches ≡ q.counts.patches → o.after.regions ≡ q.regions → o.after.counts.regions ≡ q.counts.regions → o.after.counts.state ≡ 1 → Says q b o
-    stops : (r : Refusal) → o.answer ≡ Refused r → patches_verdict job labels (regions_of b) (pendings_of b) ≡ Err r → o.after.counts.state ≡ 2 → Says q b o
+    more : o.answer ≡ Ok (Patched (q.counts.patches + 1)) → o.after.counts.patches ≡ q.counts.patches + 1 → Says q b o
+    ends : o.answer ≡ Ok (Ended the_entry) → o.after.counts.patches ≡ length (order_of b) → o.after.counts.patches ≡ q.counts.patches → o.after.regions ≡ q.regions → o.after.counts.regions ≡ q.counts.regions → o.after.counts.state ≡ 1 → Says q b o
+    stops : (r : Refusal) → o.answer ≡ Err r → patches_verdict job labels (regions_of b) (pendings_of b) ≡ Err r → o.after.counts.state ≡ 2 → Says q b o
 
   pub record StepKeeps (q b : Patching) (o : StepOutcome) : Type 0 where
     pub held : Held job labels entry o.after b
@@ -264,7 +263,7 @@ module _ (job : Job) (labels : Table) (entry : List ℕ) where
     ran_on left =
         elim left [
           | true ↦ next_by labels q (get_or (order_of q) q.counts.patches 0) (patch_verdict job labels (regions_of q) (pendings_of q) (get_or (order_of q) q.counts.patches 0))
-          | false ↦ record { answer = Ended the_entry; after = record { regions = q.regions; pending = q.pending; breakpoints = q.breakpoints; kept = q.kept; counts = now_at q.counts q.counts.patches 1 } }
+          | false ↦ record { answer = Ok (Ended the_entry); after = record { regions = q.regions; pending = q.pending; breakpoints = q.breakpoints; kept = q.kept; counts = now_at q.counts q.counts.patches 1 } }
         ]
 
     run_on : q.counts.state ≡ 0 → (left : Bool) → ltb q.counts.patches (length (order_of q)) ≡ left → StepKeeps q b (ran_on left)
@@ -289,7 +288,7 @@ module _ (job : Job) (labels : Table) (entry : List ℕ) where
     abbrev stopped : Bool → StepOutcome
     stopped is_end =
         elim is_end [
-          | true ↦ record { answer = Ended the_entry; after = q }
+          | true ↦ record { answer = Ok (Ended the_entry); after = q }
           | false ↦ record { answer = ended_by the_entry (patches_verdict job labels (regions_of q) (pendings_of q)); after = q }
         ]
 
@@ -312,14 +311,14 @@ module _ (job : Job) (labels : Table) (entry : List ℕ) where
         (record { held = h; mode = refused r s n v; says = stops r (ap (ended_by the_entry) (patches_same ∙ v)) v s })
 
     -- after a 14 to 16: the same answer, and nothing changes
-    pub step_refused : Opened → (r : Refusal) → q.counts.state ≡ 2 → patches_verdict job labels (regions_of b) (pendings_of b) ≡ Err r → step_outcome job labels entry q ≡ (record { answer = Refused r; after = q })
+    pub step_refused : Opened → (r : Refusal) → q.counts.state ≡ 2 → patches_verdict job labels (regions_of b) (pendings_of b) ≡ Err r → step_outcome job labels entry q ≡ (record { answer = Err r; after = q })
     step_refused o r s v =
         let e : eqb q.counts.state 0 ≡ false = ne_eqb q.counts.state 0 (λ x. omega arith) in
         let f : eqb q.counts.state 1 ≡ false = ne_eqb q.counts.state 1 (λ x. omega arith) in
         step_checked o ∙ ap by_state e ∙ ap stopped f ∙ ap (λ (a : StepAnswer). record { answer = a; after = q }) (ap (ended_by the_entry) (patches_same ∙ v))
 
     -- after the end: the same too
-    pub step_ended : Opened → q.counts.state ≡ 1 → step_outcome job labels entry q ≡ (record { answer = Ended the_entry; after = q })
+    pub step_ended : Opened → q.counts.state ≡ 1 → step_outcome job labels entry q ≡ (record { answer = Ok (Ended the_entry); after = q })
     step_ended o s =
         let e : eqb q.counts.state 0 ≡ false = ne_eqb q.counts.state 0 (λ x. omega arith) in
         step_checked o ∙ ap by_state e ∙ ap stopped (eq-eqb q.counts.state 1 s)

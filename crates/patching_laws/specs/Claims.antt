@@ -13,13 +13,11 @@ use Rattle.pending.specs.Pendings.{region_of, pending_at}
 use Rattle.patch.specs.Patches.{region_for}
 use Rattle.loading.specs.declared.LoadForm.{LoadForm}
 use Rattle.build_outcome.specs.Build.{order_from, write_patches, BuildOutcome, build_outcome}
-use Rattle.emit_outcome.specs.declared.EmitAnswer.{EmitAnswer}
-use Rattle.emit_outcome.specs.declared.EmitAnswer.TheVariants.{Done, Refused as LineRefused}
+use Rattle.emit_outcome.specs.Answer.{EmitAnswer, done_at, refused_at}
 use Rattle.finished_words.specs.Listed.{Bytes}
-use Rattle.patching_outcome.specs.declared.StepAnswer.{StepAnswer}
-use Rattle.patching_outcome.specs.declared.StepAnswer.TheVariants.{Patched, Ended, Refused}
+use Rattle.patching_outcome.specs.declared.Progress.TheVariants.{Patched, Ended}
 use Rattle.patching_outcome.specs.Patching.{Patching, regions_of, pendings_of, order_of, done_of}
-use Rattle.patching_outcome.specs.Step.{step_checks, step_outcome}
+use Rattle.patching_outcome.specs.Step.{StepAnswer, step_checks, step_outcome}
 use Rattle.patching_outcome.specs.Line.{LineGiven, is_late, line_outcome}
 use Rattle.patching_laws.specs.Script.{Turn, Step, Line, turn, run, accepted_lines, lines_first}
 
@@ -89,20 +87,20 @@ module _ (job : Job) (labels : Table) (entry : List ℕ) where
   JoinsAfter =
       (ts : List Turn) (p : Patching) → AllOfBytes ts → Start p
       → (of : Job) (g : LineGiven) → Bytes g.token_list → Bytes g.mnemonic → (position : ℕ) (loaded : LoadForm)
-      → (line_outcome of g (run job labels entry ts p)).answer ≡ Done position loaded
+      → (line_outcome of g (run job labels entry ts p)).answer ≡ done_at position loaded
       → JoinsEnd (run job labels entry ts p) (line_outcome of g (run job labels entry ts p)).after g.region
 
   -- 2. "one more for each step that finds one"
   abbrev pub OneMore : Type 0
   OneMore =
       (p : Patching) → step_checks labels entry p ≡ Ok tt → p.counts.state ≡ 0 → p.counts.patches < length (order_of p)
-      → ((n : ℕ) → (step_outcome job labels entry p).answer ≡ Patched n → (n ≡ p.counts.patches + 1) × ((step_outcome job labels entry p).after.counts.patches ≡ n))
+      → ((n : ℕ) → (step_outcome job labels entry p).answer ≡ Ok (Patched n) → (n ≡ p.counts.patches + 1) × ((step_outcome job labels entry p).after.counts.patches ≡ n))
 
   -- the steps of a script that patched
   abbrev pub patched_by : StepAnswer → ℕ
-  patched_by (Patched n) = 1
-  patched_by (Ended a) = 0
-  patched_by (Refused r) = 0
+  patched_by (Ok (Patched n)) = 1
+  patched_by (Ok (Ended a)) = 0
+  patched_by (Err r) = 0
 
   abbrev pub patched_turn : Turn → Patching → ℕ
   patched_turn Step p = patched_by (step_outcome job labels entry p).answer
@@ -126,17 +124,17 @@ module _ (job : Job) (labels : Table) (entry : List ℕ) where
       build_outcome job labels entry (regions_of b) (pendings_of b)
 
   pub record Finishes (ts : List Turn) (p : Patching) : Type 0 where
-    pub ended : (a : ℕ) → (step_outcome job labels entry (run job labels entry ts p)).answer ≡ Ended a
+    pub ended : (a : ℕ) → (step_outcome job labels entry (run job labels entry ts p)).answer ≡ Ok (Ended a)
         → build_first ts p ≡ (record { answer = Ok a; regions = regions_of (run job labels entry ts p) })
     -- later steps end too
-    pub ended_later : (a : ℕ) (us : List Turn) → AllOfBytes us → (step_outcome job labels entry (run job labels entry ts p)).answer ≡ Ended a
-        → (step_outcome job labels entry (run job labels entry (ts ++ Step ∷ us) p)).answer ≡ Ended a
+    pub ended_later : (a : ℕ) (us : List Turn) → AllOfBytes us → (step_outcome job labels entry (run job labels entry ts p)).answer ≡ Ok (Ended a)
+        → (step_outcome job labels entry (run job labels entry (ts ++ Step ∷ us) p)).answer ≡ Ok (Ended a)
     -- "A step's refusal 14 to 16 .. gives those bytes and lines back unpatched"
-    pub refused : (r : Refusal) → (step_outcome job labels entry (run job labels entry ts p)).answer ≡ Refused r
+    pub refused : (r : Refusal) → (step_outcome job labels entry (run job labels entry ts p)).answer ≡ Err r
         → build_first ts p ≡ (record { answer = Err r; regions = regions_of (step_outcome job labels entry (run job labels entry ts p)).after })
     -- "and later steps answer the same", whatever comes between
-    pub same_later : (r : Refusal) (us : List Turn) → AllOfBytes us → (step_outcome job labels entry (run job labels entry ts p)).answer ≡ Refused r
-        → (step_outcome job labels entry (run job labels entry (ts ++ Step ∷ us) p)).answer ≡ Refused r
+    pub same_later : (r : Refusal) (us : List Turn) → AllOfBytes us → (step_outcome job labels entry (run job labels entry ts p)).answer ≡ Err r
+        → (step_outcome job labels entry (run job labels entry (ts ++ Step ∷ us) p)).answer ≡ Err r
 
   abbrev pub AllFinish : Type 0
   AllFinish = (ts : List Turn) (p : Patching) → AllOfBytes ts → Start p → Finishes ts p
@@ -144,9 +142,9 @@ module _ (job : Job) (labels : Table) (entry : List ℕ) where
   -- The request's own sentence, with its premise: "Where every pending at the start lies inside its region's data, the finished image, or the
   -- first refusal, equals that of all accepted lines first and a whole build after." AllFinish says more, and without the premise.
   pub record EqualsBuild (ts : List Turn) (p : Patching) : Type 0 where
-    pub finished_image : (a : ℕ) → (step_outcome job labels entry (run job labels entry ts p)).answer ≡ Ended a
+    pub finished_image : (a : ℕ) → (step_outcome job labels entry (run job labels entry ts p)).answer ≡ Ok (Ended a)
         → ((build_first ts p).answer ≡ Ok a) × ((build_first ts p).regions ≡ regions_of (run job labels entry ts p))
-    pub first_refusal : (r : Refusal) → (step_outcome job labels entry (run job labels entry ts p)).answer ≡ Refused r → (build_first ts p).answer ≡ Err r
+    pub first_refusal : (r : Refusal) → (step_outcome job labels entry (run job labels entry ts p)).answer ≡ Err r → (build_first ts p).answer ≡ Err r
 
   abbrev pub AsRequested : Type 0
   AsRequested = (ts : List Turn) (p : Patching) → AllOfBytes ts → Start p → AllInside p → EqualsBuild ts p
@@ -159,5 +157,5 @@ is_room r = eqb (numbered r).number 11 || eqb (numbered r).number 12
 
 -- what a late line answers, by what the same line would answer were it not late
 abbrev pub instead : Location → EmitAnswer → EmitAnswer
-instead line (Done position loaded) = LineRefused (LateLine line) position
-instead line (LineRefused r position) = LineRefused (elim (is_room r) [ true ↦ LateLine line | false ↦ r ]) position
+instead line (Ok done) = refused_at (LateLine line) done.position
+instead line (Err refused) = refused_at (elim (is_room refused.refusal) [ true ↦ LateLine line | false ↦ refused.refusal ]) refused.position

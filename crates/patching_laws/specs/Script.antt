@@ -1,10 +1,9 @@
 -- A script: steps and lines one after the other, "each call to get what the last left" (document 02, P12). Assumes nothing.
-use Rattle.std.specs.Prelude.{ℕ}
+use Rattle.std.specs.Prelude.{Ok, Err, ℕ}
 use mathlib.Core.List.{List, [], ◌∷◌, ◌++◌}
 use Rattle.jobs.specs.declared.Job.{Job}
 use Rattle.labels.specs.Labels.{Table}
-use Rattle.emit_outcome.specs.declared.EmitAnswer.{EmitAnswer}
-use Rattle.emit_outcome.specs.declared.EmitAnswer.TheVariants.{Done, Refused}
+use Rattle.emit_outcome.specs.Answer.{EmitAnswer}
 use Rattle.patching_outcome.specs.Patching.{Patching}
 use Rattle.patching_outcome.specs.Step.{step_outcome}
 use Rattle.patching_outcome.specs.Line.{LineGiven, line_outcome}
@@ -26,8 +25,8 @@ module _ (job : Job) (labels : Table) (entry : List ℕ) where
   run (t ∷ ts) p = run ts (turn t p)
 
   abbrev pub if_done : EmitAnswer → Turn → List Turn
-  if_done (Done position loaded) t = t ∷ []
-  if_done (Refused r position) t = []
+  if_done (Ok done) t = t ∷ []
+  if_done (Err refused) t = []
 
   -- the accepted lines of a script
   abbrev pub accepted_turn : Turn → Patching → List Turn

@@ -1,5 +1,5 @@
 -- The emit call of a line, in the list: it is the definition's call; refused it leaves every byte, accepted it leaves a grown record. Assumes nothing.
-use Rattle.std.specs.Prelude.{ℕ, ◌+◌, ◌-◌, min, ◌≤◌, ◌<◌, Bool, true, false, ◌≡◌, refl, take, drop, leb}
+use Rattle.std.specs.Prelude.{Ok, Err, ℕ, ◌+◌, ◌-◌, min, ◌≤◌, ◌<◌, Bool, true, false, ◌≡◌, refl, take, drop, leb}
 use Rattle.std.proofs.Common.{arith, ◌∙◌, take-append-drop, take_all, leb-true, leb-false}
 use mathlib.Core.List.{List, [], ◌++◌, append-nil}
 use Rattle.std.proofs.Math.Path.{sym, ap, ap₂}
@@ -15,8 +15,7 @@ use Rattle.loading.specs.declared.LoadForm.{LoadForm}
 use Rattle.regions.specs.declared.Region.{Region}
 use Rattle.regions.specs.Regions.{region_count, region_place, region_at}
 use Rattle.regions.proofs.RegionsLaws.{RegionIs, region_is, region_place_ok}
-use Rattle.emit_outcome.specs.declared.EmitAnswer.{EmitAnswer}
-use Rattle.emit_outcome.specs.declared.EmitAnswer.TheVariants.{Done, Refused}
+use Rattle.emit_outcome.specs.Answer.{EmitAnswer, done_at, refused_at}
 use Rattle.emit_outcome.specs.declared.FillCounts.{FillCounts}
 use Rattle.emit_outcome.specs.Call.{Call, EmitOutcome, call_of, lent_of, outcome_of}
 use Rattle.emit_outcome.specs.Room.{no_region, most_data}
@@ -34,11 +33,11 @@ use Rattle.patching_line.specs.Lists.{filled_regions, LineLists, timely, nowhere
 
 -- ---- with no region selected
 
-told_refuses : (counts : FillCounts) {a : EmitAnswer} (i : ℕ) (f : LoadForm) → Told no_region counts a → a ≡ Done i f → ⊥
+told_refuses : (counts : FillCounts) {a : EmitAnswer} (i : ℕ) (f : LoadForm) → Told no_region counts a → a ≡ done_at i f → ⊥
 told_refuses counts i f (told_done j g n m) x = let z : ◌≡◌ {A = ℕ} 0 1 = cc in omega arith
 told_refuses counts i f (told_refused r j) x = let z : ◌≡◌ {A = ℕ} 0 1 = cc in omega arith
 
-told_most : (region : ℕ) (counts : FillCounts) {a : EmitAnswer} (i : ℕ) (f : LoadForm) → Told region counts a → a ≡ Done i f → counts.data_len ≤ most_data
+told_most : (region : ℕ) (counts : FillCounts) {a : EmitAnswer} (i : ℕ) (f : LoadForm) → Told region counts a → a ≡ done_at i f → counts.data_len ≤ most_data
 told_most region counts i f (told_done j g n m) x = m
 told_most region counts i f (told_refused r j) x = let z : ◌≡◌ {A = ℕ} 0 1 = cc in absurd (omega arith)
 
@@ -51,12 +50,12 @@ nowhere_stays job tokens mnemonic descriptors pending breakpoints counts positio
     go : (a : EmitAnswer) → (emit_outcome job (nowhere tokens mnemonic descriptors pending breakpoints counts position)).answer ≡ a
         → let o = emit_outcome job (nowhere tokens mnemonic descriptors pending breakpoints counts position) in
         (o.lent.pending ≡ pending) × (o.lent.breakpoints ≡ breakpoints)
-    go (Refused r i) e =
-        let s = refused_stays job (nowhere tokens mnemonic descriptors pending breakpoints counts position) r i e in
+    go (Err refused) e =
+        let s = refused_stays job (nowhere tokens mnemonic descriptors pending breakpoints counts position) refused.refusal refused.position e in
         (ap (λ (x : EmitOutcome). x.lent.pending) s, ap (λ (x : EmitOutcome). x.lent.breakpoints) s)
-    go (Done i f) e =
+    go (Ok done) e =
         let c = nowhere tokens mnemonic descriptors pending breakpoints counts position in
-        absurd (told_refuses (emit_outcome job c).counts i f (appends job c (omega arith)).told e)
+        absurd (told_refuses (emit_outcome job c).counts done.position done.loaded (appends job c (omega arith)).told e)
 
 -- the answer, with the buffers that the call leaves
 pub nowhere_is : (job : Job) (tokens mnemonic descriptors pending breakpoints : List ℕ) (counts : PatchCounts) (position : ℕ) (answer : EmitAnswer) (filled : FillCounts) (d p b : List ℕ)
@@ -148,7 +147,7 @@ module _ (job : Job) (tokens mnemonic descriptors regions pending breakpoints : 
 
   module _ (answer : EmitAnswer) (filled : FillCounts) (list_out pending_out breakpoints_out : List ℕ)
       (out : FoundIn job tokens mnemonic descriptors regions pending breakpoints counts position region g answer filled list_out pending_out breakpoints_out) where
-    pub refused_listed : (r : Refusal) (i : ℕ) → answer ≡ Refused r i
+    pub refused_listed : (r : Refusal) (i : ℕ) → answer ≡ refused_at r i
         → LinesTo (timely job (given_of tokens mnemonic descriptors position region)) regions pending breakpoints counts answer counts list_out pending_out breakpoints_out
     refused_listed r i e kept =
         let o = emit_outcome job call_in in
@@ -159,9 +158,9 @@ module _ (job : Job) (tokens mnemonic descriptors regions pending breakpoints : 
         out.list_is ∙ ap (λ (v : List ℕ). append regions 0 (inserted (filled_regions regions counts) (g.start + g.size) v)) w ∙ none_inserted regions counts.regions (g.start + g.size) lists.regions_within in
         let p : pending_out ≡ pending = out.pending_is ∙ ap (λ (x : EmitOutcome). x.lent.pending) s in
         let b : breakpoints_out ≡ breakpoints = out.breakpoints_are ∙ ap (λ (x : EmitOutcome). x.lent.breakpoints) s in
-        by_call kept (Refused r i) (sym out.answer_is ∙ e)
+        by_call kept (refused_at r i) (sym out.answer_is ∙ e)
         ∙ sym (ap₂ (λ (a : EmitAnswer) (x : List ℕ). record { answer = a; after = patching_of x pending_out breakpoints_out kept counts }) e l
-        ∙ ap₂ (λ (x y : List ℕ). record { answer = Refused r i; after = patching_of regions x y kept counts }) p b)
+        ∙ ap₂ (λ (x y : List ℕ). record { answer = refused_at r i; after = patching_of regions x y kept counts }) p b)
 
     -- what the call has added
     record Grew : Type 0 where
@@ -178,7 +177,7 @@ module _ (job : Job) (tokens mnemonic descriptors regions pending breakpoints : 
         let r = adds.room in
         record { words_long = omega arith; data_grew = omega arith; taken = omega arith }
 
-    pub grows : (i : ℕ) (f : LoadForm) → answer ≡ Done i f → length list_out ≡ length regions → GrowsTo list_out counts g filled
+    pub grows : (i : ℕ) (f : LoadForm) → answer ≡ done_at i f → length list_out ≡ length regions → GrowsTo list_out counts g filled
     grows i f e long =
         let m = told_most region (emit_outcome job call_in).counts i f adds.told (sym out.answer_is ∙ e) in
         let c = ap (λ (y : FillCounts). y.data_len) out.counts_are in
@@ -186,7 +185,7 @@ module _ (job : Job) (tokens mnemonic descriptors regions pending breakpoints : 
         let s = stands in
         record { head = omega (arith, s.start_is); start_within = omega arith; grew = h.data_grew; most = omega arith; list_fits = omega arith }
 
-    pub done_listed : (i : ℕ) (f : LoadForm) → answer ≡ Done i f
+    pub done_listed : (i : ℕ) (f : LoadForm) → answer ≡ done_at i f
         → (c : PatchCounts) (after : List ℕ) → (c ≡ counts_grown counts g filled) × (after ≡ append list_out (g.start - 8) (le16_bytes (filled.data_len + 4)))
         → LinesTo (timely job (given_of tokens mnemonic descriptors position region)) regions pending breakpoints counts answer c after pending_out breakpoints_out
     unfolding grown
@@ -213,7 +212,7 @@ module _ (job : Job) (tokens mnemonic descriptors regions pending breakpoints : 
         lined_is kept
         ∙ ap₂ (λ (x : List ℕ) (y : PatchCounts). patching_of x o.lent.pending o.lent.breakpoints kept y) (sym d) z
         ∙ ap₂ (λ (x y : List ℕ). patching_of after x y kept c) (sym out.pending_is) (sym out.breakpoints_are) in
-        by_call kept (Done i f) (sym out.answer_is ∙ e) ∙ ap₂ (λ (a : EmitAnswer) (x : Patching). record { answer = a; after = x }) (sym e) u
+        by_call kept (done_at i f) (sym out.answer_is ∙ e) ∙ ap₂ (λ (a : EmitAnswer) (x : Patching). record { answer = a; after = x }) (sym e) u
       where
         -- the definition's region is the one that was read
         lined_is : (kept : List ℕ) → let w = new_words g.size (emit_outcome job call_in) in

@@ -6,8 +6,7 @@ use Rattle.std.proofs.Math.Path.{refl, ap, ap₂}
 use Rattle.std.proofs.Common.{sym, ◌∙◌}
 use Rattle.jobs.specs.declared.Job.{Job}
 use Rattle.refusal.specs.declared.Refusal.{Refusal}
-use Rattle.emit_outcome.specs.declared.EmitAnswer.{EmitAnswer}
-use Rattle.emit_outcome.specs.declared.EmitAnswer.TheVariants.{Refused}
+use Rattle.emit_outcome.specs.Answer.{EmitAnswer, refused_at}
 use Rattle.emit_outcome.specs.Room.{no_region}
 use Rattle.emit_outcome.specs.Emit.{emit_outcome}
 use Rattle.patching_outcome.specs.declared.PatchCounts.{PatchCounts}
@@ -18,7 +17,7 @@ use Rattle.patching_line.specs.Lists.{LayoutsAre, timely, nowhere}
 
 module _ (job : Job) (tokens mnemonic descriptors : List ℕ) (position region : ℕ) (regions pending breakpoints : List ℕ) (counts : PatchCounts) where
   pub line_stops : (r : Refusal) → LayoutsAre tokens mnemonic descriptors region regions pending breakpoints counts (Err r)
-      → LineIs job (given_of tokens mnemonic descriptors position region) regions pending breakpoints counts (Refused r position) counts regions pending breakpoints
+      → LineIs job (given_of tokens mnemonic descriptors position region) regions pending breakpoints counts (refused_at r position) counts regions pending breakpoints
   unfolding line_outcome
   line_stops r e kept = ap (line_by job (given_of tokens mnemonic descriptors position region) (patching_of regions pending breakpoints kept counts)) (e position kept)
 

@@ -1,7 +1,7 @@
 -- What a line while patching runs promises: the answer, the caller's record and every lent byte. Assumes nothing.
 use Rattle.std.specs.Prelude.{List, ◌≡◌, ℕ}
 use Rattle.jobs.specs.declared.Job.{Job}
-use Rattle.emit_outcome.specs.declared.EmitAnswer.{EmitAnswer}
+use Rattle.emit_outcome.specs.Answer.{EmitAnswer}
 use Rattle.patching_outcome.specs.declared.PatchCounts.{PatchCounts}
 use Rattle.patching_outcome.specs.Patching.{Patching, patching_of}
 use Rattle.patching_outcome.specs.Line.{LineGiven, LineOutcome, line_outcome}

@@ -1,5 +1,5 @@
 -- What the parts of a line are given, and what they promise. Assumes nothing.
-use Rattle.std.specs.Prelude.{ℕ, ◌+◌, ◌-◌, min, ◌≤◌, true, false, List, [], ◌≡◌, length, take, None, Option, Some}
+use Rattle.std.specs.Prelude.{ℕ, ◌+◌, ◌-◌, min, ◌≤◌, true, false, List, [], ◌≡◌, length, take, None, Option, Some, Err, Ok, Result}
 use Rattle.jobs.specs.declared.Job.{Job}
 use Rattle.record.specs.Records.{places, limit}
 use Rattle.regions.specs.declared.Region.{Region}
@@ -7,15 +7,18 @@ use Rattle.regions.specs.Regions.{region_layout, region_count}
 use Rattle.pending.specs.Pendings.{pending_layout}
 use Rattle.breakpoints.specs.Breakpoints.{filled_layout, region_number_ok}
 use Rattle.emit_outcome.specs.Call.{Call, call_of, lent_of}
-use Rattle.emit_outcome.specs.declared.EmitAnswer.{EmitAnswer}
+use Rattle.emit_outcome.specs.Answer.{EmitAnswer, refused_at}
 use Rattle.emit_outcome.specs.declared.FillCounts.{FillCounts}
 use Rattle.emit_outcome.specs.Room.{no_region, most_data}
 use Rattle.emit_outcome.specs.Emit.{emit_outcome}
 use Rattle.patching_outcome.specs.declared.PatchCounts.{PatchCounts}
+use Rattle.patching_outcome.specs.declared.Lined.{Lined}
 use Rattle.patching_outcome.specs.Patching.{Patching, patching_of}
 use Rattle.patching_outcome.specs.Line.{LineGiven, is_listed, only_listed, line_layouts, most_words, emit_call, lined_by, LineOutcome}
 use Rattle.emit_in_list.specs.InList.{list_call, EmittedIn}
+use Rattle.refusal.specs.declared.Refusal.{Refusal}
 use Rattle.refusal.specs.Verdicts.{Verdict}
+use Rattle.patching_line.specs.Contract.{LineIs}
 
 abbrev pub filled_regions : List ℕ → PatchCounts → List ℕ
 filled_regions regions counts = take counts.regions regions
@@ -90,3 +93,15 @@ counts_grown counts g filled = record {
   patches = counts.patches;
   state = counts.state;
 }
+
+-- ---- a line that its checks may refuse
+
+-- the answer and the record that a refusal by a check leaves: the record is as it was
+abbrev pub answered : PatchCounts → (position : ℕ) → Result Lined Refusal → Lined
+answered counts position (Ok lined) = lined
+answered counts position (Err r) = record { answer = refused_at r position; counts = counts }
+
+-- a whole line, which a check may have refused
+abbrev pub CheckedLine : Job → LineGiven → (regions pending breakpoints : List ℕ) → PatchCounts → Result Lined Refusal → (regions_after pending_after breakpoints_after : List ℕ) → Type 0
+CheckedLine job given regions pending breakpoints counts result regions_after pending_after breakpoints_after =
+    let l = answered counts given.position result in LineIs job given regions pending breakpoints counts l.answer l.counts regions_after pending_after breakpoints_after

@@ -4,20 +4,29 @@
 ghost use Rattle.std.specs.Prelude.{◌≡◌, [], ◌≤◌, ◌<◌, ◌+◌, ◌-◌, min, length};
 ghost use Rattle.record.specs.Records.{limit};
 ghost use Rattle.record.specs.Stores.{append, le16_bytes};
-ghost use Rattle.regions.specs.Regions.{region_layout, region_count};
+ghost use Rattle.regions.specs.Regions.{region_count};
 ghost use Rattle.breakpoints.specs.Breakpoints.{region_number_ok};
 ghost use Rattle.emit_outcome.specs.Emit.{emit_outcome};
 ghost use Rattle.patching_outcome.specs.Patching.{patching_of};
 ghost use Rattle.patching_outcome.specs.Line.{most_words, is_listed, is_late, late_refusal, late_answer};
 ghost use Rattle.patching_line.specs.Contract.{given_of, LinesTo, LineIs};
-ghost use Rattle.patching_line.specs.Lists.{filled_regions, listed_in, LayoutsAre, LineLists, timely, nowhere, FoundIn, GrowsTo, counts_grown};
+ghost use Rattle.patching_line.specs.Given.{given_by};
+ghost use Rattle.patching_line.specs.Lists.{filled_regions, listed_in, LayoutsAre, LineLists, timely, nowhere, FoundIn, GrowsTo, counts_grown, CheckedLine};
 
 use emit_in_list::Within;
-use emit_outcome::{EmitAnswer, Emitted, FillCounts, LinePlace};
+use emit_outcome::{EmitAnswer, Emitted, FillCounts, LinePlace, Lists, RefusedLine};
 use jobs::Job;
 use patching_outcome::{Lined, PatchCounts};
 use refusal::Refusal;
-use regions::Region;
+use regions::{Region, Regions};
+
+// What a line is given besides the lent lists: the lists that it only reads, a token position and its region's number.
+#[derive(Clone, Copy)]
+struct Line<'a> {
+    lists: Lists<'a>,
+    position: u32,
+    region: u16,
+}
 
 // "0 to 15, or 65535 for none"
 fn number_ok(region: u16) -> bool
@@ -27,14 +36,13 @@ fn number_ok(region: u16) -> bool
 }
 
 // Whether a region list has that number, or no region is selected.
-fn is_listed(regions: &[u8], region: u16) -> bool
-    requires { region_layout regions.now ≡ None }
+fn is_listed(regions: &Regions<'_>, region: u16) -> bool
     ensures { result ≡ is_listed regions.now region }
 {
     if region == emit_outcome::NO_REGION {
         return true;
     }
-    (region as usize) < regions::region_count(regions)
+    (region as usize) < regions.count()
 }
 
 // The layout of the first `fill` bytes as a list of regions with the one selected.
@@ -45,7 +53,7 @@ fn check_listed(buffer: &[u8], fill: usize, region: u16) -> Option<usize>
         return Some(0);
     }
     patching_checks::check_regions(buffer, fill).or_else(|| {
-        if is_listed(&buffer[..fill], region) {
+        if is_listed(&Regions::new(&buffer[..fill]), region) {
             None
         } else {
             Some(0)
@@ -55,24 +63,21 @@ fn check_listed(buffer: &[u8], fill: usize, region: u16) -> Option<usize>
 
 // Refusal 1: the first list that breaks its layout.
 fn check_layouts(
-    tokens: &[u8],
-    mnemonic: &[u8],
-    descriptors: &[u8],
-    region: u16,
+    line: Line<'_>,
     counts: PatchCounts,
     regions: &[u8],
     pending: &[u8],
     breakpoints: &[u8],
 ) -> Result<(), Refusal>
-    ensures { LayoutsAre tokens.now mnemonic.now descriptors.now region
-        regions.now pending.now breakpoints.now counts result }
+    ensures { let g = given_by line.entry in
+        LayoutsAre g.token_list g.mnemonic g.descriptors g.region regions.now pending.now breakpoints.now counts result }
 {
-    refusal::check_layout(0, lexer::first_bad_token(tokens))?;
-    refusal::check_layout(1, descriptors::first_bad_mnemonic(mnemonic))?;
-    refusal::check_layout(2, descriptors::first_bad_descriptor(descriptors))?;
+    refusal::check_layout(0, lexer::first_bad_token(line.lists.tokens))?;
+    refusal::check_layout(1, descriptors::first_bad_mnemonic(line.lists.mnemonic))?;
+    refusal::check_layout(2, descriptors::first_bad_descriptor(line.lists.descriptors))?;
     let fill = counts.regions as usize;
-    refusal::check_layout(3, check_listed(regions, fill, region))?;
-    let count = regions::region_count(&regions[..fill]);
+    refusal::check_layout(3, check_listed(regions, fill, line.region))?;
+    let count = Regions::new(&regions[..fill]).count();
     let filled = counts.pending as usize;
     let patches = counts.patches as usize;
     let bad = patching_checks::check_pendings(pending, filled, count, patches);
@@ -105,15 +110,13 @@ fn is_late(counts: PatchCounts, regions: &[u8], pending: &[u8], region: u16) -> 
 // The answer of the line with no region selected: it is refused, with 10 at the latest, and changes nothing.
 fn emit_nowhere(
     job: Job,
+    line: Line<'_>,
     counts: PatchCounts,
-    tokens: &[u8],
-    mnemonic: &[u8],
-    descriptors: &[u8],
     pending: &mut [u8],
     breakpoints: &mut [u8],
-    position: u32,
 ) -> EmitAnswer
-    ensures { (result ≡ (emit_outcome job (nowhere tokens.now mnemonic.now descriptors.now pending.old breakpoints.old counts position)).answer)
+    ensures { let g = given_by line.entry in
+        (result ≡ (emit_outcome job (nowhere g.token_list g.mnemonic g.descriptors pending.old breakpoints.old counts g.position)).answer)
         × (pending.new ≡ pending.old) × (breakpoints.new ≡ breakpoints.old) }
 {
     let mut nothing = [0u8; 1];
@@ -124,14 +127,12 @@ fn emit_nowhere(
             pending: counts.pending,
             breakpoints: counts.breakpoints,
         },
-        tokens,
-        mnemonic,
-        descriptors,
+        line.lists,
         &mut nothing[..0],
         pending,
         breakpoints,
         LinePlace {
-            position,
+            position: line.position,
             region: emit_outcome::NO_REGION,
             address: 0,
         },
@@ -155,13 +156,10 @@ fn late_refusal(refusal: Refusal) -> Refusal
 fn late_answer(answer: EmitAnswer) -> EmitAnswer
     ensures { result ≡ late_answer answer }
 {
-    match answer {
-        EmitAnswer::Done { position, loaded } => EmitAnswer::Done { position, loaded },
-        EmitAnswer::Refused(refusal, position) => EmitAnswer::Refused(
-            late_refusal(refusal),
-            position,
-        ),
-    }
+    answer.map_err(|refused| RefusedLine {
+        refusal: late_refusal(refused.refusal),
+        position: refused.position,
+    })
 }
 
 // How many of the free bytes a line may take: as many as its words may have.
@@ -174,20 +172,16 @@ fn room_in(free: usize) -> usize
 // The emit call of a line in the region that was found.
 fn emit_found(
     job: Job,
+    line: Line<'_>,
     counts: PatchCounts,
-    tokens: &[u8],
-    mnemonic: &[u8],
-    descriptors: &[u8],
     regions: &mut [u8],
     pending: &mut [u8],
     breakpoints: &mut [u8],
-    position: u32,
-    region: u16,
     found: Region,
 ) -> Emitted
     requires { (found.start + found.size ≤ counts.regions) × (counts.regions ≤ length regions.old) × (length regions.old ≤ limit) }
-    ensures { FoundIn job tokens.now mnemonic.now descriptors.now regions.old pending.old breakpoints.old
-        counts position region found result.answer result.counts regions.new pending.new breakpoints.new }
+    ensures { let g = given_by line.entry in FoundIn job g.token_list g.mnemonic g.descriptors regions.old pending.old breakpoints.old
+        counts g.position g.region found result.answer result.counts regions.new pending.new breakpoints.new }
 {
     let fill = counts.regions as usize;
     let room = room_in(regions.len() - fill);
@@ -197,8 +191,8 @@ fn emit_found(
         breakpoints: counts.breakpoints,
     };
     let place = LinePlace {
-        position,
-        region,
+        position: line.position,
+        region: line.region,
         address: found.address,
     };
     let within = Within {
@@ -209,9 +203,7 @@ fn emit_found(
     emit_in_list::emit_in_list(
         job,
         filled,
-        tokens,
-        mnemonic,
-        descriptors,
+        line.lists,
         regions,
         pending,
         breakpoints,
@@ -239,44 +231,33 @@ fn grow(regions: &mut [u8], counts: PatchCounts, found: Region, filled: FillCoun
 // A line whose region is listed and not late.
 fn emit_listed(
     job: Job,
+    line: Line<'_>,
     counts: PatchCounts,
-    tokens: &[u8],
-    mnemonic: &[u8],
-    descriptors: &[u8],
     regions: &mut [u8],
     pending: &mut [u8],
     breakpoints: &mut [u8],
-    position: u32,
-    region: u16,
 ) -> Lined
-    requires { LineLists regions.old pending.old counts × (region < region_count (filled_regions regions.old counts)) }
-    ensures { LinesTo (timely job (given_of tokens.now mnemonic.now descriptors.now position region))
+    requires { LineLists regions.old pending.old counts × (line.region < region_count (filled_regions regions.old counts)) }
+    ensures { LinesTo (timely job (given_by line.entry))
         regions.old pending.old breakpoints.old counts
         result.answer result.counts regions.new pending.new breakpoints.new }
 {
     let fill = counts.regions as usize;
-    let found = regions::region_at(&regions[..fill], region as usize);
+    let found = Regions::new(&regions[..fill]).region(line.region as usize);
     let out = emit_found(
         job,
+        line,
         counts,
-        tokens,
-        mnemonic,
-        descriptors,
         &mut *regions,
         pending,
         breakpoints,
-        position,
-        region,
         found,
     );
     let answer = out.answer;
     let filled = out.counts;
     match answer {
-        EmitAnswer::Refused(_, _) => Lined { answer, counts },
-        EmitAnswer::Done {
-            position: _,
-            loaded: _,
-        } => {
+        Err(_) => Lined { answer, counts },
+        Ok(_) => {
             let counts = grow(regions, counts, found, filled);
             Lined { answer, counts }
         }
@@ -286,60 +267,44 @@ fn emit_listed(
 // A line whose lists keep their layouts.
 fn emit_checked(
     job: Job,
+    line: Line<'_>,
     counts: PatchCounts,
-    tokens: &[u8],
-    mnemonic: &[u8],
-    descriptors: &[u8],
     regions: &mut [u8],
     pending: &mut [u8],
     breakpoints: &mut [u8],
-    position: u32,
-    region: u16,
 ) -> Lined
-    requires { LayoutsAre tokens.now mnemonic.now descriptors.now region regions.old pending.old breakpoints.old counts (Ok tt) }
-    ensures { LineIs job (given_of tokens.now mnemonic.now descriptors.now position region)
+    requires { let g = given_by line in LayoutsAre g.token_list g.mnemonic g.descriptors g.region regions.old pending.old breakpoints.old counts (Ok tt) }
+    ensures { LineIs job (given_by line.entry)
         regions.old pending.old breakpoints.old counts
         result.answer result.counts regions.new pending.new breakpoints.new }
 {
-    if region == emit_outcome::NO_REGION {
-        let answer = emit_nowhere(
-            job,
-            counts,
-            tokens,
-            mnemonic,
-            descriptors,
-            pending,
-            breakpoints,
-            position,
-        );
+    if line.region == emit_outcome::NO_REGION {
+        let answer = emit_nowhere(job, line, counts, pending, breakpoints);
         return Lined { answer, counts };
     }
-    if is_late(counts, &*regions, &*pending, region) {
-        let none = emit_nowhere(
-            job,
-            counts,
-            tokens,
-            mnemonic,
-            descriptors,
-            pending,
-            breakpoints,
-            position,
-        );
+    if is_late(counts, &*regions, &*pending, line.region) {
+        let none = emit_nowhere(job, line, counts, pending, breakpoints);
         let answer = late_answer(none);
         return Lined { answer, counts };
     }
-    emit_listed(
-        job,
-        counts,
-        tokens,
-        mnemonic,
-        descriptors,
-        regions,
-        pending,
-        breakpoints,
-        position,
-        region,
-    )
+    emit_listed(job, line, counts, regions, pending, breakpoints)
+}
+
+// A line that the layouts of its lists may refuse: a refusal by them changes nothing.
+fn checked_line(
+    job: Job,
+    line: Line<'_>,
+    counts: PatchCounts,
+    regions: &mut [u8],
+    pending: &mut [u8],
+    breakpoints: &mut [u8],
+) -> Result<Lined, Refusal>
+    ensures { CheckedLine job (given_by line.entry)
+        regions.old pending.old breakpoints.old counts
+        result regions.new pending.new breakpoints.new }
+{
+    check_layouts(line, counts, &*regions, &*pending, &*breakpoints)?;
+    Ok(emit_checked(job, line, counts, regions, pending, breakpoints))
 }
 
 // Appends a line to a region of the list while patching runs, or refuses it and leaves every byte and count as it was.
@@ -359,31 +324,21 @@ pub fn patch_line(
         regions.old pending.old breakpoints.old counts
         result.answer result.counts regions.new pending.new breakpoints.new }
 {
-    if let Err(refusal) = check_layouts(
+    let lists = Lists {
         tokens,
         mnemonic,
         descriptors,
-        region,
-        counts,
-        &*regions,
-        &*pending,
-        &*breakpoints,
-    ) {
-        return Lined {
-            answer: EmitAnswer::Refused(refusal, position),
-            counts,
-        };
-    }
-    emit_checked(
-        job,
-        counts,
-        tokens,
-        mnemonic,
-        descriptors,
-        regions,
-        pending,
-        breakpoints,
+    };
+    let line = Line {
+        lists,
         position,
         region,
-    )
+    };
+    match checked_line(job, line, counts, regions, pending, breakpoints) {
+        Ok(lined) => lined,
+        Err(refusal) => Lined {
+            answer: Err(RefusedLine { refusal, position }),
+            counts,
+        },
+    }
 }

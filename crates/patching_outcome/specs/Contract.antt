@@ -3,9 +3,8 @@ use Rattle.std.specs.Prelude.{List, ◌≡◌, ℕ}
 use Rattle.jobs.specs.declared.Job.{Job}
 use Rattle.labels.specs.Labels.{Table}
 use Rattle.patching_outcome.specs.declared.PatchCounts.{PatchCounts}
-use Rattle.patching_outcome.specs.declared.StepAnswer.{StepAnswer}
 use Rattle.patching_outcome.specs.Patching.{Patching, patching_of}
-use Rattle.patching_outcome.specs.Step.{StepOutcome, step_outcome}
+use Rattle.patching_outcome.specs.Step.{StepAnswer, StepOutcome, step_outcome}
 
 -- A step is lent no breakpoints and only reads the pendings: with whatever breakpoints, both are after it what they were.
 abbrev pub StepsTo : (Patching → StepOutcome) → (regions pending kept : List ℕ) → PatchCounts → StepAnswer → PatchCounts → (regions_after kept_after : List ℕ) → Type 0

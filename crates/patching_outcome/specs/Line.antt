@@ -19,8 +19,7 @@ use Rattle.build_outcome.specs.Build.{order_from}
 use Rattle.emit_outcome.specs.Room.{no_region}
 use Rattle.emit_outcome.specs.Call.{Call, EmitOutcome, call_of, lent_of}
 use Rattle.emit_outcome.specs.Emit.{emit_outcome}
-use Rattle.emit_outcome.specs.declared.EmitAnswer.{EmitAnswer}
-use Rattle.emit_outcome.specs.declared.EmitAnswer.TheVariants.{Done, Refused}
+use Rattle.emit_outcome.specs.Answer.{EmitAnswer, refused_at}
 use Rattle.patching_outcome.specs.Patching.{Patching, regions_of, pendings_of, order_of, pendings_layout}
 use Rattle.patching_outcome.specs.Grown.{grown}
 
@@ -104,8 +103,8 @@ abbrev pub late_refusal : Refusal → Refusal
 late_refusal r = elim (eqb (numbered r).number 10) [ true ↦ LateLine (numbered r).location | false ↦ r ]
 
 abbrev pub late_answer : EmitAnswer → EmitAnswer
-late_answer (Done position loaded) = Done position loaded
-late_answer (Refused r position) = Refused (late_refusal r) position
+late_answer (Ok done) = Ok done
+late_answer (Err refused) = refused_at (late_refusal refused.refusal) refused.position
 
 -- ---- the whole line
 
@@ -136,11 +135,11 @@ lined p region o =
     }
 
 abbrev pub lined_by : Patching → (region : ℕ) → EmitOutcome → EmitAnswer → LineOutcome
-lined_by p region o (Done position loaded) = record { answer = Done position loaded; after = lined p region o }
-lined_by p region o (Refused r position) = record { answer = Refused r position; after = p }
+lined_by p region o (Ok done) = record { answer = Ok done; after = lined p region o }
+lined_by p region o (Err refused) = record { answer = Err refused; after = p }
 
 abbrev pub line_by : Job → LineGiven → Patching → Verdict → LineOutcome
-line_by job g p (Err r) = record { answer = Refused r g.position; after = p }
+line_by job g p (Err r) = record { answer = refused_at r g.position; after = p }
 line_by job g p (Ok tt) =
     let none = (emit_outcome job (none_call g p)).answer in
     let o = emit_outcome job (emit_call g p) in

@@ -19,7 +19,7 @@ use Rattle.build_outcome.specs.Build.{patch_verdict}
 use Rattle.binary_builder.specs.Steps.{most_pendings}
 use Rattle.binary_builder.proofs.OrderLaws.{order_count, order_pending, order_region, pendings_few}
 use Rattle.patching_outcome.specs.declared.PatchCounts.{PatchCounts}
-use Rattle.patching_outcome.specs.declared.StepAnswer.TheVariants.{Patched, Refused}
+use Rattle.patching_outcome.specs.declared.Progress.TheVariants.{Patched}
 use Rattle.patching_outcome.specs.Patching.{patching_of}
 use Rattle.patching_outcome.specs.Step.{now_at, put_back, next_by}
 use Rattle.patching_outcome.specs.Contract.{StepsTo}
@@ -104,18 +104,18 @@ module _ (job : Job) (labels : Table) (regions pending kept : List ℕ) (counts 
     pub next_stops : (r : Refusal) (v : Verdict) → v ≡ patch_stop job g q address → v ≡ Err r
         → (d : List ℕ) → d ≡ put_back (filled_regions regions counts) (filled_pendings pending counts) kept 0 (take counts.patches order) regions
         → (c : PatchCounts) → c ≡ now_at counts 0 2
-        → StepsTo (next_at job labels at) regions pending kept counts (Refused r) c d kept
+        → StepsTo (next_at job labels at) regions pending kept counts (Err r) c d kept
     next_stops r v e s d put c now breakpoints =
         let p = patching_of regions pending breakpoints kept counts in
         ap (next_by labels p at) (verdict v e ∙ s)
-        ∙ ap₂ (λ (x : List ℕ) (y : PatchCounts). record { answer = Refused r; after = patching_of x pending breakpoints kept y })
+        ∙ ap₂ (λ (x : List ℕ) (y : PatchCounts). record { answer = Err r; after = patching_of x pending breakpoints kept y })
         (sym (put ∙ ap (λ (l : List ℕ). put_back (filled_regions regions counts) (filled_pendings pending counts) kept 0 (take counts.patches l) regions) in_order)) (sym now)
 
   pub next_passes : (v : Verdict) → v ≡ patch_stop job g q address → v ≡ Ok tt
       → (d : List ℕ) → d ≡ write_word g q address regions
       → (k : List ℕ) → k ≡ append kept (4 * counts.patches) (part regions (g.start + q.offset) 4)
       → (c : PatchCounts) → c ≡ now_at counts (counts.patches + 1) counts.state
-      → StepsTo (next_at job labels at) regions pending kept counts (Patched (counts.patches + 1)) c d k
+      → StepsTo (next_at job labels at) regions pending kept counts (Ok (Patched (counts.patches + 1))) c d k
   next_passes v e s d written k stored c now breakpoints =
       let p = patching_of regions pending breakpoints kept counts in
       let d_is = written ∙ word regions in

@@ -16,11 +16,10 @@ use Rattle.breakpoints.specs.Breakpoints.{filled_layout}
 use Rattle.breakpoints.proofs.BreakpointsLaws.{filled_good}
 use Rattle.build_outcome.specs.Build.{patch_order, patches_verdict, entry_verdict, entry_address}
 use Rattle.patching_outcome.specs.declared.PatchCounts.{PatchCounts}
-use Rattle.patching_outcome.specs.declared.StepAnswer.{StepAnswer}
-use Rattle.patching_outcome.specs.declared.StepAnswer.TheVariants.{Ended, Refused}
+use Rattle.patching_outcome.specs.declared.Progress.TheVariants.{Ended}
 use Rattle.patching_outcome.specs.Patching.{patching_of, regions_layout, has_patched, pendings_layout, kept_layout}
 use Rattle.patching_outcome.proofs.LayoutLaws.{regions_good, pendings_are}
-use Rattle.patching_outcome.specs.Step.{step_layouts, step_checks, StepOutcome, now_at, running_step, ended_by, stopped_step, step_by, step_outcome}
+use Rattle.patching_outcome.specs.Step.{StepAnswer, step_layouts, step_checks, StepOutcome, now_at, running_step, ended_by, stopped_step, step_by, step_outcome}
 use Rattle.patching_outcome.specs.Contract.{StepsTo, StepIs}
 use Rattle.patching_step.specs.Steps.{filled_regions, filled_pendings, StepLists, InOrder, next_at, Stopped, LayoutsAre}
 
@@ -30,10 +29,10 @@ module _ (job : Job) (labels : Table) (entry : ℕ) (regions pending kept : List
   left_is b e = ap (λ (l : List ℕ). ltb counts.patches (length l)) (sym in_order) ∙ e
 
   pub run_ends : length order ≤ counts.patches → (c : PatchCounts) → c ≡ now_at counts counts.patches 1
-      → StepsTo (running_step job labels entry) regions pending kept counts (Ended entry) c regions kept
+      → StepsTo (running_step job labels entry) regions pending kept counts (Ok (Ended entry)) c regions kept
   run_ends h c e breakpoints =
       rw (left_is false (le-ltb counts.patches (length order) h), running_step)
-      (ap (λ (n : PatchCounts). record { answer = Ended entry; after = patching_of regions pending breakpoints kept n }) (sym e))
+      (ap (λ (n : PatchCounts). record { answer = Ok (Ended entry); after = patching_of regions pending breakpoints kept n }) (sym e))
 
   pub run_next : counts.patches < length order → (answer : StepAnswer) (c : PatchCounts) (d k : List ℕ)
       → StepsTo (next_at job labels (get_or order counts.patches 0)) regions pending kept counts answer c d k
@@ -44,7 +43,7 @@ module _ (job : Job) (labels : Table) (entry : ℕ) (regions pending kept : List
 
 -- ---- where it does not
 module _ (job : Job) (labels : Table) (entry : ℕ) (regions pending : List ℕ) (counts : PatchCounts) where
-  pub stop_ended : counts.state ≡ 1 → Stopped job labels entry regions pending counts (Ended entry)
+  pub stop_ended : counts.state ≡ 1 → Stopped job labels entry regions pending counts (Ok (Ended entry))
   stop_ended e breakpoints kept = rw (eq-eqb counts.state 1 e, stopped_step)
 
   pub stop_again : (counts.state ≡ 1 → ⊥) → (v : Verdict) → v ≡ patches_verdict job labels (filled_regions regions counts) (filled_pendings pending counts)
@@ -103,7 +102,7 @@ module _ (labels : Table) (entry regions pending kept : List ℕ) (counts : Patc
 
   -- ---- a whole step
   module _ (job : Job) where
-    pub step_refuses : (r : Refusal) → ChecksAre (Err r) → StepIs job labels entry regions pending kept counts (Refused r) counts regions kept
+    pub step_refuses : (r : Refusal) → ChecksAre (Err r) → StepIs job labels entry regions pending kept counts (Err r) counts regions kept
     unfolding step_outcome
     step_refuses r e breakpoints =
         ap (step_by job labels (entry_address labels entry (entry_of entry (places entry))) (patching_of regions pending breakpoints kept counts)) (e breakpoints)

@@ -1,5 +1,5 @@
 -- What the parts of a step are given, and what they promise. Assumes nothing.
-use Rattle.std.specs.Prelude.{ℕ, ◌*◌, ◌≤◌, List, ◌≡◌, length, take, None}
+use Rattle.std.specs.Prelude.{ℕ, ◌*◌, ◌≤◌, List, ◌≡◌, length, take, None, Err, Ok, Result}
 use Rattle.jobs.specs.declared.Job.{Job}
 use Rattle.record.specs.Records.{places}
 use Rattle.labels.specs.Labels.{Table}
@@ -7,11 +7,13 @@ use Rattle.regions.specs.Regions.{region_count}
 use Rattle.pending.specs.Pendings.{pending_layout}
 use Rattle.build_outcome.specs.Build.{patch_order, patch_verdict}
 use Rattle.patching_outcome.specs.declared.PatchCounts.{PatchCounts}
-use Rattle.patching_outcome.specs.declared.StepAnswer.{StepAnswer}
 use Rattle.patching_outcome.specs.Patching.{Patching, patching_of, regions_of, pendings_of}
-use Rattle.patching_outcome.specs.Step.{step_layouts, StepOutcome, next_by, stopped_step}
+use Rattle.patching_outcome.specs.Step.{StepAnswer, step_layouts, StepOutcome, next_by, stopped_step}
 use Rattle.patching_step.specs.Undo.{FilledRegions}
 use Rattle.refusal.specs.Verdicts.{Verdict}
+use Rattle.refusal.specs.declared.Refusal.{Refusal}
+use Rattle.patching_outcome.specs.declared.Stepped.{Stepped}
+use Rattle.patching_outcome.specs.Contract.{StepIs}
 
 abbrev pub filled_regions : List ℕ → PatchCounts → List ℕ
 filled_regions regions counts = take counts.regions regions
@@ -47,3 +49,13 @@ Stopped job labels entry regions pending counts answer =
 -- what the layouts of all lists come to; no layout reads the breakpoints
 abbrev pub LayoutsAre : Table → (entry regions pending kept : List ℕ) → PatchCounts → Verdict → Type 0
 LayoutsAre labels entry regions pending kept counts verdict = (breakpoints : List ℕ) → step_layouts labels entry (patching_of regions pending breakpoints kept counts) ≡ verdict
+
+-- the answer and the record that a refusal by a check leaves: the record is as it was
+abbrev pub answered : PatchCounts → Result Stepped Refusal → Stepped
+answered counts (Ok stepped) = stepped
+answered counts (Err r) = record { answer = Err r; counts = counts }
+
+-- a whole step, of which a check may have refused
+abbrev pub CheckedStep : Job → Table → (entry regions pending kept : List ℕ) → PatchCounts → Result Stepped Refusal → (regions_after kept_after : List ℕ) → Type 0
+CheckedStep job labels entry regions pending kept counts result regions_after kept_after =
+    let s = answered counts result in StepIs job labels entry regions pending kept counts s.answer s.counts regions_after kept_after

@@ -3,17 +3,18 @@
 
 ghost use Rattle.std.specs.Prelude.{◌≡◌, ◌≤◌, ◌<◌, length, take, get_or};
 ghost use Rattle.labels.specs.Labels.{table_of};
-ghost use Rattle.labels.specs.Lookup.{Indexed};
-ghost use Rattle.address_label.specs.Entries.{entry_layout};
 ghost use Rattle.binary_builder.specs.Steps.{most_pendings};
 ghost use Rattle.patching_outcome.specs.Step.{now_at, put_back, running_step};
 ghost use Rattle.patching_outcome.specs.Contract.{StepsTo, StepIs};
 ghost use Rattle.patching_step.specs.Undo.{back_at, PatchAt, FilledRegions, PatchesAt};
-ghost use Rattle.patching_step.specs.Steps.{ListsGood, StepLists, InOrder, next_at, Stopped, LayoutsAre};
+ghost use Rattle.patching_step.specs.Steps.{ListsGood, StepLists, InOrder, next_at, Stopped, LayoutsAre, CheckedStep};
 
+use binary_builder::Patches;
 use jobs::Job;
-use patching_outcome::{PatchCounts, StepAnswer, Stepped};
+use labels::LabelTable;
+use patching_outcome::{PatchCounts, Progress, StepAnswer, Stepped};
 use refusal::Refusal;
+use regions::Regions;
 
 // Puts four bytes back at the patch of the pending at `at`, if it ends within its region's data.
 fn put_back_one(regions: &mut [u8], fill: usize, pending: &[u8], at: usize, bytes: &[u8])
@@ -21,7 +22,7 @@ fn put_back_one(regions: &mut [u8], fill: usize, pending: &[u8], at: usize, byte
     ensures { regions.new ≡ back_at (take fill regions.old) pending.now bytes.now at regions.old }
 {
     let patch = pending::read_pending(pending, at);
-    let region = regions::region_at(&regions[..fill], patch.region);
+    let region = Regions::new(&regions[..fill]).region(patch.region);
     let end = patch.offset as usize + 4;
     if end > region.size {
         return;
@@ -60,19 +61,20 @@ fn now_at(counts: PatchCounts, patches: u32, state: u32) -> PatchCounts
 }
 
 // The next pending: 14, 15, 16, and then it is written and what stood there kept. Where it is refused, what was patched is put back.
+// kept: the lists and the record of counts go apart, here and in the calls above. A struct of them would hold two lists that are lent to be
+// written, and each contract would say besides which ones they still are.
 fn patch_next(
     job: Job,
-    labels: &[u8],
-    index: &[u16],
+    labels: &LabelTable<'_>,
     counts: PatchCounts,
     regions: &mut [u8],
     pending: &[u8],
     kept: &mut [u8],
     order: &[u16],
 ) -> Stepped
-    requires indexed { Indexed labels.now index.now × StepLists regions.old pending.now kept.old counts }
+    requires lists { StepLists regions.old pending.now kept.old counts }
     requires in_order { InOrder regions.old pending.now counts order.now × (counts.patches < length order.now) }
-    ensures { StepsTo (next_at job (table_of labels.now) (get_or order.now counts.patches 0)) regions.old pending.now
+    ensures { StepsTo (next_at job (table_of labels.now.list) (get_or order.now counts.patches 0)) regions.old pending.now
         kept.old counts result.answer result.counts regions.new kept.new }
 {
     let fill = counts.regions as usize;
@@ -80,14 +82,14 @@ fn patch_next(
     let done = counts.patches as usize;
     let list = &pending[..filled];
     let patch = pending::read_pending(list, record::widened(order[done]));
-    let region = regions::region_at(&regions[..fill], patch.region);
+    let region = Regions::new(&regions[..fill]).region(patch.region);
     let label = patch.label;
-    let address = patch::get_address(label, list, labels, index);
+    let address = patch::get_address(label, list, labels);
     match patch::check_pending(job, region, patch, address) {
         Err(refusal) => {
             put_back(regions, fill, list, &order[..done], &*kept);
             Stepped {
-                answer: StepAnswer::Refused(refusal),
+                answer: Err(refusal),
                 counts: now_at(counts, 0, 2),
             }
         }
@@ -96,7 +98,7 @@ fn patch_next(
             record::put_all(kept, 4 * done, &regions[slot..slot + 4]);
             patch::write_pending(regions, region, patch, address);
             Stepped {
-                answer: StepAnswer::Patched(counts.patches + 1),
+                answer: Ok(Progress::Patched(counts.patches + 1)),
                 counts: now_at(counts, counts.patches + 1, counts.state),
             }
         }
@@ -106,8 +108,7 @@ fn patch_next(
 // A step while patching runs: the next pending, or the end.
 fn running_step(
     job: Job,
-    labels: &[u8],
-    index: &[u16],
+    labels: &LabelTable<'_>,
     entry: u32,
     counts: PatchCounts,
     regions: &mut [u8],
@@ -115,105 +116,82 @@ fn running_step(
     kept: &mut [u8],
     order: &[u16],
 ) -> Stepped
-    requires { Indexed labels.now index.now × StepLists regions.old pending.now kept.old counts × InOrder regions.old pending.now counts order.now }
-    ensures { StepsTo (running_step job (table_of labels.now) entry) regions.old pending.now kept.old counts
+    requires { StepLists regions.old pending.now kept.old counts × InOrder regions.old pending.now counts order.now }
+    ensures { StepsTo (running_step job (table_of labels.now.list) entry) regions.old pending.now kept.old counts
         result.answer result.counts regions.new kept.new }
 {
     let done = counts.patches as usize;
     if done >= order.len() {
         return Stepped {
-            answer: StepAnswer::Ended(entry),
+            answer: Ok(Progress::Ended(entry)),
             counts: now_at(counts, counts.patches, 1),
         };
     }
-    patch_next(job, labels, index, counts, regions, pending, kept, order)
+    patch_next(job, labels, counts, regions, pending, kept, order)
 }
 
-// A step after patching has ended or was refused; `found` is scratch.
-fn stopped_step(
+// A step after patching has ended or was refused; the arrays are scratch.
+fn stopped_step<'a>(
     job: Job,
-    labels: &[u8],
-    index: &[u16],
+    labels: &LabelTable<'_>,
     entry: u32,
     counts: PatchCounts,
     regions: &[u8],
-    pending: &[u8],
-    order: &[u16],
-    found: &mut [u16],
+    pending: &'a [u8],
+    order: &'a mut [u16],
+    found: &'a mut [u16],
 ) -> StepAnswer
-    requires indexed { Indexed labels.now index.now × ListsGood regions.now pending.now counts × InOrder regions.now pending.now counts order.now }
-    requires most_pendings_in_bounds { most_pendings ≤ length found.old }
-    ensures { Stopped job (table_of labels.now) entry regions.now pending.now counts result }
+    requires lists { ListsGood regions.now pending.now counts }
+    requires most_pendings_in_bounds { (most_pendings ≤ length order.old) × (most_pendings ≤ length found.old) }
+    ensures { Stopped job (table_of labels.now.list) entry regions.now pending.now counts result }
 {
     if counts.state == 1 {
-        return StepAnswer::Ended(entry);
+        return Ok(Progress::Ended(entry));
     }
     let fill = counts.regions as usize;
     let filled = counts.pending as usize;
-    let list = &pending[..filled];
-    let n = order.len();
-    binary_builder::find_labels(labels, index, list, order, &mut *found);
-    match binary_builder::check_patches(job, labels, &regions[..fill], list, order, &found[..n]) {
-        Err(refusal) => StepAnswer::Refused(refusal),
-        Ok(()) => StepAnswer::Ended(entry),
-    }
+    let patches = Patches::new(labels, &pending[..filled], order, found);
+    patches.check(job, &regions[..fill])?;
+    Ok(Progress::Ended(entry))
 }
 
-// A step of lists whose labels have an index; `found` is scratch.
-fn step_indexed(
+// A step by a table of labels; `found` is scratch. Refusal 13 changes nothing.
+fn step_with(
     job: Job,
-    labels: &[u8],
-    index: &[u16],
+    labels: &LabelTable<'_>,
     entry: &[u8],
     counts: PatchCounts,
     regions: &mut [u8],
     pending: &[u8],
     kept: &mut [u8],
     found: &mut [u16],
-) -> Stepped
-    requires indexed { Indexed labels.now index.now × StepLists regions.old pending.now kept.old counts × (entry_layout entry.now ≡ None) }
+) -> Result<Stepped, Refusal>
     requires most_pendings_in_bounds { most_pendings ≤ length found.old }
-    requires layouts_are { LayoutsAre (table_of labels.now) entry.now regions.old pending.now kept.old counts (Ok tt) }
-    ensures { StepIs job (table_of labels.now) entry.now regions.old pending.now kept.old counts
-        result.answer result.counts regions.new kept.new }
+    requires layouts_are { LayoutsAre (table_of labels.now.list) entry.now regions.old pending.now kept.old counts (Ok tt) }
+    ensures { CheckedStep job (table_of labels.now.list) entry.now regions.old pending.now kept.old counts result regions.new kept.new }
 {
-    match binary_builder::find_entry(labels, index, entry) {
-        Err(refusal) => Stepped {
-            answer: StepAnswer::Refused(refusal),
+    // its contract says that no two labels share a name and an owner
+    let _ = labels.bytes();
+    let address = binary_builder::find_entry(labels, entry)?;
+    let mut order = [0u16; binary_builder::MOST_PENDINGS];
+    if counts.state == 0 {
+        let filled = counts.pending as usize;
+        let n = binary_builder::order_patches(&pending[..filled], &mut order, found);
+        return Ok(running_step(
+            job,
+            labels,
+            address,
             counts,
-        },
-        Ok(address) => {
-            let mut order = [0u16; binary_builder::MOST_PENDINGS];
-            let filled = counts.pending as usize;
-            let n = binary_builder::order_patches(&pending[..filled], &mut order, &mut *found);
-            if counts.state == 0 {
-                running_step(
-                    job,
-                    labels,
-                    index,
-                    address,
-                    counts,
-                    regions,
-                    pending,
-                    kept,
-                    &order[..n],
-                )
-            } else {
-                let answer = stopped_step(
-                    job,
-                    labels,
-                    index,
-                    address,
-                    counts,
-                    &*regions,
-                    pending,
-                    &order[..n],
-                    found,
-                );
-                Stepped { answer, counts }
-            }
-        }
+            regions,
+            pending,
+            kept,
+            &order[..n],
+        ));
     }
+    let answer = stopped_step(
+        job, labels, address, counts, &*regions, pending, &mut order, found,
+    );
+    Ok(Stepped { answer, counts })
 }
 
 // Refusal 1: the first list that breaks its layout.
@@ -232,13 +210,36 @@ fn check_layouts(
     let fill = counts.regions as usize;
     refusal::check_layout(2, patching_checks::check_regions(regions, fill))?;
     let filled = counts.pending as usize;
-    let count = regions::region_count(&regions[..fill]);
+    let count = Regions::new(&regions[..fill]).count();
     let patches = counts.patches as usize;
     refusal::check_layout(
         3,
         patching_checks::check_pendings(pending, filled, count, patches),
     )?;
     refusal::check_layout(4, patching_checks::check_kept(kept, &pending[..filled]))
+}
+
+// A step that its checks may refuse: refusals 1, 2 and 13 change nothing.
+fn checked_step(
+    job: Job,
+    labels: &[u8],
+    entry: &[u8],
+    counts: PatchCounts,
+    regions: &mut [u8],
+    pending: &[u8],
+    kept: &mut [u8],
+) -> Result<Stepped, Refusal>
+    ensures { CheckedStep job (table_of labels.now) entry.now regions.old pending.now kept.old counts result regions.new kept.new }
+{
+    check_layouts(labels, entry, counts, &*regions, pending, &*kept)?;
+    let mut order = [0u16; labels::MOST];
+    let mut spare = [0u16; labels::MOST];
+    let index = labels::make_index(labels, &mut order, &mut spare);
+    refusal::check_names(0, index.first_repeat())?;
+    let table = LabelTable::new(index);
+    step_with(
+        job, &table, entry, counts, regions, pending, kept, &mut spare,
+    )
 }
 
 // A step: it patches the next pending in patch order, ends where none is left, or refuses; a refusal 14 to 16 puts every patch back.
@@ -254,30 +255,11 @@ pub fn patch_step(
     ensures { StepIs job (table_of labels.now) entry.now regions.old pending.now kept.old counts
         result.answer result.counts regions.new kept.new }
 {
-    if let Err(refusal) = check_layouts(labels, entry, counts, &*regions, pending, &*kept) {
-        return Stepped {
-            answer: StepAnswer::Refused(refusal),
+    match checked_step(job, labels, entry, counts, regions, pending, kept) {
+        Ok(stepped) => stepped,
+        Err(refusal) => Stepped {
+            answer: Err(refusal),
             counts,
-        };
+        },
     }
-    let mut index = [0u16; labels::MOST];
-    let mut spare = [0u16; labels::MOST];
-    let n = labels::make_index(labels, &mut index, &mut spare);
-    if let Err(refusal) = refusal::check_names(0, labels::first_repeat(labels, &index[..n])) {
-        return Stepped {
-            answer: StepAnswer::Refused(refusal),
-            counts,
-        };
-    }
-    step_indexed(
-        job,
-        labels,
-        &index[..n],
-        entry,
-        counts,
-        regions,
-        pending,
-        kept,
-        &mut spare,
-    )
 }

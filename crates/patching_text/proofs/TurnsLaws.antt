@@ -1,25 +1,22 @@
 -- Laws of a script's turns: how long their texts are, and the text of a script from its next turn on. Assumes nothing.
-use Rattle.std.specs.Prelude.{ℕ, zero, suc, ◌+◌, ◌-◌, ◌*◌, ◌≤◌, ◌<◌, ◌≡◌, refl, Bool, true, false, ◌&&◌, List, [], ◌∷◌, ◌++◌, leb, ltb, eqb, length, drop, get_or}
+use Rattle.std.specs.Prelude.{ℕ, zero, suc, ◌+◌, ◌-◌, ◌*◌, ◌≤◌, ◌<◌, ◌≡◌, refl, Bool, true, false, ◌&&◌, List, [], ◌∷◌, ◌++◌, leb, ltb, eqb, length, drop, get_or, Err, Ok}
 use Rattle.std.proofs.Common.{arith, sym, ap, subst, ◌∙◌, append_assoc, length-append, ltb-true, ltb-false, lt-ltb, le-ltb, eq-eqb, ne_eqb}
 use Rattle.std.proofs.Math.Bool.{and-eq-true_iff}
 use Rattle.io.specs.Digits.{last_digits}
 use Rattle.jobs.specs.declared.Job.{Job}
 use Rattle.refusal.specs.Numbers.{numbered}
-use Rattle.record.proofs.StoresLaws.{append_none}
 use Rattle.pseudo_names.specs.PseudoNames.{bytes_of}
-use Rattle.emit_outcome.specs.declared.EmitAnswer.{EmitAnswer}
-use Rattle.emit_outcome.specs.declared.EmitAnswer.TheVariants.{Done, Refused as LineRefused}
+use Rattle.emit_outcome.specs.Answer.{EmitAnswer}
 use Rattle.patching_outcome.specs.declared.PatchCounts.{PatchCounts}
-use Rattle.patching_outcome.specs.declared.StepAnswer.{StepAnswer}
-use Rattle.patching_outcome.specs.declared.StepAnswer.TheVariants.{Patched, Ended, Refused}
+use Rattle.patching_outcome.specs.declared.Progress.TheVariants.{Patched, Ended}
 use Rattle.patching_outcome.specs.Patching.{Patching}
-use Rattle.patching_outcome.specs.Step.{StepOutcome, step_outcome}
+use Rattle.patching_outcome.specs.Step.{StepAnswer, StepOutcome, step_outcome}
 use Rattle.patching_outcome.specs.Line.{LineGiven, LineOutcome, line_outcome}
 use Rattle.patching_line.specs.Contract.{given_of}
 use Rattle.labels.specs.Labels.{table_of}
 use Rattle.input.specs.Input.{behind_lists, list_of, word_or_zero, half_or_zero}
-use Rattle.text.specs.Text.{Put, last_field, refused_line}
-use Rattle.text.proofs.TextLaws.{put_then, put_length, digits_length, last_most, refused_most}
+use Rattle.text.specs.Text.{last_field, refused_line}
+use Rattle.text.proofs.TextLaws.{digits_length, last_most, refused_most}
 use Rattle.line_text.specs.Line.{position_line, fills_line}
 use Rattle.line_text.proofs.LineLaws.{position_most, fills_most}
 use Rattle.patching_text.specs.Script.{step_text, line_text, state_text, fills_of, counts_text, end_text, Given, turn_byte, line_in, turned_by, step_turn, line_turn, turn_of, behind_turn, script_text, most_turns}
@@ -28,13 +25,13 @@ use Rattle.patching_text.specs.Turns.{Turns, goes_on}
 -- ---- lengths
 
 pub step_most : (a : StepAnswer) → length (step_text a) ≤ 144
-step_most (Patched n) = omega (arith, last_most n)
-step_most (Ended address) = omega (arith, length-append (bytes_of "ended " ++ last_digits 16 8 address) (bytes_of "\n"), length-append (bytes_of "ended ") (last_digits 16 8 address), digits_length 16 8 address)
-step_most (Refused r) = omega (arith, refused_most (numbered r))
+step_most (Ok (Patched n)) = omega (arith, last_most n)
+step_most (Ok (Ended address)) = omega (arith, length-append (bytes_of "ended " ++ last_digits 16 8 address) (bytes_of "\n"), length-append (bytes_of "ended ") (last_digits 16 8 address), digits_length 16 8 address)
+step_most (Err r) = omega (arith, refused_most (numbered r))
 
 pub line_most : (a : EmitAnswer) → length (line_text a) ≤ 144
-line_most (Done position loaded) = omega (arith, position_most position)
-line_most (LineRefused r position) = omega (arith, length-append (refused_line (numbered r)) (position_line position), refused_most (numbered r), position_most position)
+line_most (Ok done) = omega (arith, position_most done.position)
+line_most (Err refused) = omega (arith, length-append (refused_line (numbered refused.refusal)) (position_line refused.position), refused_most (numbered refused.refusal), position_most refused.position)
 
 pub state_most : (state : ℕ) → length (state_text state) ≤ 14
 state_most state = go (eqb state 0) (eqb state 1)
@@ -97,27 +94,27 @@ line_given descriptors s tokens mnemonic numbers position region t m n p g =
 
 -- ---- a turn made
 
-module _ {out : List ℕ} {at : ℕ} {out_after : List ℕ} {end : ℕ} where
+module _ {out out_after : List ℕ} where
   pub step_turns : (job : Job) (labels entry : List ℕ) (p : Patching) (a : StepAnswer) (q : Patching) → step_outcome job (table_of labels) entry p ≡ (record { answer = a; after = q })
-      → Put out at (step_text a) out_after end → Turns (step_turn job labels entry p) out at out_after end q
+      → out_after ≡ out ++ step_text a → Turns (step_turn job labels entry p) out out_after q
   unfolding step_turn
   step_turns job labels entry p a q e t =
-      subst (λ (o : StepOutcome). Turns (turned_by (step_text o.answer) o.after) out at out_after end q) (sym e) (record { put = t; short = step_most a; left = refl })
+      subst (λ (o : StepOutcome). Turns (turned_by (step_text o.answer) o.after) out out_after q) (sym e) (record { pushed = t; short = step_most a; left = refl })
 
   pub line_turns : (job : Job) (line line' : LineGiven) (p : Patching) (a : EmitAnswer) (q : Patching) → line' ≡ line → line_outcome job line' p ≡ (record { answer = a; after = q })
-      → Put out at (line_text a) out_after end → Turns (line_turn job line p) out at out_after end q
+      → out_after ≡ out ++ line_text a → Turns (line_turn job line p) out out_after q
   unfolding line_turn
   line_turns job line line' p a q same e t =
-      subst (λ (l : LineGiven). Turns (turned_by (line_text (line_outcome job l p).answer) (line_outcome job l p).after) out at out_after end q) same
-      (subst (λ (o : LineOutcome). Turns (turned_by (line_text o.answer) o.after) out at out_after end q) (sym e) (record { put = t; short = line_most a; left = refl }))
+      subst (λ (l : LineGiven). Turns (turned_by (line_text (line_outcome job l p).answer) (line_outcome job l p).after) out out_after q) same
+      (subst (λ (o : LineOutcome). Turns (turned_by (line_text o.answer) o.after) out out_after q) (sym e) (record { pushed = t; short = line_most a; left = refl }))
 
-  pub turn_step : (g : Given) (p : Patching) (s : List ℕ) (q : Patching) → turn_byte s ≡ 0 → Turns (step_turn g.job g.labels g.entry p) out at out_after end q
-      → Turns (turn_of g p s) out at out_after end q
+  pub turn_step : (g : Given) (p : Patching) (s : List ℕ) (q : Patching) → turn_byte s ≡ 0 → Turns (step_turn g.job g.labels g.entry p) out out_after q
+      → Turns (turn_of g p s) out out_after q
   unfolding turn_of
   turn_step g p s q e t = rw (eq-eqb (turn_byte s) 0 e, turn_of) t
 
   pub turn_line : (g : Given) (p : Patching) (s : List ℕ) (q : Patching) → (turn_byte s ≡ 0 → ⊥)
-      → Turns (line_turn g.job (line_in g.descriptors (drop 1 s)) p) out at out_after end q → Turns (turn_of g p s) out at out_after end q
+      → Turns (line_turn g.job (line_in g.descriptors (drop 1 s)) p) out out_after q → Turns (turn_of g p s) out out_after q
   unfolding turn_of
   turn_line g p s q e t = rw (ne_eqb (turn_byte s) 0 e, turn_of) t
 
@@ -147,52 +144,47 @@ module _ (g : Given) (p : Patching) (s : List ℕ) where
           let z : most_turns - turns ≡ 0 = omega arith in
           ap (λ (n : ℕ). script_text n g p s) z
 
--- ---- where the loop has come to: what is put is the front of the whole text
-pub record Here (whole out₀ : List ℕ) (g : Given) (p : Patching) (rest out : List ℕ) (end turns : ℕ) : Type 0 where
-  pub done : List ℕ
-  pub put : Put out₀ 0 done out end
+-- ---- where the loop has come to: what is printed is the front of the whole text
+pub record Here (whole : List ℕ) (g : Given) (p : Patching) (rest out : List ℕ) (turns : ℕ) : Type 0 where
   pub few : turns ≤ most_turns
-  pub short : end ≤ 144 * turns
-  pub left : whole ≡ done ++ script_text (most_turns - turns) g p rest
+  pub short : length out ≤ 144 * turns
+  pub left : whole ≡ out ++ script_text (most_turns - turns) g p rest
 
-pub here_first : (out : List ℕ) (g : Given) (p : Patching) (s : List ℕ) → Here (script_text most_turns g p s) out g p s out 0 0
-here_first out g p s = record {
-  done = [];
-  put = record { fits = omega arith; ends = refl; bytes = append_none out 0 };
-  few = omega arith;
-  short = omega arith;
-  left = refl;
-}
+pub here_first : (out : List ℕ) (g : Given) (p : Patching) (s : List ℕ) → out ≡ [] → Here (script_text most_turns g p s) g p s out 0
+here_first out g p s e =
+    let text = script_text most_turns g p s in
+    record {
+      few = omega arith;
+      short = omega (arith, ap length e);
+      left = ap (λ (l : List ℕ). l ++ text) (sym e);
+    }
 
-module _ {whole out₀ : List ℕ} {g : Given} {p : Patching} {rest out : List ℕ} {end turns : ℕ} (h : Here whole out₀ g p rest out end turns) where
+module _ {whole : List ℕ} {g : Given} {p : Patching} {rest out : List ℕ} {turns : ℕ} (h : Here whole g p rest out turns) where
   -- there is room for the lines of a turn and of the end
-  pub here_room : 1000000 ≤ length out₀ → (length out ≡ length out₀) × (end + 400000 ≤ length out)
-  here_room m = let l = put_length out₀ 0 h.done out end h.put in (l, omega (arith, h.few, h.short))
+  pub here_room : length out + 400000 ≤ 1195960
+  here_room = omega (arith, h.few, h.short)
 
   pub here_turn : goes_on turns rest ≡ true → (turns < most_turns) × (leb (turn_byte rest) 1 ≡ true)
   here_turn e = let b = (and-eq-true_iff (ltb turns most_turns) (leb (turn_byte rest) 1)).0 e in (ltb-true turns most_turns b.0, b.1)
 
-  pub here_next : goes_on turns rest ≡ true → (out_after : List ℕ) (end_after : ℕ) (p_after : Patching) → Turns (turn_of g p rest) out end out_after end_after p_after
-      → Here whole out₀ g p_after (behind_turn rest) out_after end_after (turns + 1)
-  here_next e out_after end_after p_after t =
+  pub here_next : goes_on turns rest ≡ true → (out_after : List ℕ) (p_after : Patching) → Turns (turn_of g p rest) out out_after p_after
+      → Here whole g p_after (behind_turn rest) out_after (turns + 1)
+  here_next e out_after p_after t =
       let b = here_turn e in
       let text = (turn_of g p rest).text in
+      let then = script_text (most_turns - (turns + 1)) g p_after (behind_turn rest) in
       let n : most_turns - turns ≡ suc (most_turns - (turns + 1)) = omega (arith, b.0) in
       record {
-        done = h.done ++ text;
-        put = put_then out₀ 0 h.done out end h.put text out_after end_after t.put;
         few = omega (arith, b.0);
-        short = omega (arith, t.put.ends, t.short, h.short);
+        short = omega (arith, ap length t.pushed, length-append out text, t.short, h.short);
         left =
             h.left
-            ∙ ap (λ (l : List ℕ). h.done ++ l)
+            ∙ ap (λ (l : List ℕ). out ++ l)
             (ap (λ (m : ℕ). script_text m g p rest) n ∙ script_next g p rest (most_turns - (turns + 1)) b.1 ∙ ap (λ (q : Patching). text ++ script_text (most_turns - (turns + 1)) g q (behind_turn rest)) t.left)
-            ∙ sym (append_assoc h.done text (script_text (most_turns - (turns + 1)) g p_after (behind_turn rest)));
+            ∙ sym (append_assoc out text then)
+            ∙ ap (λ (l : List ℕ). l ++ then) (sym t.pushed);
       }
 
-  pub here_last : goes_on turns rest ≡ false → (out_after : List ℕ) (end_after : ℕ) → Put out end (end_text p.counts p.regions p.pending p.breakpoints) out_after end_after
-      → Put out₀ 0 whole out_after end_after
-  here_last e out_after end_after q =
-      let last = end_text p.counts p.regions p.pending p.breakpoints in
-      rw (h.left ∙ ap (λ (l : List ℕ). h.done ++ l) (script_end g p rest turns e))
-      (put_then out₀ 0 h.done out end h.put last out_after end_after q)
+  pub here_last : goes_on turns rest ≡ false → (out_after : List ℕ) → out_after ≡ out ++ end_text p.counts p.regions p.pending p.breakpoints → out_after ≡ whole
+  here_last e out_after q =
+      q ∙ ap (λ (l : List ℕ). out ++ l) (sym (script_end g p rest turns e)) ∙ sym h.left

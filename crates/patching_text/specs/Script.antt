@@ -1,19 +1,17 @@
 -- What `patch_steps` prints (document 02, P12), as docs/DECISIONS.md has it. Assumes nothing.
-use Rattle.std.specs.Prelude.{ℕ, zero, suc, List, ◌++◌, true, false, leb, eqb, drop, get_or, replicate, None, Option, Some}
+use Rattle.std.specs.Prelude.{ℕ, zero, suc, List, ◌++◌, true, false, leb, eqb, drop, get_or, replicate, None, Option, Some, Err, Ok}
 use Rattle.io.specs.Digits.{last_digits}
 use Rattle.jobs.specs.declared.Job.{Job}
 use Rattle.record.specs.Bytes.{byte_at}
 use Rattle.pseudo_names.specs.PseudoNames.{bytes_of}
 use Rattle.refusal.specs.Numbers.{numbered}
 use Rattle.labels.specs.Labels.{table_of}
-use Rattle.emit_outcome.specs.declared.EmitAnswer.{EmitAnswer}
-use Rattle.emit_outcome.specs.declared.EmitAnswer.TheVariants.{Done, Refused as LineRefused}
+use Rattle.emit_outcome.specs.Answer.{EmitAnswer}
 use Rattle.emit_outcome.specs.declared.FillCounts.{FillCounts}
 use Rattle.patching_outcome.specs.declared.PatchCounts.{PatchCounts}
-use Rattle.patching_outcome.specs.declared.StepAnswer.{StepAnswer}
-use Rattle.patching_outcome.specs.declared.StepAnswer.TheVariants.{Patched, Ended, Refused}
+use Rattle.patching_outcome.specs.declared.Progress.TheVariants.{Patched, Ended}
 use Rattle.patching_outcome.specs.Patching.{Patching, patching_of}
-use Rattle.patching_outcome.specs.Step.{step_outcome}
+use Rattle.patching_outcome.specs.Step.{StepAnswer, step_outcome}
 use Rattle.patching_outcome.specs.Line.{LineGiven, line_outcome}
 use Rattle.patching_line.specs.Contract.{given_of}
 use Rattle.input.specs.Input.{word_or_zero, half_or_zero, behind_lists, list_of, held}
@@ -25,14 +23,14 @@ use Rattle.line_text.specs.Line.{position_line, fills_line, job_numbered}
 
 -- `patched` and how many so far, `ended` and the entry in eight digits, or the refusal
 abbrev pub step_text : StepAnswer → List ℕ
-step_text (Patched n) = bytes_of "patched" ++ last_field n
-step_text (Ended address) = bytes_of "ended " ++ last_digits 16 8 address ++ bytes_of "\n"
-step_text (Refused r) = refused_line (numbered r)
+step_text (Ok (Patched n)) = bytes_of "patched" ++ last_field n
+step_text (Ok (Ended address)) = bytes_of "ended " ++ last_digits 16 8 address ++ bytes_of "\n"
+step_text (Err r) = refused_line (numbered r)
 
 -- `accepted` or the refusal, and the position
 abbrev pub line_text : EmitAnswer → List ℕ
-line_text (Done position loaded) = bytes_of "accepted\n" ++ position_line position
-line_text (LineRefused r position) = refused_line (numbered r) ++ position_line position
+line_text (Ok done) = bytes_of "accepted\n" ++ position_line done.position
+line_text (Err refused) = refused_line (numbered refused.refusal) ++ position_line refused.position
 
 -- ---- the lines of the end
 

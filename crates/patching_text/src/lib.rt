@@ -1,33 +1,23 @@
 // What `patch_steps` does (document 02, P12), from the bytes that it reads to those that it prints: a script of steps and lines.
 #![tactic(auto)]
 
-ghost use Rattle.std.specs.Prelude.{◌≡◌, ◌+◌, ◌≤◌, length};
+ghost use Rattle.std.specs.Prelude.{◌≡◌, [], ◌+◌, ◌≤◌, length};
 ghost use Rattle.patching_outcome.specs.Patching.{patching_of};
-ghost use Rattle.text.specs.Text.{Put};
 ghost use Rattle.patching_text.specs.Script.{turn_byte, line_in, turn_of, behind_turn, script_given, most_turns, script_text, counts_in, lent_text, job_text, steps_text};
 ghost use Rattle.patching_text.specs.Turns.{Turns, StepTurns, LineTurns, goes_on};
 
 use jobs::Job;
 use patching_outcome::PatchCounts;
 use program::Program;
+use text::{MOST, Printed};
 
 mod lines;
 
 // A longer script ends here.
 const MOST_TURNS: usize = 4096;
 
-// Room for the lines of as many turns and for the end.
-pub const MOST: usize = 1_000_000;
-
 // Four bytes for each pending that a list may have.
 const KEPT: usize = 7_280;
-
-// The caller's record after a turn, and where its text ends.
-#[derive(Clone, Copy)]
-struct Turned {
-    counts: PatchCounts,
-    end: usize,
-}
 
 // The byte that says what the next turn is; 2 where the input ends.
 fn turn_byte(script: &[u8]) -> u8
@@ -50,10 +40,9 @@ fn behind_turn(script: &[u8]) -> &[u8]
     &numbers[start..]
 }
 
-// A step's line, and what it leaves.
+// A step's line, and the caller's record after it.
 fn do_step(
-    out: &mut [u8],
-    at: usize,
+    out: &mut Printed,
     job: Job,
     labels: &[u8],
     entry: &[u8],
@@ -61,22 +50,19 @@ fn do_step(
     regions: &mut [u8],
     pending: &[u8],
     kept: &mut [u8],
-) -> Turned
-    requires { at + 144 ≤ length out.old }
+) -> PatchCounts
+    requires { length out.old + 144 ≤ MOST }
     ensures { StepTurns job labels.now entry.now regions.old pending.now kept.old counts
-        out.old at out.new result.end result.counts regions.new kept.new }
+        out.old out.new result regions.new kept.new }
 {
     let stepped = patching_step::patch_step(job, labels, entry, counts, regions, pending, kept);
-    let answer = stepped.answer;
-    let counts = stepped.counts;
-    let end = lines::put_step(out, at, answer);
-    Turned { counts, end }
+    lines::put_step(out, stepped.answer);
+    stepped.counts
 }
 
-// The lines of a line, and what it leaves; `line` is the script behind the byte that says so.
+// The lines of a line, and the caller's record after it; `line` is the script behind the byte that says so.
 fn do_line(
-    out: &mut [u8],
-    at: usize,
+    out: &mut Printed,
     job: Job,
     descriptors: &[u8],
     line: &[u8],
@@ -84,10 +70,10 @@ fn do_line(
     regions: &mut [u8],
     pending: &mut [u8],
     breakpoints: &mut [u8],
-) -> Turned
-    requires { at + 144 ≤ length out.old }
+) -> PatchCounts
+    requires { length out.old + 144 ≤ MOST }
     ensures { LineTurns job (line_in descriptors.now line.now) regions.old pending.old breakpoints.old counts
-        out.old at out.new result.end result.counts regions.new pending.new breakpoints.new }
+        out.old out.new result regions.new pending.new breakpoints.new }
 {
     let numbers = input::behind_lists(line, 2);
     let lined = patching_line::patch_line(
@@ -102,16 +88,13 @@ fn do_line(
         input::word_or_zero(numbers, 0),
         input::half_or_zero(numbers, 4),
     );
-    let answer = lined.answer;
-    let counts = lined.counts;
-    let end = lines::put_line(out, at, answer);
-    Turned { counts, end }
+    lines::put_line(out, lined.answer);
+    lined.counts
 }
 
 // The next turn of a script.
 fn do_turn(
-    out: &mut [u8],
-    at: usize,
+    out: &mut Printed,
     job: Job,
     labels: &[u8],
     entry: &[u8],
@@ -122,21 +105,17 @@ fn do_turn(
     pending: &mut [u8],
     breakpoints: &mut [u8],
     kept: &mut [u8],
-) -> Turned
-    requires { (at + 144 ≤ length out.old) × (1 ≤ length script.now) }
+) -> PatchCounts
+    requires { (length out.old + 144 ≤ MOST) × (1 ≤ length script.now) }
     ensures { Turns (turn_of (script_given job labels.now entry.now descriptors.now)
         (patching_of regions.old pending.old breakpoints.old kept.old counts) script.now)
-        out.old at out.new result.end
-        (patching_of regions.new pending.new breakpoints.new kept.new result.counts) }
+        out.old out.new (patching_of regions.new pending.new breakpoints.new kept.new result) }
 {
     if script[0] == 0 {
-        return do_step(
-            out, at, job, labels, entry, counts, regions, &*pending, kept,
-        );
+        return do_step(out, job, labels, entry, counts, regions, &*pending, kept);
     }
     do_line(
         out,
-        at,
         job,
         descriptors,
         &script[1..],
@@ -160,7 +139,7 @@ fn goes_on(turns: usize, script: &[u8]) -> bool
 
 // All turns of a script and its end.
 fn put_script(
-    out: &mut [u8],
+    out: &mut Printed,
     job: Job,
     labels: &[u8],
     entry: &[u8],
@@ -171,20 +150,17 @@ fn put_script(
     pending: &mut [u8],
     breakpoints: &mut [u8],
     kept: &mut [u8],
-) -> usize
-    requires { (1000000 ≤ length out.old) × (length regions.old ≤ 65537) × (length pending.old ≤ 65537) × (length breakpoints.old ≤ 65537) }
-    ensures { Put out.old 0
-        (script_text most_turns (script_given job labels.now entry.now descriptors.now)
-        (patching_of regions.old pending.old breakpoints.old kept.old start) script.now) out.new result }
+)
+    requires { (out.old ≡ []) × (length regions.old ≤ 65537) × (length pending.old ≤ 65537) × (length breakpoints.old ≤ 65537) }
+    ensures { out.new ≡ script_text most_turns (script_given job labels.now entry.now descriptors.now)
+        (patching_of regions.old pending.old breakpoints.old kept.old start) script.now }
 {
     let mut counts = start;
     let mut rest = script;
-    let mut end = 0;
     let mut turns = 0;
     while goes_on(turns, rest) {
         let turned = do_turn(
             &mut *out,
-            end,
             job,
             labels,
             entry,
@@ -196,13 +172,12 @@ fn put_script(
             &mut *breakpoints,
             &mut *kept,
         );
-        counts = turned.counts;
-        end = turned.end;
+        counts = turned;
         let next = behind_turn(rest);
         rest = next;
         turns += 1;
     }
-    lines::put_end(out, end, counts, &*regions, &*pending, &*breakpoints)
+    lines::put_end(out, counts, &*regions, &*pending, &*breakpoints);
 }
 
 // The caller's record at the start, of the numbers behind the lists.
@@ -221,14 +196,14 @@ fn counts_in(numbers: &[u8]) -> PatchCounts
 // The script of an input whose lent buffers are these.
 fn put_lent(
     job: Job,
-    out: &mut [u8],
+    out: &mut Printed,
     input: &[u8],
     regions: &mut [u8],
     pending: &mut [u8],
     breakpoints: &mut [u8],
-) -> usize
-    requires { (1000000 ≤ length out.old) × (length regions.old ≤ 65537) × (length pending.old ≤ 65537) × (length breakpoints.old ≤ 65537) }
-    ensures { Put out.old 0 (lent_text job input.now regions.old pending.old breakpoints.old) out.new result }
+)
+    requires { (out.old ≡ []) × (length regions.old ≤ 65537) × (length pending.old ≤ 65537) × (length breakpoints.old ≤ 65537) }
+    ensures { out.new ≡ lent_text job input.now regions.old pending.old breakpoints.old }
 {
     let mut kept = [0u8; KEPT];
     let numbers = input::behind_lists(input, 6);
@@ -245,12 +220,13 @@ fn put_lent(
         pending,
         breakpoints,
         &mut kept,
-    )
+    );
 }
 
 // The text of an input's script in a job.
-fn put_job(job: Job, input: &[u8], out: &mut [u8; MOST]) -> usize
-    ensures { Put out.old 0 (job_text job input.now) out.new result }
+fn put_job(job: Job, input: &[u8], out: &mut Printed)
+    requires { out.old ≡ [] }
+    ensures { out.new ≡ job_text job input.now }
 {
     let mut regions = [0u8; record::LIMIT + 1];
     let mut pending = [0u8; record::LIMIT + 1];
@@ -265,25 +241,28 @@ fn put_job(job: Job, input: &[u8], out: &mut [u8; MOST]) -> usize
         &mut regions[..r],
         &mut pending[..p],
         &mut breakpoints[..b],
-    )
+    );
 }
 
 // The text that `patch_steps` prints for an input.
-pub fn patch_steps(input: &[u8], out: &mut [u8; MOST]) -> usize
-    ensures { Put out.old 0 (steps_text input.now) out.new result }
+pub fn patch_steps(input: &[u8], out: &mut Printed)
+    ensures { out.new ≡ steps_text input.now }
 {
     let numbers = input::behind_lists(input, 6);
+    out.clear();
     match line_text::job_numbered(input::byte_or_zero(numbers, 12)) {
         Some(job) => put_job(job, input, out),
-        None => text::put_text(out, 0, b"no such job\n"),
+        None => out.push(b"no such job\n"),
     }
 }
 
 // `patch_steps` as a program.
 pub struct PatchStepsText;
 
-impl Program<{ MOST }> for PatchStepsText {
-    fn print(&self, input: &[u8], out: &mut [u8; MOST]) -> usize {
-        patch_steps(input, out)
+impl Program for PatchStepsText {
+    ghost text_of = { steps_text };
+
+    fn print(&self, input: &[u8], out: &mut Printed) {
+        patch_steps(input, out);
     }
 }

@@ -1,94 +1,91 @@
-// The lines that `patch_steps` prints. Each function answers where its text ends.
-ghost use Rattle.std.specs.Prelude.{◌+◌, ◌≤◌, length};
-ghost use Rattle.text.specs.Text.{Put};
+// The lines that `patch_steps` prints.
+ghost use Rattle.std.specs.Prelude.{◌≡◌, ◌++◌, ◌+◌, ◌≤◌, length};
 ghost use Rattle.patching_text.specs.Script.{step_text, line_text, state_text, counts_text, end_text};
 
 use emit_outcome::{EmitAnswer, FillCounts};
-use patching_outcome::{PatchCounts, StepAnswer};
+use patching_outcome::{PatchCounts, Progress, StepAnswer};
+use text::{MOST, Printed};
 
 // The entry of patching that has ended.
-fn put_ended(out: &mut [u8], at: usize, address: u32) -> usize
-    requires { at + 144 ≤ length out.old }
-    ensures { Put out.old at (step_text (StepAnswer.Ended address)) out.new result }
+fn put_ended(out: &mut Printed, address: u32)
+    requires { length out.old + 144 ≤ MOST }
+    ensures { out.new ≡ out.old ++ step_text (Ok (Progress.Ended address)) }
 {
-    let address_at = text::put_text(&mut *out, at, b"ended ");
-    let end = text::put_hex(&mut *out, address_at, address, 8);
-    text::put_byte(out, end, b'\n')
+    out.push(b"ended ");
+    out.push_hex(address, 8);
+    out.push_byte(b'\n');
 }
 
-pub(crate) fn put_step(out: &mut [u8], at: usize, answer: StepAnswer) -> usize
-    requires { at + 144 ≤ length out.old }
-    ensures { Put out.old at (step_text answer) out.new result }
+#[tactic(auto, using(text::proofs::TextLaws::last_most, text::proofs::TextLaws::refused_most, std::proofs::lemmas::Grind::common_steps))]
+pub(crate) fn put_step(out: &mut Printed, answer: StepAnswer)
+    requires { length out.old + 144 ≤ MOST }
+    ensures { out.new ≡ out.old ++ step_text answer }
 {
     match answer {
-        StepAnswer::Patched(count) => text::put_number_line(out, at, b"patched", count as u64),
-        StepAnswer::Ended(address) => put_ended(out, at, address),
-        StepAnswer::Refused(refusal) => text::put_refusal(out, at, refusal::numbers(refusal)),
+        Ok(Progress::Patched(count)) => out.push_number_line(b"patched", count as u64),
+        Ok(Progress::Ended(address)) => put_ended(out, address),
+        Err(refusal) => out.push_refusal(refusal::numbers(refusal)),
     }
 }
 
-pub(crate) fn put_line(out: &mut [u8], at: usize, answer: EmitAnswer) -> usize
-    requires { at + 144 ≤ length out.old }
-    ensures { Put out.old at (line_text answer) out.new result }
+#[tactic(auto, using(text::proofs::TextLaws::last_most, text::proofs::TextLaws::refused_most, std::proofs::lemmas::Grind::common_steps))]
+pub(crate) fn put_line(out: &mut Printed, answer: EmitAnswer)
+    requires { length out.old + 144 ≤ MOST }
+    ensures { out.new ≡ out.old ++ line_text answer }
 {
     match answer {
-        EmitAnswer::Done {
-            position,
-            loaded: _,
-        } => {
-            let end = text::put_text(&mut *out, at, b"accepted\n");
-            text::put_number_line(out, end, b"position", position as u64)
+        Ok(done) => {
+            out.push(b"accepted\n");
+            out.push_number_line(b"position", done.position as u64);
         }
-        EmitAnswer::Refused(refusal, position) => {
-            let end = text::put_refusal(&mut *out, at, refusal::numbers(refusal));
-            text::put_number_line(out, end, b"position", position as u64)
+        Err(refused) => {
+            out.push_refusal(refusal::numbers(refused.refusal));
+            out.push_number_line(b"position", refused.position as u64);
         }
     }
 }
 
-fn put_state(out: &mut [u8], at: usize, state: u32) -> usize
-    requires { at + 14 ≤ length out.old }
-    ensures { Put out.old at (state_text state) out.new result }
+fn put_state(out: &mut Printed, state: u32)
+    requires { length out.old + 14 ≤ MOST }
+    ensures { out.new ≡ out.old ++ state_text state }
 {
-    if state == 0 {
-        return text::put_text(out, at, b"state running\n");
+    match state {
+        0 => out.push(b"state running\n"),
+        1 => out.push(b"state ended\n"),
+        _ => out.push(b"state refused\n"),
     }
-    if state == 1 {
-        return text::put_text(out, at, b"state ended\n");
-    }
-    text::put_text(out, at, b"state refused\n")
 }
 
 // The caller's record.
-fn put_counts(out: &mut [u8], at: usize, counts: PatchCounts) -> usize
-    requires { at + 112 ≤ length out.old }
-    ensures { Put out.old at (counts_text counts) out.new result }
+#[tactic(auto, using(crate::proofs::TurnsLaws::state_most, line_text::proofs::LineLaws::fills_most, text::proofs::TextLaws::last_most, std::proofs::lemmas::Grind::common_steps), unfolding(crate::specs::Script::counts_text))]
+fn put_counts(out: &mut Printed, counts: PatchCounts)
+    requires { length out.old + 112 ≤ MOST }
+    ensures { out.new ≡ out.old ++ counts_text counts }
 {
-    let fills_at = put_state(&mut *out, at, counts.state);
     let fills = FillCounts {
         data_len: counts.regions,
         pending: counts.pending,
         breakpoints: counts.breakpoints,
     };
-    let patches_at = line_text::lines::put_fills(&mut *out, fills_at, fills);
-    text::put_number_line(out, patches_at, b"patches", counts.patches as u64)
+    put_state(&mut *out, counts.state);
+    line_text::lines::put_fills(&mut *out, fills);
+    out.push_number_line(b"patches", counts.patches as u64);
 }
 
 // What is printed behind the turns.
+#[tactic(auto, using(crate::proofs::TurnsLaws::counts_most, bytes_line::proofs::BytesLineLaws::bytes_length, std::proofs::lemmas::Grind::common_steps), unfolding(crate::specs::Script::end_text))]
 pub(crate) fn put_end(
-    out: &mut [u8],
-    at: usize,
+    out: &mut Printed,
     counts: PatchCounts,
     regions: &[u8],
     pending: &[u8],
     breakpoints: &[u8],
-) -> usize
-    requires { (at + 400000 ≤ length out.old) × (length regions.now ≤ 65537) × (length pending.now ≤ 65537) × (length breakpoints.now ≤ 65537) }
-    ensures { Put out.old at
-        (end_text counts regions.now pending.now breakpoints.now) out.new result }
+)
+    requires { (length out.old + 400000 ≤ MOST) × (length regions.now ≤ 65537) × (length pending.now ≤ 65537) × (length breakpoints.now ≤ 65537) }
+    ensures { out.new ≡ out.old ++ end_text counts regions.now pending.now breakpoints.now }
 {
-    let regions_at = put_counts(&mut *out, at, counts);
-    let pending_at = bytes_line::put_bytes(&mut *out, regions_at, b"regions ", regions);
-    let breakpoints_at = bytes_line::put_bytes(&mut *out, pending_at, b"pending ", pending);
-    bytes_line::put_bytes(out, breakpoints_at, b"breakpoints ", breakpoints)
+    put_counts(&mut *out, counts);
+    bytes_line::push_bytes(&mut *out, b"regions ", regions);
+    bytes_line::push_bytes(&mut *out, b"pending ", pending);
+    bytes_line::push_bytes(out, b"breakpoints ", breakpoints);
 }

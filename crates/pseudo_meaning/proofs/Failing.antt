@@ -42,10 +42,9 @@ use Rattle.machine.specs.Instructions.{table, instruction_of}
 use Rattle.machine.specs.Effects.{effect_of}
 use Rattle.machine.specs.Step.{step_word}
 use Rattle.dry_run_outcome.specs.declared.DryRun.{DryRun}
-use Rattle.dry_run_outcome.specs.declared.RunAnswer.TheVariants.{Stopped}
 use Rattle.dry_run_outcome.specs.Fetch.{fetch}
 use Rattle.dry_run_outcome.specs.Run.{step, run}
-use Rattle.dry_run_outcome.specs.DryRun.{dry_run_outcome}
+use Rattle.dry_run_outcome.specs.DryRun.{stopped, dry_run_outcome}
 use Rattle.routine.specs.CallValues.{call_pairs}
 use Rattle.pseudo_meaning.specs.Meaning.{line_run}
 use Rattle.pseudo_meaning.specs.LinesAlone.{alone, holding, to_ten, into_t2}
@@ -59,7 +58,7 @@ set_run job name m = line_run (alone job name into_t2 []) m
 
 -- the machine at which it stops for a word, and after how many steps
 abbrev stops_at : Machine → (steps : ℕ) → DryRun
-stops_at m steps = record { machine = m; answer = Stopped Word steps }
+stops_at m steps = record { machine = m; answer = stopped Word steps }
 
 abbrev begin : Machine
 begin = holding 0 0 7 0x00400000

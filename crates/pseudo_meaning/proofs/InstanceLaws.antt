@@ -14,7 +14,7 @@ use Rattle.pseudo_names.specs.declared.Pseudo.{Pseudo}
 use Rattle.pseudo_names.specs.declared.Pseudo.TheVariants.{Abs, BranchCustom, SetCustom}
 use Rattle.emit_dispatch.specs.Wants.{pseudo_wants}
 use Rattle.emit_outcome.specs.Emit.{start_of}
-use Rattle.emit_outcome.specs.declared.EmitAnswer.TheVariants.{Done}
+use Rattle.emit_outcome.specs.Answer.{done_at}
 use Rattle.emit_outcome.specs.declared.Meaning.TheVariants.{Builtin}
 use Rattle.loading.specs.declared.LoadForm.{LoadForm}
 use Rattle.loading.specs.declared.LoadForm.TheVariants.{Nothing, Ori}
@@ -81,7 +81,7 @@ abs_operands = (Temporary2, Temporary0, tt)
 
 -- a line that is the whole of region 0, in a build of one region whose patches are all its own
 pub record Evaluated (site : LineInBuild) (p : Pseudo) (x : AskedAll (pseudo_wants p)) (position : ℕ) (loaded : LoadForm) (words : ℕ) : Type 0 where
-  pub accepted : (emit_outcome site.job site.call).answer ≡ Done position loaded
+  pub accepted : (emit_outcome site.job site.call).answer ≡ done_at position loaded
   pub means : meaning site.call.descriptors (mnemonic_name site.call.mnemonic) ≡ Builtin p
   pub operands_are : (read_operands (pseudo_wants p) (tokens site.call.token_list) (start_of site.call)).answer ≡ Got x
   pub built : build_verdict site.build site.labels site.entry site.regions site.pending ≡ Ok tt

@@ -19,7 +19,7 @@ use Rattle.emit_dispatch.specs.Wants.{pseudo_wants}
 use Rattle.emit_outcome.specs.Call.{Call}
 use Rattle.emit_outcome.specs.Dispatch.{meaning}
 use Rattle.emit_outcome.specs.Emit.{start_of, emit_outcome}
-use Rattle.emit_outcome.specs.declared.EmitAnswer.TheVariants.{Done}
+use Rattle.emit_outcome.specs.Answer.{done_at}
 use Rattle.emit_outcome.specs.declared.Meaning.TheVariants.{Builtin}
 use Rattle.finished_words.specs.Listed.{In}
 use Rattle.routine.specs.PatchValues.{patch_at}
@@ -30,7 +30,7 @@ use Rattle.routine.specs.CallValues.{call_pairs, call_patches}
 pub record Emitted (job : Job) (c : Call) (p : Pseudo) (x : AskedAll (pseudo_wants p)) : Type 0 where
   pub position : ℕ
   pub loaded : LoadForm
-  pub accepted : (emit_outcome job c).answer ≡ Done position loaded
+  pub accepted : (emit_outcome job c).answer ≡ done_at position loaded
   pub means : meaning c.descriptors (mnemonic_name c.mnemonic) ≡ Builtin p
   pub operands_are : (read_operands (pseudo_wants p) (tokens c.token_list) (start_of c)).answer ≡ Got x
 

@@ -17,8 +17,7 @@ use Rattle.machine.specs.Numbers.{signed, bit}
 use Rattle.machine.specs.declared.Machine.{Machine}
 use Rattle.machine.specs.declared.Reason.TheVariants.{Allowance}
 use Rattle.dry_run_outcome.specs.declared.DryRun.{DryRun}
-use Rattle.dry_run_outcome.specs.declared.RunAnswer.TheVariants.{Stopped}
-use Rattle.dry_run_outcome.specs.DryRun.{dry_run_outcome}
+use Rattle.dry_run_outcome.specs.DryRun.{stopped, dry_run_outcome}
 use Rattle.pseudo_meaning.specs.Comparisons.{compares}
 use Rattle.pseudo_meaning.specs.Lines.{Emitted, LineInBuild, line_words, line_pc, after_pc}
 use Rattle.pseudo_meaning.specs.Premises.{finished_regions, Placed, Reached, FirstStays, Ready}
@@ -35,13 +34,13 @@ value_of m (Literal n) = low32 n
 -- "leave the pc at the destination where the comparison of 32-bit values holds and at the word after the line where it does not, changing
 -- only $at", after as many steps as allowed
 pub record Branches (holds : Bool) (dest behind steps : ℕ) (m : Machine) (o : DryRun) : Type 0 where
-  pub ran_all : o.answer ≡ Stopped Allowance steps
+  pub ran_all : o.answer ≡ stopped Allowance steps
   pub pc_is : o.machine.pc ≡ cond holds dest behind
   pub only_at : (r : ℕ) → (r ≡ at_number → ⊥) → read_register o.machine.registers r ≡ read_register m.registers r
 
 -- "leave 1 where they hold and else 0 in a destination register": v there, the pc behind the line, and no other register but $at changed
 pub record Leaves (v : ℕ) (d : RegisterSlot) (behind steps : ℕ) (m : Machine) (o : DryRun) : Type 0 where
-  pub ran_all : o.answer ≡ Stopped Allowance steps
+  pub ran_all : o.answer ≡ stopped Allowance steps
   pub pc_is : o.machine.pc ≡ behind
   pub result : held_by o.machine d ≡ v
   pub others : (r : ℕ) → (r ≡ register_number d → ⊥) → (r ≡ at_number → ⊥) → read_register o.machine.registers r ≡ read_register m.registers r

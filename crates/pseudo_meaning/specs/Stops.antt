@@ -11,14 +11,14 @@ use Rattle.patch.specs.Patches.{wrap32}
 use Rattle.machine.specs.declared.Machine.{Machine}
 use Rattle.machine.specs.declared.Reason.TheVariants.{Word}
 use Rattle.dry_run_outcome.specs.declared.DryRun.{DryRun}
-use Rattle.dry_run_outcome.specs.declared.RunAnswer.TheVariants.{Stopped}
+use Rattle.dry_run_outcome.specs.DryRun.{stopped}
 use Rattle.pseudo_meaning.specs.Lines.{Emitted, LineInBuild, line_pc}
 use Rattle.pseudo_meaning.specs.Premises.{Placed, Ready}
 use Rattle.pseudo_meaning.specs.Meaning.{line_run}
 
 -- it stops at a word, after so many steps from pc, each to the next word
 pub record StopsAfter (steps pc : ℕ) (o : DryRun) : Type 0 where
-  pub answer_is : o.answer ≡ Stopped Word steps
+  pub answer_is : o.answer ≡ stopped Word steps
   pub pc_is : o.machine.pc ≡ wrap32 (pc + 4 * steps)
 
 -- how many words load the second of the two compared values: none where it is a register

@@ -1,5 +1,6 @@
 -- Laws of checks one after the other: what passes. Assumes nothing.
 use Rattle.std.specs.Prelude.{ℕ, ◌≡◌, refl, Err, None, Ok, Option, Some}
+use Rattle.std.proofs.Common.{sym, ap, ◌∙◌}
 use Rattle.refusal.specs.Verdicts.{and_then, layout_verdict, name_verdict, Verdict}
 
 pub both_pass : (a b : Verdict) → and_then a b ≡ Ok tt → (a ≡ Ok tt) × (b ≡ Ok tt)
@@ -13,3 +14,7 @@ layout_pass n (Some p) e = cc
 pub name_pass : (n : ℕ) (r : Option ℕ) → name_verdict n r ≡ Ok tt → r ≡ None
 name_pass n None e = refl
 name_pass n (Some p) e = cc
+
+-- a list's verdict is what its check gave
+pub verdict : (of : Option ℕ → Verdict) {bad found : Option ℕ} {v : Verdict} → bad ≡ found → v ≡ of bad → of found ≡ v
+verdict of e f = ap of (sym e) ∙ sym f

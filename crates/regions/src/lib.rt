@@ -2,7 +2,11 @@
 #![tactic(auto)]
 
 ghost use Rattle.std.specs.Prelude.{◌≡◌, ◌≤◌, ◌<◌, length};
+ghost use Rattle.record.specs.Records.{places};
+ghost use Rattle.record.specs.Left.{places_left};
 ghost use Rattle.regions.specs.Regions.{region_ok, region_layout, region_count, region_place, region_at};
+
+use std::marker::Model;
 
 // The record kind.
 const REGION: usize = 35;
@@ -16,6 +20,72 @@ pub struct Region {
     pub address: u32,
     pub start: usize,
     pub size: usize,
+}
+
+// A region list that keeps its layout.
+#[derive(Drop)]
+pub struct Regions<'a> {
+    bytes: &'a [u8],
+}
+
+impl<'a> Model for Regions<'a> {
+    ghost use Rattle.std.specs.Prelude.{◌≡◌, ℕ, List, None};
+    ghost use Rattle.regions.specs.Regions.{region_layout};
+
+    ghost Value = { List ℕ };
+
+    ghost view = { λ list. list.bytes.now };
+
+    ghost invariant = { λ list. region_layout list.bytes.now ≡ None };
+}
+
+impl<'a> Regions<'a> {
+    pub fn new(bytes: &'a [u8]) -> Self
+        requires { region_layout bytes.now ≡ None }
+        ensures { result ≡ bytes.now }
+    {
+        Regions { bytes }
+    }
+
+    pub fn bytes(&self) -> &'a [u8]
+        ensures value { result.now ≡ self.now }
+        ensures layout { region_layout self.now ≡ None }
+    {
+        self.bytes
+    }
+
+    // The places of its records, in order.
+    pub fn places(&self) -> record::Iter<'a>
+        ensures value { places_left result ≡ places self.now }
+        ensures layout { region_layout self.now ≡ None }
+    {
+        record::places(self.bytes)
+    }
+
+    pub fn count(&self) -> usize
+        ensures { (result ≡ region_count self.now) × (result ≤ 16) }
+    {
+        record::places(self.bytes).count()
+    }
+
+    // The region of that number.
+    pub fn region(&self, number: usize) -> Region
+        requires { number < region_count self.now }
+        ensures { result ≡ region_at self.now (region_place self.now number) }
+    {
+        let list = self.bytes;
+        let mut at = 0;
+        for _ in 0..number {
+            at = record::next(list, at);
+        }
+        let address = record::word_at(list, at + 4);
+        let size = record::half_at(list, at) - 4;
+        Region {
+            address,
+            start: at + 8,
+            size,
+        }
+    }
 }
 
 // Whether the record at `at` is a region.
@@ -45,30 +115,4 @@ pub fn first_bad_region(regions: &[u8]) -> Option<usize>
         }
     }
     None
-}
-
-pub fn region_count(regions: &[u8]) -> usize
-    requires { region_layout regions.now ≡ None }
-    ensures { (result ≡ region_count regions.now) × (result ≤ 16) }
-{
-    record::places(regions).count()
-}
-
-// The region of that number.
-pub fn region_at(regions: &[u8], number: usize) -> Region
-    requires regions_value { region_layout regions.now ≡ None }
-    requires number_bound { number < region_count regions.now }
-    ensures { result ≡ region_at regions.now (region_place regions.now number) }
-{
-    let mut at = 0;
-    for _ in 0..number {
-        at = record::next(regions, at);
-    }
-    let address = record::word_at(regions, at + 4);
-    let size = record::half_at(regions, at) - 4;
-    Region {
-        address,
-        start: at + 8,
-        size,
-    }
 }

@@ -2,6 +2,7 @@
 #![tactic(auto)]
 
 ghost use Rattle.std.specs.Prelude.{◌≡◌, true, [], ◌+◌, ◌*◌, ◌<◌, ◌≤◌, length, get_or};
+ghost use Rattle.std.proofs.Props.{props};
 ghost use Rattle.record.specs.Bytes.{all};
 ghost use Rattle.byte_class.specs.Class.{word_byte};
 ghost use Rattle.register_names.specs.RegisterNames.{names, place_of, register_named};
@@ -35,21 +36,58 @@ const NAMES: [u8; 384] = *b"\
     f16 f17 f18 f19 f20 f21 f22 f23 \
     f24 f25 f26 f27 f28 f29 f30 f31 ";
 
-// The table as a value: a constant is made anew wherever it stands, so whoever reads a text takes it once.
-pub fn all_names() -> [u8; 384]
-    ensures { result ≡ padded_names }
-{
-    NAMES
+// The table as a value: a constant is made anew wherever it stands, so whoever reads a text makes one and lends it.
+#[derive(Clone, Copy)]
+pub struct RegisterNames {
+    table: [u8; 384],
+    ghost of_names: { table ≡ padded_names } by { Prim.hlevel props },
 }
 
-// The four bytes of the name at that place of the table.
-fn key_at(list: &[u8; 384], place: usize) -> u32
-    requires list_value { list.now ≡ padded_names }
-    requires place_bound { place < 96 }
-    ensures { result ≡ key_of (get_or names place []) }
-{
-    let at = 4 * place;
-    u32::from_le_bytes([list[at], list[at + 1], list[at + 2], list[at + 3]])
+impl RegisterNames {
+    pub fn new() -> Self {
+        RegisterNames { table: NAMES }
+    }
+
+    // The four bytes of the name at that place of the table.
+    fn key_at(&self, place: usize) -> u32
+        requires { place < 96 }
+        ensures { result ≡ key_of (get_or names place []) }
+    {
+        let at = 4 * place;
+        let table = &self.table;
+        u32::from_le_bytes([table[at], table[at + 1], table[at + 2], table[at + 3]])
+    }
+
+    // The name's place in the table, or the number of names.
+    fn place_of(&self, name: &[u8]) -> usize
+        requires { all word_byte name.now ≡ true }
+        ensures { result ≡ place_of name.now names }
+    {
+        if WIDTH < name.len() {
+            return COUNT;
+        }
+        let key = key_of(name);
+        for place in 0..COUNT {
+            if self.key_at(place) == key {
+                return place;
+            }
+        }
+        COUNT
+    }
+
+    // The register of a name of letters and digits.
+    pub fn register_named(&self, name: &[u8]) -> Option<NamedRegister>
+        requires { all word_byte name.now ≡ true }
+        ensures { result ≡ register_named name.now }
+    {
+        let place = self.place_of(name);
+        match place {
+            0..=31 => Some(NamedRegister::General(RegisterSlot::from(place as u8))),
+            32..=63 => Some(NamedRegister::General(RegisterSlot::from((place - 32) as u8))),
+            64..=95 => Some(NamedRegister::Float(FPRegisterSlot::from((place - 64) as u8))),
+            _ => None,
+        }
+    }
 }
 
 fn byte_or_blank(name: &[u8], i: usize) -> u8
@@ -68,37 +106,4 @@ fn key_of(name: &[u8]) -> u32
         byte_or_blank(name, 2),
         byte_or_blank(name, 3),
     ])
-}
-
-// The name's place in the table, or the number of names.
-fn place_of(list: &[u8; 384], name: &[u8]) -> usize
-    requires list_value { list.now ≡ padded_names }
-    requires name_value { all word_byte name.now ≡ true }
-    ensures { result ≡ place_of name.now names }
-{
-    if WIDTH < name.len() {
-        return COUNT;
-    }
-    let key = key_of(name);
-    for place in 0..COUNT {
-        if key_at(list, place) == key {
-            return place;
-        }
-    }
-    COUNT
-}
-
-// The register of a name of letters and digits.
-pub fn register_named(list: &[u8; 384], name: &[u8]) -> Option<NamedRegister>
-    requires list_value { list.now ≡ padded_names }
-    requires name_value { all word_byte name.now ≡ true }
-    ensures { result ≡ register_named name.now }
-{
-    let place = place_of(list, name);
-    match place {
-        0..=31 => Some(NamedRegister::General(RegisterSlot::from(place as u8))),
-        32..=63 => Some(NamedRegister::General(RegisterSlot::from((place - 32) as u8))),
-        64..=95 => Some(NamedRegister::Float(FPRegisterSlot::from((place - 64) as u8))),
-        _ => None,
-    }
 }

@@ -3,10 +3,12 @@
 // a model written from document 01.
 #![tactic(auto)]
 
+use text::Text;
+
 fn main() {
     let mut input = [0u8; replay_text::MOST];
-    let mut out = [0u8; replay_text::MOST_TEXT];
+    let mut out = Text::<{ replay_text::MOST_TEXT }>::new();
     let count = io::read_full(input::STDIN, &mut input);
-    let end = replay_text::replay(&input[..count], &mut out);
-    io::write_all(text::STDOUT, &out[..end]);
+    replay_text::replay(&input[..count], &mut out);
+    io::write_all(text::STDOUT, out.as_bytes());
 }

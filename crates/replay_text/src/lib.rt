@@ -2,19 +2,19 @@
 // give back is compared with what stands there. specs/Replay.antt says how the list of calls is made.
 #![tactic(auto)]
 
-ghost use Rattle.std.specs.Prelude.{◌≡◌, ◌&&◌, ◌+◌, ◌^◌, ◌≤◌, ◌<◌, length};
+ghost use Rattle.std.specs.Prelude.{◌≡◌, [], ◌&&◌, ◌^◌, ◌<◌};
 ghost use Rattle.record.specs.Bytes.{same_bytes};
 ghost use Rattle.emit_outcome.specs.Call.{lent_of};
 ghost use Rattle.input.specs.Input.{list_of};
-ghost use Rattle.text.specs.Text.{Put};
 ghost use Rattle.replay_text.specs.Replay.{built_met, build_met, emitted_met, line_met, call_met, counted, tally_of, tally_text, replay_text};
 
 use jobs::Job;
+use text::Text;
 
 // Room for the list of calls.
 pub const MOST: usize = 0x40_0000;
 
-// Room for three counts.
+// Room for three lines. The list is long, so a text of the most bytes of any program would not stand beside it on the stack.
 pub const MOST_TEXT: usize = 128;
 
 // How many calls differ, and the last that does, counted from 1.
@@ -143,31 +143,31 @@ fn tally_of(input: &[u8], builds: usize, calls: usize) -> Tally
     ensures { result ≡ tally_of builds calls input.now }
 {
     let mut tally = Tally { differ: 0, last: 0 };
-    let mut i = 0;
-    while i < calls {
+    for i in 0..calls {
         let met = is_met(input::list_of(input, i + 1), i < builds);
-        i += 1;
-        tally = with_call(tally, i as u64, met);
+        tally = with_call(tally, i as u64 + 1, met);
     }
     tally
 }
 
-fn put_tally(out: &mut [u8], calls: u64, tally: Tally) -> usize
-    requires { 128 ≤ length out.old }
-    ensures { Put out.old 0 (tally_text calls tally) out.new result }
+#[tactic(auto, using(text::proofs::TextLaws::last_most, std::proofs::lemmas::Grind::common_steps))]
+fn put_tally(out: &mut Text<MOST_TEXT>, calls: u64, tally: Tally)
+    requires { out.old ≡ [] }
+    ensures { out.new ≡ tally_text calls tally }
 {
-    let differ_at = text::put_number_line(&mut *out, 0, b"calls", calls);
-    let last_at = text::put_number_line(&mut *out, differ_at, b"differ", tally.differ);
-    text::put_number_line(out, last_at, b"last", tally.last)
+    out.push_number_line(b"calls", calls);
+    out.push_number_line(b"differ", tally.differ);
+    out.push_number_line(b"last", tally.last);
 }
 
 // The text that `replay` prints for an input.
-pub fn replay(input: &[u8], out: &mut [u8; MOST_TEXT]) -> usize
-    ensures { Put out.old 0 (replay_text input.now) out.new result }
+pub fn replay(input: &[u8], out: &mut Text<MOST_TEXT>)
+    ensures { out.new ≡ replay_text input.now }
 {
     let head = input::list_of(input, 0);
     let builds = input::word_or_zero(head, 0);
     let calls = input::word_or_zero(head, 4);
     let tally = tally_of(input, builds as usize, calls as usize);
-    put_tally(out, calls as u64, tally)
+    out.clear();
+    put_tally(out, calls as u64, tally);
 }

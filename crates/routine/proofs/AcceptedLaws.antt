@@ -9,15 +9,14 @@ use Rattle.lexer.specs.Tokens.{token_layout, tokens}
 use Rattle.descriptors.specs.Mnemonics.{mnemonic_layout, mnemonic_name, mnemonic_location}
 use Rattle.descriptors.specs.Descriptors.{descriptor_layout, descriptor_repeat, instruction_at}
 use Rattle.breakpoints.specs.Breakpoints.{data_buffer_layout, pending_buffer_layout, breakpoint_buffer_layout}
-use Rattle.emit_dispatch.specs.declared.LineAnswer.{LineAnswer}
-use Rattle.emit_dispatch.specs.declared.LineAnswer.TheVariants.{Made, Missed, OutOfRange}
+use Rattle.emit_dispatch.specs.LineAnswers.{LineAnswer, Made, Missed, OutOfRange}
 use Rattle.emit_dispatch.specs.Lines.{Line, pseudo_line}
 use Rattle.loading.specs.declared.LoadForm.{LoadForm}
 use Rattle.emit_outcome.specs.Call.{Call, EmitOutcome}
 use Rattle.emit_outcome.specs.Checks.{layout_stop, list_stop}
 use Rattle.emit_outcome.specs.Dispatch.{meaning, table_line}
 use Rattle.emit_outcome.specs.Emit.{accept, answer_stop, line_stop, accept_or, line_outcome, start_of, call_line, meaning_outcome, list_outcome, emit_outcome}
-use Rattle.emit_outcome.specs.declared.EmitAnswer.TheVariants.{Done}
+use Rattle.emit_outcome.specs.Answer.{done_at}
 use Rattle.emit_outcome.specs.declared.Meaning.{Meaning}
 use Rattle.emit_outcome.specs.declared.Meaning.TheVariants.{Table, Builtin, Neither}
 use Rattle.finished_words.specs.Listed.{Bytes}
@@ -73,14 +72,14 @@ module _ (c : Call) where
   answer_made made (Missed m) e = cc
   answer_made made (OutOfRange fault) e = cc
 
-  line_passes : (made : Line) (position : ℕ) (loaded : LoadForm) → (call_line c made).answer ≡ Done position loaded → LinePasses made
+  line_passes : (made : Line) (position : ℕ) (loaded : LoadForm) → (call_line c made).answer ≡ done_at position loaded → LinePasses made
   unfolding line_outcome
   line_passes made position loaded d = go (stop_of made) refl d
     where
       outcome : Verdict → EmitOutcome
       outcome = accept_or c.token_list (mnemonic_location c.mnemonic) c.numbers c.lent made
 
-      go : (v : Verdict) → stop_of made ≡ v → (outcome v).answer ≡ Done position loaded → LinePasses made
+      go : (v : Verdict) → stop_of made ≡ v → (outcome v).answer ≡ done_at position loaded → LinePasses made
       go (Ok tt) p d = record { made_is = answer_made made made.answer p; passes = p; outcome_is = ap outcome p }
       go (Err r) p d = let z : ◌≡◌ {A = ℕ} 0 1 = cc in absurd (omega arith)
 
@@ -96,7 +95,7 @@ module _ (job : Job) (c : Call) where
     pub outcome_is : emit_outcome job c ≡ accept_line c made
 
   module _ (position : ℕ) (loaded : LoadForm) (bytes : Bytes c.token_list) where
-    accepted_as : call_stop c ≡ Ok tt → (m : Meaning) → meaning c.descriptors (mnemonic_name c.mnemonic) ≡ m → (meaning_outcome job c m).answer ≡ Done position loaded → AcceptedCall
+    accepted_as : call_stop c ≡ Ok tt → (m : Meaning) → meaning c.descriptors (mnemonic_name c.mnemonic) ≡ m → (meaning_outcome job c m).answer ≡ done_at position loaded → AcceptedCall
     unfolding emit_outcome call_pairs table_line
     accepted_as s (Table p) e d =
         let ts = tokens c.token_list in
@@ -127,10 +126,10 @@ module _ (job : Job) (c : Call) where
         }
     accepted_as s Neither e d = let z : ◌≡◌ {A = ℕ} 0 1 = cc in absurd (omega arith)
 
-    pub accepted : (emit_outcome job c).answer ≡ Done position loaded → AcceptedCall
+    pub accepted : (emit_outcome job c).answer ≡ done_at position loaded → AcceptedCall
     unfolding emit_outcome
     accepted d = go (call_stop c) refl d
       where
-        go : (v : Verdict) → call_stop c ≡ v → (list_outcome job c v).answer ≡ Done position loaded → AcceptedCall
+        go : (v : Verdict) → call_stop c ≡ v → (list_outcome job c v).answer ≡ done_at position loaded → AcceptedCall
         go (Ok tt) s d = accepted_as s (meaning c.descriptors (mnemonic_name c.mnemonic)) refl d
         go (Err r) s d = let z : ◌≡◌ {A = ℕ} 0 1 = cc in absurd (omega arith)

@@ -9,7 +9,7 @@ use Rattle.emit_bytes.proofs.AppendedLaws.{pendings_length}
 use Rattle.emit_outcome.specs.Call.{Call, EmitOutcome}
 use Rattle.emit_outcome.specs.Emit.{emit_outcome}
 use Rattle.loading.specs.declared.LoadForm.{LoadForm}
-use Rattle.emit_outcome.specs.declared.EmitAnswer.TheVariants.{Done}
+use Rattle.emit_outcome.specs.Answer.{done_at}
 use Rattle.emit_outcome.specs.declared.FillCounts.{FillCounts}
 use Rattle.finished_words.specs.Listed.{Bytes}
 use Rattle.routine.specs.CallValues.{call_origin}
@@ -24,7 +24,7 @@ pub record Grows (before after : FillCounts) : Type 0 where
   -- head and location are 12 bytes, "then one 4-byte pc a word"
   pub breakpoints_most : after.breakpoints ≤ before.breakpoints + 32
 
-pub line_grows : (job : Job) (c : Call) (position : ℕ) (loaded : LoadForm) → Bytes c.token_list → (emit_outcome job c).answer ≡ Done position loaded → Grows c.numbers.counts (emit_outcome job c).counts
+pub line_grows : (job : Job) (c : Call) (position : ℕ) (loaded : LoadForm) → Bytes c.token_list → (emit_outcome job c).answer ≡ done_at position loaded → Grows c.numbers.counts (emit_outcome job c).counts
 line_grows job c position loaded bytes e =
     let a = accepted job c position loaded bytes e in
     let pairs = a.made.pairs in

@@ -9,7 +9,7 @@ use Rattle.emit_bytes.specs.Appended.{word_bytes}
 use Rattle.loading.specs.declared.LoadForm.{LoadForm}
 use Rattle.emit_outcome.specs.Call.{Lent, Call, EmitOutcome}
 use Rattle.emit_outcome.specs.Emit.{emit_outcome}
-use Rattle.emit_outcome.specs.declared.EmitAnswer.TheVariants.{Done}
+use Rattle.emit_outcome.specs.Answer.{done_at}
 use Rattle.emit_outcome.specs.declared.FillCounts.{FillCounts}
 use Rattle.finished_words.specs.Listed.{Bytes}
 use Rattle.routine.specs.PatchValues.{patches_in}
@@ -58,7 +58,7 @@ accept_fits job c a mnemonic = record {
   breakpoints_are = breakpoints_read job c a mnemonic;
 }
 
-pub line_fits : (job : Job) (c : Call) (position : ℕ) (loaded : LoadForm) → Bytes c.token_list → Bytes c.mnemonic → (emit_outcome job c).answer ≡ Done position loaded → LineFits job c (emit_outcome job c)
+pub line_fits : (job : Job) (c : Call) (position : ℕ) (loaded : LoadForm) → Bytes c.token_list → Bytes c.mnemonic → (emit_outcome job c).answer ≡ done_at position loaded → LineFits job c (emit_outcome job c)
 line_fits job c position loaded tokens mnemonic e =
     let a = accepted job c position loaded tokens e in
     subst (LineFits job c) (sym a.outcome_is) (accept_fits job c a mnemonic)

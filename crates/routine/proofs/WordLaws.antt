@@ -33,7 +33,7 @@ use Rattle.emit_dispatch.specs.Wants.{encoding_wants, pseudo_wants}
 use Rattle.loading.specs.declared.LoadForm.{LoadForm}
 use Rattle.emit_dispatch.proofs.LinesLaws.{within_made, then_within}
 use Rattle.emit_dispatch.specs.Lines.{encoding_pairs, pseudo_pairs, encoding_form, pseudo_form, encoding_range, kept_range, line_by, encoding_line, pseudo_line}
-use Rattle.emit_dispatch.specs.declared.LineAnswer.TheVariants.{Made}
+use Rattle.emit_dispatch.specs.LineAnswers.{Made}
 use Rattle.routine.proofs.TokenLaws.{TokenFits}
 use Rattle.routine.proofs.ReadLaws.{Of, OffsetFits, AllFit, operands_fit}
 use Rattle.emit_pairs.specs.declared.Fault.{Fault}

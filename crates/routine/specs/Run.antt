@@ -7,7 +7,7 @@ use Rattle.emit_bytes.specs.Appended.{word_bytes}
 use Rattle.loading.specs.declared.LoadForm.{LoadForm}
 use Rattle.emit_outcome.specs.Call.{Call, call_of, lent_of}
 use Rattle.emit_outcome.specs.Emit.{emit_outcome}
-use Rattle.emit_outcome.specs.declared.EmitAnswer.TheVariants.{Done}
+use Rattle.emit_outcome.specs.Answer.{done_at}
 use Rattle.emit_outcome.specs.declared.LinePlace.{LinePlace}
 use Rattle.finished_words.specs.Listed.{Bytes}
 use Rattle.routine.specs.PatchValues.{Patch}
@@ -69,7 +69,7 @@ run (l ∷ ls) b = run ls (after_line l b)
 pub data AllAccepted : List RoutineLine → Buffers → Type 0 where
   none : {b : Buffers} → AllAccepted [] b
   next : {l : RoutineLine} {ls : List RoutineLine} {b : Buffers} (position : ℕ) (loaded : LoadForm)
-      → (emit_outcome l.job (call_on l b)).answer ≡ Done position loaded → AllAccepted ls (after_line l b) → AllAccepted (l ∷ ls) b
+      → (emit_outcome l.job (call_on l b)).answer ≡ done_at position loaded → AllAccepted ls (after_line l b) → AllAccepted (l ∷ ls) b
 
 -- what holds of each of a list
 abbrev pub Each : {A : Type 0} → (A → Type 0) → List A → Type 0

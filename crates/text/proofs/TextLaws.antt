@@ -1,12 +1,12 @@
 -- Text put behind text, text put piece by piece, the digits of a number. Assumes nothing.
-use Rattle.std.specs.Prelude.{ℕ, zero, suc, ◌+◌, ◌-◌, ◌*◌, ◌/◌, ◌%◌, ◌^◌, ◌≤◌, ◌<◌, min, max, ◌≡◌, refl, List, [], ◌∷◌, ◌++◌, Bool, true, false, ltb, eqb, ℤ, pos, negsuc, length, drop, get_or}
+use Rattle.std.specs.Prelude.{ℕ, zero, suc, ◌+◌, ◌-◌, ◌*◌, ◌/◌, ◌%◌, ◌^◌, ◌≤◌, ◌<◌, min, max, ◌≡◌, refl, List, [], ◌∷◌, ◌++◌, Bool, true, false, ltb, eqb, ℤ, pos, negsuc, length, take, drop, get_or}
 use Rattle.std.proofs.Math.Nat.{one-le-pow, pow-le-pow_right}
 use Rattle.std.proofs.Common.{pow-suc, mod-eq_of_lt, add-one, arith, sym, ap, ◌∙◌, length-append, length-take, length-drop, drop_of_length-le, drop-cons, length-take-le, ltb-true, ltb-false, lt-ltb, le-ltb, eqb-true, ne_eqb}
 use Rattle.io.specs.Counts.{IsPrefixLen}
 use Rattle.io.specs.Digits.{hex_digit_ascii, last_digits, IsDigitCount}
 use Rattle.record.specs.Bytes.{le32}
 use Rattle.record.specs.Stores.{append}
-use Rattle.record.proofs.StoresLaws.{append_none, append_append, append_then}
+use Rattle.record.proofs.StoresLaws.{append_none, append_append, append_then, filled_append}
 use Rattle.refusal.specs.Split.{is_negative, size}
 use Rattle.refusal.specs.declared.Numbered.{Numbered}
 use Rattle.pseudo_names.specs.PseudoNames.{bytes_of}
@@ -39,6 +39,10 @@ module _ (d : List ℕ) (at : ℕ) (xs e : List ℕ) (m : ℕ) (p : Put d at xs 
         ends = omega (arith, q.ends, p.ends);
         bytes = append_then d at xs m ys p.bytes q.bytes (sym p.ends) (omega (arith, q.fits));
       }
+
+-- the buffer's text up to there, and the text put behind it
+pub put_taken : (d : List ℕ) (at : ℕ) (xs e : List ℕ) (m : ℕ) → Put d at xs e m → take m e ≡ take at d ++ xs
+put_taken d at xs e m p = rw (p.ends, p.bytes) (filled_append d at xs (omega (arith, p.fits)))
 
 -- the first of two texts that have room has room
 pub front_room : (at n : ℕ) (xs ys : List ℕ) → at + length (xs ++ ys) ≤ n → at + length xs ≤ n
@@ -135,6 +139,10 @@ decimal_most (suc most) n = go (ltb n 10) refl (decimal_most most (n / 10))
     go true e ih = rw (e, decimal_in) (omega arith)
     go false e ih = rw (e, decimal_in) (omega (arith, length-append (decimal_in most (n / 10)) (hex_digit_ascii (n % 10) ∷ [])))
 
+-- the digits that are made of a number are its text
+pub decimal_made : (n k : ℕ) (text : List ℕ) → n < 2 ^ 64 → IsDigitCount 10 1 n k → take k text ≡ last_digits 10 k n → take k text ≡ decimal n
+decimal_made n k text h f e = e ∙ sym (decimal_in_lem 20 n k (word_digits n k h f) f)
+
 -- ---- bytes in hexadecimal
 pub hex_length : (bs : List ℕ) → length (hex_bytes bs) ≡ 2 * length bs
 unfolding hex_bytes
@@ -150,6 +158,10 @@ unfolding hex_bytes
 hex_end bs i h = rw (drop_of_length-le bs h)
 
 -- ---- a word of an image
+pub text_whole : (bytes : List ℕ) → length bytes ≡ 4 → word_text bytes ≡ last_digits 16 8 (le32 bytes 0)
+unfolding word_text
+text_whole bytes h = rw (h, word_text)
+
 pub text_part : (bytes : List ℕ) → (length bytes ≡ 4 → ⊥) → word_text bytes ≡ hex_bytes bytes
 unfolding word_text
 text_part bytes h = rw (ne_eqb (length bytes) 4 h, word_text)

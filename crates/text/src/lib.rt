@@ -1,124 +1,188 @@
-// Text put into a lent buffer from `at` on: each function answers where its text ends. specs/Text.antt says what the texts are.
+// A text of bytes that is put together piece by piece, and the same pieces put into a lent buffer. specs/Text.antt says what the pieces are.
 #![tactic(auto)]
 
-ghost use Rattle.std.specs.Prelude.{[], ◌∷◌, ◌++◌, ◌+◌, ◌^◌, ◌≤◌, ◌<◌, length};
+ghost use Rattle.std.specs.Prelude.{◌≡◌, [], ◌∷◌, ◌++◌, ◌+◌, ◌^◌, ◌≤◌, ◌<◌, length};
 ghost use Rattle.io.specs.Digits.{last_digits};
-ghost use Rattle.text.specs.Text.{Put, decimal, field, last_field, signed_field, hex_bytes, location_fields, refused_line};
+ghost use Rattle.text.specs.Text.{decimal, field, last_field, signed_field, hex_bytes, word_text, location_fields, refused_line};
 
 use record::Location;
 use refusal::Numbered;
+use std::marker::Model;
 
-// Room for the longest text of a program.
-pub const MOST: usize = 400_000;
+mod lent;
+
+pub use lent::{put_byte, put_hex, put_hex_bytes, put_text};
+
+// Room for the longest text of a program: a page, and one byte more.
+pub const MOST: usize = 1_195_960;
+
+// The text that a program prints.
+pub type Printed = Text<MOST>;
 
 // The file descriptor of standard output.
 pub const STDOUT: i32 = 1;
 
-pub fn put_text(out: &mut [u8], at: usize, text: &[u8]) -> usize
-    requires { at + length text.now ≤ length out.old }
-    ensures { Put out.old at text.now out.new result }
-{
-    record::put_all(out, at, text);
-    at + text.len()
+// A text of at most N bytes.
+#[derive(Drop)]
+pub struct Text<const N: usize> {
+    bytes: [u8; N],
+    len: usize,
 }
 
-pub fn put_byte(out: &mut [u8], at: usize, byte: u8) -> usize
-    requires { at < length out.old }
-    ensures { Put out.old at (byte ∷ []) out.new result }
-{
-    out[at] = byte;
-    at + 1
+impl<const N: usize> Model for Text<N> {
+    ghost use Rattle.std.specs.Prelude.{List, ℕ, take, length, ◌≤◌};
+
+    ghost Value = { List ℕ };
+
+    ghost view = { λ t. take t.len t.bytes };
+
+    ghost invariant = { λ t. t.len ≤ length t.bytes };
 }
 
-// Lower-case hexadecimal digits, with zeros in front.
-pub fn put_hex(out: &mut [u8], at: usize, n: u32, width: usize) -> usize
-    requires width_nonzero { (0 < width) × (width ≤ 8) × (n < 16 ^ width) }
-    requires width_in_bounds { at + width ≤ length out.old }
-    ensures { Put out.old at (last_digits 16 width n) out.new result }
-{
-    let mut text = [0u8; 16];
-    let k = io::hex(n as u64, width, &mut text);
-    put_text(out, at, &text[..k])
-}
-
-// Two digits for each byte.
-pub fn put_hex_bytes(out: &mut [u8], at: usize, bytes: &[u8]) -> usize
-    requires { at + length (hex_bytes bytes.now) ≤ length out.old }
-    ensures { Put out.old at (hex_bytes bytes.now) out.new result }
-{
-    let mut end = at;
-    for &byte in bytes {
-        end = put_hex(&mut *out, end, byte as u32, 2);
+impl<const N: usize> Text<N> {
+    pub fn new() -> Self
+        ensures { result ≡ [] }
+    {
+        Text {
+            bytes: [0; N],
+            len: 0,
+        }
     }
-    end
-}
 
-fn put_decimal(out: &mut [u8], at: usize, n: u64) -> usize
-    requires { at + length (decimal n) ≤ length out.old }
-    ensures { Put out.old at (decimal n) out.new result }
-{
-    let mut text = [0u8; 20];
-    let k = io::decimal(n, &mut text);
-    put_text(out, at, &text[..k])
-}
-
-// A blank and a number.
-pub fn put_field(out: &mut [u8], at: usize, n: u64) -> usize
-    requires { at + length (field n) ≤ length out.old }
-    ensures { Put out.old at (field n) out.new result }
-{
-    let number_at = put_byte(&mut *out, at, b' ');
-    put_decimal(out, number_at, n)
-}
-
-// A line's last field, and the line's end.
-pub fn put_last_field(out: &mut [u8], at: usize, n: u64) -> usize
-    requires { at + length (last_field n) ≤ length out.old }
-    ensures { Put out.old at (last_field n) out.new result }
-{
-    let end = put_field(&mut *out, at, n);
-    put_byte(out, end, b'\n')
-}
-
-// A line of a name and a number.
-pub fn put_number_line(out: &mut [u8], at: usize, name: &[u8], n: u64) -> usize
-    requires { at + length (name.now ++ last_field n) ≤ length out.old }
-    ensures { Put out.old at (name.now ++ last_field n) out.new result }
-{
-    let number_at = put_text(&mut *out, at, name);
-    put_last_field(out, number_at, n)
-}
-
-// A blank and a number with its sign.
-fn put_signed_field(out: &mut [u8], at: usize, n: i64) -> usize
-    requires { at + length (signed_field n) ≤ length out.old }
-    ensures { Put out.old at (signed_field n) out.new result }
-{
-    let parts = refusal::split(n);
-    if !parts.negative {
-        return put_field(out, at, parts.size);
+    pub fn clear(&mut self)
+        ensures { self.new ≡ [] }
+    {
+        self.len = 0;
     }
-    let sign_at = put_byte(&mut *out, at, b' ');
-    let number_at = put_byte(&mut *out, sign_at, b'-');
-    put_decimal(out, number_at, parts.size + 1)
-}
 
-fn put_location(out: &mut [u8], at: usize, location: Location) -> usize
-    requires { at + length (location_fields location) ≤ length out.old }
-    ensures { Put out.old at (location_fields location) out.new result }
-{
-    let index_at = put_field(&mut *out, at, location.source as u64);
-    put_field(out, index_at, location.index as u64)
-}
+    pub fn as_bytes(&self) -> &[u8]
+        ensures { result.now ≡ self.now }
+    {
+        &self.bytes[..self.len]
+    }
 
-// "refused" and number, source, index, a, b.
-pub fn put_refusal(out: &mut [u8], at: usize, n: Numbered) -> usize
-    requires { at + length (refused_line n) ≤ length out.old }
-    ensures { Put out.old at (refused_line n) out.new result }
-{
-    let number_at = put_text(&mut *out, at, b"refused");
-    let location_at = put_field(&mut *out, number_at, n.number as u64);
-    let a_at = put_location(&mut *out, location_at, n.location);
-    let b_at = put_signed_field(&mut *out, a_at, n.a);
-    put_last_field(out, b_at, n.b as u64)
+    pub fn push(&mut self, text: &[u8])
+        requires { length self.old + length text.now ≤ N }
+        ensures { self.new ≡ self.old ++ text.now }
+    {
+        let end = self.len + text.len();
+        let room = &mut self.bytes[..];
+        room[self.len..end].copy_from_slice(text);
+        self.len = end;
+    }
+
+    pub fn push_byte(&mut self, byte: u8)
+        requires { length self.old < N }
+        ensures { self.new ≡ self.old ++ (byte ∷ []) }
+    {
+        self.bytes[self.len] = byte;
+        self.len += 1;
+    }
+
+    // Lower-case hexadecimal digits, with zeros in front.
+    #[tactic(auto, using(crate::proofs::TextLaws::put_taken))]
+    pub fn push_hex(&mut self, n: u32, width: usize)
+        requires width_nonzero { (0 < width) × (width ≤ 8) × (n < 16 ^ width) }
+        requires width_in_bounds { length self.old + width ≤ N }
+        ensures { self.new ≡ self.old ++ last_digits 16 width n }
+    {
+        let end = lent::put_hex(&mut self.bytes, self.len, n, width);
+        self.len = end;
+    }
+
+    // Two digits for each byte.
+    #[tactic(auto, using(crate::proofs::TextLaws::put_taken))]
+    pub fn push_hex_bytes(&mut self, bytes: &[u8])
+        requires { length self.old + length (hex_bytes bytes.now) ≤ N }
+        ensures { self.new ≡ self.old ++ hex_bytes bytes.now }
+    {
+        let end = lent::put_hex_bytes(&mut self.bytes, self.len, bytes);
+        self.len = end;
+    }
+
+    // A word of an image: the number's eight digits, or the bytes of a last part word in the order of memory.
+    #[tactic(auto, using(crate::proofs::TextLaws::text_whole, crate::proofs::TextLaws::text_part, crate::proofs::TextLaws::text_length))]
+    pub fn push_word(&mut self, bytes: &[u8])
+        requires { length self.old + length (word_text bytes.now) ≤ N }
+        ensures { self.new ≡ self.old ++ word_text bytes.now }
+    {
+        if bytes.len() == 4 {
+            self.push_hex(record::word_at(bytes, 0), 8);
+        } else {
+            self.push_hex_bytes(bytes);
+        }
+    }
+
+    #[tactic(auto, using(crate::proofs::TextLaws::decimal_made))]
+    fn push_decimal(&mut self, n: u64)
+        requires { length self.old + length (decimal n) ≤ N }
+        ensures { self.new ≡ self.old ++ decimal n }
+    {
+        let mut text = [0u8; 20];
+        let k = io::decimal(n, &mut text);
+        self.push(&text[..k]);
+    }
+
+    // A blank and a number.
+    pub fn push_field(&mut self, n: u64)
+        requires { length self.old + length (field n) ≤ N }
+        ensures { self.new ≡ self.old ++ field n }
+    {
+        self.push_byte(b' ');
+        self.push_decimal(n);
+    }
+
+    // A line's last field, and the line's end.
+    pub fn push_last_field(&mut self, n: u64)
+        requires { length self.old + length (last_field n) ≤ N }
+        ensures { self.new ≡ self.old ++ last_field n }
+    {
+        self.push_field(n);
+        self.push_byte(b'\n');
+    }
+
+    // A line of a name and a number.
+    pub fn push_number_line(&mut self, name: &[u8], n: u64)
+        requires { length self.old + length (name.now ++ last_field n) ≤ N }
+        ensures { self.new ≡ self.old ++ (name.now ++ last_field n) }
+    {
+        self.push(name);
+        self.push_last_field(n);
+    }
+
+    // A blank and a number with its sign.
+    #[tactic(auto, using(crate::proofs::TextLaws::signed_from, crate::proofs::TextLaws::signed_below, std::proofs::lemmas::Grind::common_steps))]
+    fn push_signed_field(&mut self, n: i64)
+        requires { length self.old + length (signed_field n) ≤ N }
+        ensures { self.new ≡ self.old ++ signed_field n }
+    {
+        let parts = refusal::split(n);
+        if !parts.negative {
+            self.push_field(parts.size);
+        } else {
+            self.push(b" -");
+            self.push_decimal(parts.size + 1);
+        }
+    }
+
+    fn push_location(&mut self, location: Location)
+        requires { length self.old + length (location_fields location) ≤ N }
+        ensures { self.new ≡ self.old ++ location_fields location }
+    {
+        self.push_field(location.source as u64);
+        self.push_field(location.index as u64);
+    }
+
+    // "refused" and number, source, index, a, b.
+    #[tactic(auto, using(crate::proofs::TextLaws::refused_length), unfolding(crate::specs::Text::refused_line))]
+    pub fn push_refusal(&mut self, n: Numbered)
+        requires { length self.old + length (refused_line n) ≤ N }
+        ensures { self.new ≡ self.old ++ refused_line n }
+    {
+        self.push(b"refused");
+        self.push_field(n.number as u64);
+        self.push_location(n.location);
+        self.push_signed_field(n.a);
+        self.push_last_field(n.b as u64);
+    }
 }

@@ -2,18 +2,40 @@
 #![tactic(auto)]
 
 ghost use Rattle.std.specs.Prelude.{◌≡◌, ◌+◌, ◌<◌, ◌≤◌, length, drop};
-ghost use Rattle.byte_class.specs.Letters.{letters};
-ghost use Rattle.register_names.specs.Padded.{padded_names};
 ghost use Rattle.text_runs.specs.Numbers.{number_in};
 ghost use Rattle.text_pieces.specs.Pieces.{line_ends, symbol_at, directive_at, parameter_at, comment_at, string_at, register_at};
 ghost use Rattle.text_pieces.specs.Pieces.{starts_hexadecimal, hexadecimal_piece, number_at, mark_at, piece_at};
 
-use byte_class::{Class, Mark};
+use byte_class::{ByteClasses, Class, Mark};
 use lexer::{Text, TokenKind};
-use register_names::NamedRegister;
+use register_names::{NamedRegister, RegisterNames};
 
 // The most bytes that a text may have.
 const LONGEST: usize = 64;
+
+// What a text is read with.
+#[derive(Clone, Copy)]
+pub struct Tables {
+    pub classes: ByteClasses,
+    pub names: RegisterNames,
+}
+
+impl Tables {
+    pub fn new() -> Self {
+        Tables {
+            classes: ByteClasses::new(),
+            names: RegisterNames::new(),
+        }
+    }
+}
+
+// A place of a text, before its end.
+#[derive(Clone, Copy)]
+pub struct Place<'a> {
+    pub text: &'a [u8],
+    pub at: usize,
+    pub ghost inside: { at < length text.now },
+}
 
 #[derive(Clone, Copy)]
 pub enum Piece {
@@ -27,38 +49,38 @@ pub enum Piece {
 
 // A symbol, a directive and a parameter are read alike. Kept as three: a helper called at three places would stay a call, and give its
 // 40 bytes back through memory (CONTRIBUTING.md, 'Speed').
-fn symbol_at(table: &[u8; 256], text: &[u8], at: usize) -> Piece
-    requires table_value { table.now ≡ letters }
-    requires at_in_bounds { at < length text.now }
-    ensures { result ≡ symbol_at text.now at }
+fn symbol_at(tables: &Tables, place: &Place<'_>) -> Piece
+    ensures { result ≡ symbol_at place.now.text.now place.now.at }
 {
-    let len = text_runs::word_len(table, &text[at..]);
+    let len = text_runs::word_len(&tables.classes, &place.text[place.at..]);
     if len > LONGEST {
         return Piece::BadToken;
     }
-    Piece::Token(TokenKind::Symbol(Text { start: at, len }), len)
+    Piece::Token(
+        TokenKind::Symbol(Text {
+            start: place.at,
+            len,
+        }),
+        len,
+    )
 }
 
-fn directive_at(table: &[u8; 256], text: &[u8], at: usize) -> Piece
-    requires table_value { table.now ≡ letters }
-    requires at_in_bounds { at < length text.now }
-    ensures { result ≡ directive_at text.now at }
+fn directive_at(tables: &Tables, place: &Place<'_>) -> Piece
+    ensures { result ≡ directive_at place.now.text.now place.now.at }
 {
-    let start = at + 1;
-    let len = text_runs::word_len(table, &text[start..]);
+    let start = place.at + 1;
+    let len = text_runs::word_len(&tables.classes, &place.text[start..]);
     if len > LONGEST {
         return Piece::BadToken;
     }
     Piece::Token(TokenKind::Directive(Text { start, len }), len + 1)
 }
 
-fn parameter_at(table: &[u8; 256], text: &[u8], at: usize) -> Piece
-    requires table_value { table.now ≡ letters }
-    requires at_in_bounds { at < length text.now }
-    ensures { result ≡ parameter_at text.now at }
+fn parameter_at(tables: &Tables, place: &Place<'_>) -> Piece
+    ensures { result ≡ parameter_at place.now.text.now place.now.at }
 {
-    let start = at + 1;
-    let len = text_runs::word_len(table, &text[start..]);
+    let start = place.at + 1;
+    let len = text_runs::word_len(&tables.classes, &place.text[start..]);
     if len == 0 || len > LONGEST {
         return Piece::BadToken;
     }
@@ -72,14 +94,13 @@ fn line_ends(text: &[u8], at: usize) -> bool
     at >= text.len() || text[at] == b'\n'
 }
 
-fn comment_at(text: &[u8], at: usize) -> Piece
-    requires { at < length text.now }
-    ensures { result ≡ comment_at text.now at }
+fn comment_at(place: &Place<'_>) -> Piece
+    ensures { result ≡ comment_at place.now.text.now place.now.at }
 {
-    let start = at + 1;
-    let len = text_runs::text_len(&text[start..], b'\n');
+    let start = place.at + 1;
+    let len = text_runs::text_len(&place.text[start..], b'\n');
     let end = start + len;
-    if !line_ends(text, end) {
+    if !line_ends(place.text, end) {
         return Piece::BadByte;
     }
     if len > LONGEST {
@@ -88,14 +109,13 @@ fn comment_at(text: &[u8], at: usize) -> Piece
     Piece::Token(TokenKind::Comment(Text { start, len }), len + 1)
 }
 
-fn string_at(text: &[u8], at: usize) -> Piece
-    requires { at < length text.now }
-    ensures { result ≡ string_at text.now at }
+fn string_at(place: &Place<'_>) -> Piece
+    ensures { result ≡ string_at place.now.text.now place.now.at }
 {
-    let start = at + 1;
-    let len = text_runs::text_len(&text[start..], b'"');
+    let start = place.at + 1;
+    let len = text_runs::text_len(&place.text[start..], b'"');
     let end = start + len;
-    if end == text.len() || text[end] != b'"' {
+    if end == place.text.len() || place.text[end] != b'"' {
         return Piece::BadByte;
     }
     if len > LONGEST {
@@ -104,15 +124,13 @@ fn string_at(text: &[u8], at: usize) -> Piece
     Piece::Token(TokenKind::StringLiteral(Text { start, len }), len + 2)
 }
 
-fn register_at(table: &[u8; 256], names: &[u8; 384], text: &[u8], at: usize) -> Piece
-    requires table_value { (table.now ≡ letters) × (names.now ≡ padded_names) }
-    requires at_in_bounds { at < length text.now }
-    ensures { result ≡ register_at text.now at }
+fn register_at(tables: &Tables, place: &Place<'_>) -> Piece
+    ensures { result ≡ register_at place.now.text.now place.now.at }
 {
-    let start = at + 1;
-    let len = text_runs::word_len(table, &text[start..]);
+    let start = place.at + 1;
+    let len = text_runs::word_len(&tables.classes, &place.text[start..]);
     let end = start + len;
-    match register_names::register_named(names, &text[start..end]) {
+    match tables.names.register_named(&place.text[start..end]) {
         Some(NamedRegister::General(r)) => Piece::Token(TokenKind::Register(r), len + 1),
         Some(NamedRegister::Float(r)) => Piece::Token(TokenKind::FPRegister(r), len + 1),
         None => Piece::BadToken,
@@ -120,47 +138,45 @@ fn register_at(table: &[u8; 256], names: &[u8; 384], text: &[u8], at: usize) -> 
 }
 
 // Whether `0x` stands there.
-fn is_hexadecimal(text: &[u8], at: usize) -> bool
-    requires { at < length text.now }
-    ensures { result ≡ starts_hexadecimal text.now at }
+fn is_hexadecimal(place: &Place<'_>) -> bool
+    ensures { result ≡ starts_hexadecimal place.now.text.now place.now.at }
 {
-    text[at] == b'0' && at + 1 < text.len() && text[at + 1] == b'x'
+    place.text[place.at] == b'0'
+        && place.at + 1 < place.text.len()
+        && place.text[place.at + 1] == b'x'
 }
 
-fn hexadecimal_at(text: &[u8], at: usize) -> Piece
-    requires { at + 2 ≤ length text.now }
-    ensures { result ≡ hexadecimal_piece (number_in 16 (drop (at + 2) text.now)) }
+fn hexadecimal_at(place: &Place<'_>) -> Piece
+    requires { place.now.at + 2 ≤ length place.now.text.now }
+    ensures { result ≡ hexadecimal_piece (number_in 16 (drop (place.now.at + 2) place.now.text.now)) }
 {
-    match text_runs::number_in(&text[at + 2..], 16) {
+    match text_runs::number_in(&place.text[place.at + 2..], 16) {
         Some((value, len)) if len > 0 => Piece::Token(TokenKind::IntegerLiteral(value), len + 2),
         _ => Piece::BadToken,
     }
 }
 
-fn number_at(text: &[u8], at: usize) -> Piece
-    requires { at < length text.now }
-    ensures { result ≡ number_at text.now at }
+fn number_at(place: &Place<'_>) -> Piece
+    ensures { result ≡ number_at place.now.text.now place.now.at }
 {
-    if is_hexadecimal(text, at) {
-        return hexadecimal_at(text, at);
+    if is_hexadecimal(place) {
+        return hexadecimal_at(place);
     }
-    match text_runs::number_in(&text[at..], 10) {
+    match text_runs::number_in(&place.text[place.at..], 10) {
         Some((value, len)) => Piece::Token(TokenKind::IntegerLiteral(value), len),
         None => Piece::BadToken,
     }
 }
 
-fn mark_at(table: &[u8; 256], names: &[u8; 384], mark: Mark, text: &[u8], at: usize) -> Piece
-    requires table_value { (table.now ≡ letters) × (names.now ≡ padded_names) }
-    requires at_in_bounds { at < length text.now }
-    ensures { result ≡ mark_at mark text.now at }
+fn mark_at(tables: &Tables, mark: Mark, place: &Place<'_>) -> Piece
+    ensures { result ≡ mark_at mark place.now.text.now place.now.at }
 {
     match mark {
-        Mark::Comment => comment_at(text, at),
-        Mark::Directive => directive_at(table, text, at),
-        Mark::Parameter => parameter_at(table, text, at),
-        Mark::Register => register_at(table, names, text, at),
-        Mark::StringLiteral => string_at(text, at),
+        Mark::Comment => comment_at(place),
+        Mark::Directive => directive_at(tables, place),
+        Mark::Parameter => parameter_at(tables, place),
+        Mark::Register => register_at(tables, place),
+        Mark::StringLiteral => string_at(place),
         Mark::Plus => Piece::Token(TokenKind::Plus, 1),
         Mark::Minus => Piece::Token(TokenKind::Minus, 1),
         Mark::Comma => Piece::Token(TokenKind::Comma, 1),
@@ -170,17 +186,15 @@ fn mark_at(table: &[u8; 256], names: &[u8; 384], mark: Mark, text: &[u8], at: us
     }
 }
 
-pub fn piece_at(table: &[u8; 256], names: &[u8; 384], text: &[u8], at: usize) -> Piece
-    requires table_value { (table.now ≡ letters) × (names.now ≡ padded_names) }
-    requires at_in_bounds { at < length text.now }
-    ensures { result ≡ piece_at text.now at }
+pub fn piece_at(tables: &Tables, place: &Place<'_>) -> Piece
+    ensures { result ≡ piece_at place.now.text.now place.now.at }
 {
-    match byte_class::class_of(table, text[at]) {
+    match tables.classes.class_of(place.text[place.at]) {
         Class::Blank => Piece::Blank,
         Class::Newline => Piece::Token(TokenKind::NewLine, 1),
-        Class::Digit => number_at(text, at),
-        Class::Letter => symbol_at(table, text, at),
-        Class::Mark(mark) => mark_at(table, names, mark, text, at),
+        Class::Digit => number_at(place),
+        Class::Letter => symbol_at(tables, place),
+        Class::Mark(mark) => mark_at(tables, mark, place),
         Class::Nothing => Piece::BadByte,
     }
 }

@@ -12,7 +12,7 @@ ghost use Rattle.text_reader.specs.Outcome.{Accepts, Leaves};
 use lexer::Token;
 use record::Location;
 use refusal::Refusal;
-use text_pieces::Piece;
+use text_pieces::{Piece, Place, Tables};
 
 // The location of the token that begins at `at`.
 fn location_of(source: u32, at: usize) -> Location
@@ -32,16 +32,15 @@ fn pass(text: &[u8], source: u32, tokens: &mut [u8], writes: bool) -> Result<u32
     ensures { (result ≡ answer_from text.now (length tokens.old) 0 (reading source text.now))
         × Leaves writes tokens.old tokens.new (bytes_of text.now (reading source text.now)) }
 {
-    let table = byte_class::table();
-    let names = register_names::all_names();
+    let tables = Tables::new();
     let room = tokens.len();
     let mut at: usize = 0;
     let mut fill: usize = 0;
     while at < text.len() {
-        if byte_class::is_blank(&table, text[at]) {
+        if tables.classes.is_blank(text[at]) {
             at += 1;
         } else {
-            match text_pieces::piece_at(&table, &names, text, at) {
+            match text_pieces::piece_at(&tables, &Place { text, at }) {
                 Piece::Blank => {
                     at += 1;
                 }

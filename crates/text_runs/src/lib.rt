@@ -3,17 +3,17 @@
 
 ghost use Rattle.std.specs.Prelude.{◌≡◌, ◌<◌, ◌≤◌, length};
 ghost use Rattle.byte_class.specs.Class.{word_byte};
-ghost use Rattle.byte_class.specs.Letters.{letters};
 ghost use Rattle.text_runs.specs.Leading.{leading, plain};
 ghost use Rattle.text_runs.specs.Numbers.{digit_value, number_in};
 
+use byte_class::ByteClasses;
+
 // How many letters and digits the text begins with.
-pub fn word_len(table: &[u8; 256], text: &[u8]) -> usize
-    requires { table.now ≡ letters }
+pub fn word_len(classes: &ByteClasses, text: &[u8]) -> usize
     ensures { (result ≡ length (leading word_byte text.now)) × (result ≤ length text.now) }
 {
     text.iter()
-        .position(|byte| !byte_class::is_word_byte(table, *byte))
+        .position(|byte| !classes.is_word_byte(*byte))
         .unwrap_or(text.len())
 }
 

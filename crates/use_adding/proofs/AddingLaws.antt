@@ -1,16 +1,15 @@
 -- Laws of the walk to a key's place. Assumes nothing.
-use Rattle.std.specs.Prelude.{ℕ, ◌+◌, ◌*◌, ◌-◌, ◌≤◌, ◌<◌, Bool, true, false, ltb, ◌≡◌, refl, length, take, drop, eqb}
+use Rattle.std.specs.Prelude.{ℕ, ◌+◌, ◌*◌, ◌-◌, ◌≤◌, ◌<◌, Bool, true, false, ltb, ◌≡◌, refl, length, take, drop}
 use Rattle.std.proofs.Common.{arith, sym, ap, ap₂, ◌∙◌, subst, length-append, take-append-drop, length-take-le, take-take, ltb-true, ltb-false}
 use Rattle.record.proofs.OneMoreLaws.{is_whole}
 use mathlib.Core.List.Memᴰ
 use mathlib.Core.List.{List, [], ◌∷◌, ◌++◌, append_assoc, Memᴰ}
-use Rattle.record.specs.Bytes.{byte_at, le16, le32, part}
+use Rattle.record.specs.Bytes.{le16, part}
 use Rattle.record.specs.Stores.{le16_bytes, le32_bytes, append}
 use Rattle.record.proofs.StoresLaws.{append_then}
 use Rattle.record.specs.Records.{next, body_len, whole, places_from}
 use Rattle.record.proofs.RecordsLaws.{places_step, places_cut, places_cons}
-use Rattle.name_order.specs.Order.{then_by, numbers, order}
-use Rattle.label_uses.specs.Uses.{UseKey, Use, known_order, use_order, one_use, more_use, insert_use}
+use Rattle.label_uses.specs.Uses.{is_known, kept_of, UseKey, Use, use_order, one_use, more_use, insert_use}
 use Rattle.label_uses.specs.UseBytes.{flag_of, numbers_bytes, use_body, uses_bytes, use_bytes}
 use Rattle.label_uses.proofs.InsertLaws.{insert_less, insert_same, insert_none}
 use Rattle.label_uses.proofs.UseBytesLaws.{cons_length, body_length, uses_none, uses_cons, uses_append, passed_behind, insert_behind}
@@ -167,6 +166,9 @@ filled_part d fill us i =
       owners = i.owners;
     }
 
+pub part_in : (d : List ℕ) (fill : ℕ) (us : List Use) → IndexIn d fill us → IndexIn (take fill d) (length (take fill d)) us
+part_in d fill us i = subst (λ (n : ℕ). IndexIn (take fill d) n us) (sym (length-take-le fill d i.holds.within)) (filled_part d fill us i)
+
 -- the places left behind a record
 pub left_behind : (s : List ℕ) (p : ℕ) (ps : List ℕ) → p < length s → whole s p ≡ true → places_from s p ≡ p ∷ ps → ps ≡ places_from s (next s p)
 left_behind s p ps h w f = let e : p ∷ ps ≡ p ∷ places_from s (next s p) = sym f ∙ places_step s p h w in cc
@@ -191,14 +193,13 @@ walk_next s fill us key p ps i n t o =
       left_are = left_behind s p ps t.within (is_whole s p (omega (arith, u.room, u.within)) u.within) t.first;
     }
 
-pub walk_end : (d : List ℕ) (fill : ℕ) (us : List Use) (key : UseKey) {left : List ℕ} → IndexIn d fill us → Walked (take fill d) us key left → left ≡ [] → PlaceIs us key fill false
-walk_end d fill us key i w e =
-    let n = length-take-le fill d i.holds.within in
-    let h : fill ≤ w.at = omega (arith, left_none (take fill d) w.at (sym w.left_are ∙ e)) in
+pub walk_end : (s : List ℕ) (us : List Use) (key : UseKey) {left : List ℕ} → IndexIn s (length s) us → Walked s us key left → left ≡ [] → PlaceIs us key (length s) false
+walk_end s us key i w e =
+    let h : length s ≤ w.at = left_none s w.at (sym w.left_are ∙ e) in
     let r = w.reached in
-    let m = fill_is d fill us r.before r.rest i r.split in
-    let k : w.at ≡ fill = omega (arith, r.place) in
-    subst (λ (at : ℕ). PlaceIs us key at false) k (reached_end d fill us key w.at i r h)
+    let m = fill_is s (length s) us r.before r.rest i r.split in
+    let k : w.at ≡ length s = omega (arith, r.place) in
+    subst (λ (at : ℕ). PlaceIs us key at false) k (reached_end s (length s) us key w.at i r h)
 
 -- ---- what is inserted at the place
 pub insert_new : (key : UseKey) (n : ℕ) (us l r : List Use) → us ≡ l ++ r → Passed key l → Heads key r → insert_use key n us ≡ l ++ (one_use key n ∷ r)
@@ -210,35 +211,6 @@ insert_new key n us l r e p h = ap (insert_use key n) e ∙ insert_behind key n 
 
 pub insert_old : (key : UseKey) (n : ℕ) (us l r : List Use) (u : Use) → us ≡ l ++ (u ∷ r) → Passed key l → use_order key u.key ≡ Equal → insert_use key n us ≡ l ++ (more_use u n ∷ r)
 insert_old key n us l r u e p h = ap (insert_use key n) e ∙ insert_behind key n l (u ∷ r) p ∙ ap (λ (x : List Use). l ++ x) (insert_same key n u r h)
-
--- ---- the order of a key and of a record's
-pub known_as : (p q a b : Bool) (o : Ordering) → p ≡ a → q ≡ b → then_by (known_order a b) o ≡ then_by (known_order p q) o
-known_as p q a b o e f = ap₂ (λ (x y : Bool). then_by (known_order x y) o) (sym e) (sym f)
-
-module _ (s : List ℕ) (at : ℕ) (name : List ℕ) (standing : Standing) (half end : ℕ) (h : half ≡ count_at s at) (n : end ≡ next s at) where
-  abbrev name_from : ℕ
-  name_from = at + 7 + 2 * half + 4
-
-  abbrev by_standing : Ordering
-  by_standing = then_by (known_order standing.known (eqb (byte_at s (at + 4)) 1)) (numbers standing.owner (le32 s (owner_place s at)))
-
-  name_as : part s name_from (end - name_from) ≡ (key_read s at).name
-  name_as = ap₂ (λ (c e : ℕ). part s (at + 7 + 2 * c + 4) (e - (at + 7 + 2 * c + 4))) h n
-
-  by_name : (o : Ordering) → order name (part s name_from (end - name_from)) ≡ o → use_order (key_with name standing) (key_read s at) ≡ then_by o by_standing
-  by_name o e = ap (λ (p : Ordering). then_by p by_standing) (ap (order name) (sym name_as) ∙ e)
-
-  pub order_less : order name (part s name_from (end - name_from)) ≡ Less → Less ≡ use_order (key_with name standing) (key_read s at)
-  order_less e = sym (by_name Less e)
-
-  pub order_more : order name (part s name_from (end - name_from)) ≡ Greater → Greater ≡ use_order (key_with name standing) (key_read s at)
-  order_more e = sym (by_name Greater e)
-
-  pub order_same : (r : Ordering) (word : ℕ) → order name (part s name_from (end - name_from)) ≡ Equal → word ≡ le32 s (at + 7 + 2 * half)
-      → r ≡ then_by (known_order standing.known (eqb (byte_at s (at + 4)) 1)) (numbers standing.owner word) → r ≡ use_order (key_with name standing) (key_read s at)
-  order_same r word e w f =
-      f ∙ ap (λ (x : ℕ). then_by (known_order standing.known (eqb (byte_at s (at + 4)) 1)) (numbers standing.owner x)) (w ∙ ap (λ (c : ℕ). le32 s (at + 7 + 2 * c)) h)
-      ∙ sym (by_name Equal e)
 
 -- ---- a number put in, store by store
 pub grown_by : (d d₁ d₂ d₃ d₄ : List ℕ) (fill at n len count : ℕ) → len ≡ le16 d at → count ≡ le16 d (at + 5)
@@ -253,21 +225,21 @@ grown_by d d₁ d₂ d₃ d₄ fill at n len count l c e₁ e₂ e₃ e₄ =
 
 -- ---- a record put in, store by store
 pub use_by_lem : (d d₁ d₂ d₃ d₄ d₅ d₆ name : List ℕ) (at n : ℕ) (standing : Standing) → at + 13 + length name ≤ length d
-    → d₁ ≡ append d at (le16_bytes (9 + length name) ++ le16_bytes 39) → d₂ ≡ append d₁ (at + 4) (flag_of standing.known ∷ []) → d₃ ≡ append d₂ (at + 5) (le16_bytes 1)
-    → d₄ ≡ append d₃ (at + 7) (le16_bytes n) → d₅ ≡ append d₄ (at + 9) (le32_bytes standing.owner) → d₆ ≡ append d₅ (at + 13) name
+    → d₁ ≡ append d at (le16_bytes (9 + length name) ++ le16_bytes 39) → d₂ ≡ append d₁ (at + 4) (flag_of (is_known standing) ∷ []) → d₃ ≡ append d₂ (at + 5) (le16_bytes 1)
+    → d₄ ≡ append d₃ (at + 7) (le16_bytes n) → d₅ ≡ append d₄ (at + 9) (le32_bytes (kept_of standing)) → d₆ ≡ append d₅ (at + 13) name
     → d₆ ≡ append d at (use_bytes (one_use (key_with name standing) n))
 unfolding numbers_bytes
 use_by_lem d d₁ d₂ d₃ d₄ d₅ d₆ name at n standing room e₁ e₂ e₃ e₄ e₅ e₆ =
     let head : List ℕ = le16_bytes (9 + length name) ++ le16_bytes 39 in
-    let flag : List ℕ = flag_of standing.known ∷ [] in
+    let flag : List ℕ = flag_of (is_known standing) ∷ [] in
     let g₂ = append_then d at head (at + 4) flag e₁ e₂ refl (omega arith) in
     let g₃ = append_then d at (head ++ flag) (at + 5) (le16_bytes 1) g₂ e₃ refl (omega arith) in
     let g₄ = append_then d at (head ++ flag ++ le16_bytes 1) (at + 7) (le16_bytes n) g₃ e₄ refl (omega arith) in
-    let g₅ = append_then d at (head ++ flag ++ le16_bytes 1 ++ le16_bytes n) (at + 9) (le32_bytes standing.owner) g₄ e₅ refl (omega arith) in
-    let g₆ = append_then d at (head ++ flag ++ le16_bytes 1 ++ le16_bytes n ++ le32_bytes standing.owner) (at + 13) name g₅ e₆ refl (omega arith) in
+    let g₅ = append_then d at (head ++ flag ++ le16_bytes 1 ++ le16_bytes n) (at + 9) (le32_bytes (kept_of standing)) g₄ e₅ refl (omega arith) in
+    let g₆ = append_then d at (head ++ flag ++ le16_bytes 1 ++ le16_bytes n ++ le32_bytes (kept_of standing)) (at + 13) name g₅ e₆ refl (omega arith) in
     let key = key_with name standing in
     let b : 9 + length name ≡ length (use_body (one_use key n)) = omega (arith, body_length (one_use key n)) in
-    g₆ ∙ ap (λ (m : ℕ). append d at (le16_bytes m ++ le16_bytes 39 ++ flag ++ le16_bytes 1 ++ le16_bytes n ++ le32_bytes standing.owner ++ name)) b
+    g₆ ∙ ap (λ (m : ℕ). append d at (le16_bytes m ++ le16_bytes 39 ++ flag ++ le16_bytes 1 ++ le16_bytes n ++ le32_bytes (kept_of standing) ++ name)) b
 
 -- ---- the whole of it
 module _ (d : List ℕ) (fill : ℕ) (key : UseKey) (n : ℕ) (us : List Use) (i : IndexIn d fill us) where

@@ -1,2 +1,3 @@
 pub mod AddingLaws
 pub mod MakingLaws
+pub mod LabelsLaws

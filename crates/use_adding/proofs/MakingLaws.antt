@@ -1,6 +1,5 @@
--- An index made afresh, pending by pending: what a name stands for, one pending's use, and the fold. Assumes nothing.
-use Rattle.std.specs.Prelude.{ℕ, ◌+◌, ◌*◌, ◌-◌, ◌≤◌, ◌<◌, ◌^◌, Bool, ◌≡◌, refl, take, drop, None, Option, Some}
-use Rattle.std.specs.Option.{is_some}
+-- An index made afresh, pending by pending: one pending's use, and the fold. Assumes nothing.
+use Rattle.std.specs.Prelude.{ℕ, ◌+◌, ◌*◌, ◌-◌, ◌≤◌, ◌<◌, ◌^◌, ◌≡◌, refl, take, drop, None}
 use Rattle.std.proofs.Common.{arith, ap₂, ◌∙◌, subst, take-append-drop, length-take-le, drop-drop}
 use mathlib.Core.List.Memᴰ
 use mathlib.Core.List.{List, [], ◌∷◌, ◌++◌, Memᴰ}
@@ -11,35 +10,20 @@ use Rattle.record.specs.Bytes.{part}
 use Rattle.record.specs.Records.{next, places, places_from, first_bad}
 use Rattle.record.proofs.RecordsLaws.{places_all, places_step, places_end, places_cons, good_ok, good_next}
 use Rattle.record.specs.Stores.{append}
-use Rattle.names.specs.Owners.{for_all}
-use Rattle.name_index.specs.Index.{IndexOf, lookup}
 use Rattle.address_label.specs.LabelBytes.{name_bytes}
 use Rattle.address_label.specs.declared.AddressLabel.{AddressLabel}
 use Rattle.address_label.specs.declared.AddressLabel.TheVariants.{Constant, Label}
 use Rattle.address_label.specs.declared.NamedLabel.{NamedLabel}
 use Rattle.pending.specs.Pendings.{label_of, pending_ok, PendingIs}
 use Rattle.pending.proofs.PendingsLaws.{pending_is}
-use Rattle.label_uses.specs.Uses.{UseKey, Use, key_for, insert_use, use_of, uses_from, uses_of}
+use Rattle.label_uses.specs.Uses.{kept_of, UseKey, Use, key_for, insert_use, use_of, uses_from, uses_of}
 use Rattle.label_uses.specs.UseBytes.{uses_bytes, index_of}
-use Rattle.label_uses.specs.Says.{key_in}
 use Rattle.label_uses.proofs.InsertLaws.{Stood, before, new, grown, insert_stood}
 use Rattle.label_uses.proofs.UseBytesLaws.{uses_none, insert_length}
 use Rattle.label_uses.proofs.IndexLaws.{written_first}
 use Rattle.label_uses.proofs.FitsLaws.{use_fits}
-use Rattle.label_uses.proofs.OneMoreLaws.{AllBytes, key_in_fits}
-use Rattle.label_uses.proofs.HitLaws.{is_hit, lookup_hits, standing_hit, standing_by_hits}
-use Rattle.label_uses.specs.ReadUse.{key_with}
-use Rattle.label_uses.specs.declared.Standing.{Standing}
-use Rattle.use_adding.specs.Adding.{IndexIn, AnIndexWithRoom, AddsTo}
-use Rattle.use_adding.specs.Making.{AddsOneTo, RoomForOne, Made}
-
--- ---- what a name stands for, by two lookups
-pub standing_as : (s l : List ℕ) → IndexOf 4 s l → (source : ℕ) (name : List ℕ) (own shared : Bool) → is_hit (lookup 4 s l source name).named ≡ own → is_hit (lookup 4 s l for_all name).named ≡ shared
-    → key_with name (standing_hit source own shared) ≡ key_for s source name
-unfolding key_for
-standing_as s l ix source name own shared e f =
-    ap (key_with name)
-    (ap₂ (standing_hit source) (sym e ∙ lookup_hits 4 s l ix source name) (sym f ∙ lookup_hits 4 s l ix for_all name) ∙ sym (standing_by_hits s source name))
+use Rattle.use_adding.specs.Adding.{IndexIn}
+use Rattle.use_adding.specs.Making.{AddsOneTo, KeepsOwners, RoomForOne, Made}
 
 -- ---- one pending
 -- what is held is what would be written
@@ -56,20 +40,19 @@ constant_adds d labels pending fill n x value e us i =
     let u : us ≡ use_of labels pending x n us = sym (ap (λ (y : AddressLabel). use_of labels pending y n us) e) in
     record { bytes = h.0 ∙ ap (λ (y : List Use). append d 0 (uses_bytes y)) u; filled = h.1 ∙ ap (λ (y : List Use). length (uses_bytes y)) u }
 
-module _ (labels pending : List ℕ) (x : AddressLabel) (l : NamedLabel) (e : x ≡ Label l) (name : List ℕ) (standing : Standing) (m : name ≡ name_bytes pending x)
-    (k : key_with name standing ≡ key_for labels l.location.source name) where
-  use_is : (n : ℕ) (us : List Use) → insert_use (key_with name standing) n us ≡ use_of labels pending x n us
+module _ (labels pending : List ℕ) (x : AddressLabel) (l : NamedLabel) (e : x ≡ Label l) (name : List ℕ) (m : name ≡ name_bytes pending x) (key : UseKey) (k : key ≡ key_for labels l.location.source name) where
+  use_is : (n : ℕ) (us : List Use) → insert_use key n us ≡ use_of labels pending x n us
   use_is n us =
       ap (λ (y : UseKey). insert_use y n us) (k ∙ ap (key_for labels l.location.source) (m ∙ ap (name_bytes pending) e))
       ∙ sym (ap (λ (y : AddressLabel). use_of labels pending y n us) e)
 
-  pub named_room : (d : List ℕ) (fill n : ℕ) → RoomForOne d labels pending fill x n → AnIndexWithRoom d fill (key_with name standing) n
-  named_room d fill n r = record { us = r.us; index_in = r.index_in; room = omega (arith, r.room, ap (λ (y : List Use). length (uses_bytes y)) (use_is n r.us)) }
-
-  pub named_adds : (d f : List ℕ) (fill n after : ℕ) → AddsTo d f fill (key_with name standing) n after → AddsOneTo d f labels pending fill x n after
-  named_adds d f fill n after h us i =
-      let a = h us i in
-      record { bytes = a.bytes ∙ ap (λ (y : List Use). append d 0 (uses_bytes y)) (use_is n us); filled = a.filled ∙ ap (λ (y : List Use). length (uses_bytes y)) (use_is n us) }
+  pub named_owners : (n : ℕ) → kept_of key.standing < 2 ^ 32 → KeepsOwners labels pending x n
+  named_owners n h us o u t = go (insert_stood key n us u (subst (Memᴰ u) (sym (use_is n us)) t))
+    where
+      go : Stood key n us u → kept_of u.key.standing < 2 ^ 32
+      go (before t) = o u t
+      go (new i) = subst (λ (w : Use). kept_of w.key.standing < 2 ^ 32) (sym i) h
+      go (grown w t j i) = subst (λ (w : Use). kept_of w.key.standing < 2 ^ 32) (sym i) (o w t)
 
 -- ---- the fold
 pub record Making (d₀ labels pending d : List ℕ) (at n fill : ℕ) : Type 0 where
@@ -80,7 +63,7 @@ pub record Making (d₀ labels pending d : List ℕ) (at n fill : ℕ) : Type 0 
   pub filled : fill ≡ length (uses_bytes us)
   pub fits : fill ≤ at
   pub bytes : d ≡ append d₀ 0 (uses_bytes us)
-  pub owners : (u : Use) → Memᴰ u us → u.key.standing.owner < 2 ^ 32
+  pub owners : (u : Use) → Memᴰ u us → kept_of u.key.standing < 2 ^ 32
   pub good : first_bad (pending_ok 16 pending) (places_from pending at) ≡ None
   pub rest : uses_from labels pending n (places_from pending at) us ≡ uses_of labels pending
 
@@ -136,37 +119,25 @@ module _ (d₀ labels pending : List ℕ) (room : length pending ≤ length d₀
     grows (Constant value) = omega arith
     grows (Label l) = omega (arith, (insert_length (key_for labels l.location.source (part pending l.name_at l.name_len)) n m.us).least)
 
-    module _ (lb : AllBytes labels) (pb : AllBytes pending) where
-      owners_next : (y : AddressLabel) → label_of pending at ≡ y → (u : Use) → Memᴰ u (use_of labels pending y n m.us) → u.key.standing.owner < 2 ^ 32
-      owners_next (Constant value) e u k = m.owners u k
-      owners_next (Label l) e u k = go (insert_stood key n m.us u k)
-        where
-          key : UseKey
-          key = key_for labels l.location.source (part pending l.name_at l.name_len)
-
-          go : Stood key n m.us u → u.key.standing.owner < 2 ^ 32
-          go (before t) = m.owners u t
-          go (new i) = subst (λ (w : Use). w.key.standing.owner < 2 ^ 32) (sym i) (key_in_fits labels pending lb pb at key (ap (key_in labels pending) e))
-          go (grown w t j i) = subst (λ (w : Use). w.key.standing.owner < 2 ^ 32) (sym i) (m.owners w t)
-
-      pub making_next : (e : List ℕ) (after : ℕ) → at < length pending → length e ≡ length d → AddsOneTo d e labels pending fill x n after → Making d₀ labels pending e (next pending at) (n + 1) after
-      unfolding uses_from
-      making_next e after h len a =
-          let p = making_is h in
-          let b = a m.us making_in in
-          let vs = use_of labels pending x n m.us in
-          record {
-            us = vs;
-            in_list = p.body;
-            counted = omega (arith, m.counted, p.least);
-            length_kept = len ∙ m.length_kept;
-            filled = b.filled;
-            fits = omega (arith, b.filled, fits_next h);
-            bytes = b.bytes ∙ ap (λ (y : List ℕ). append y 0 (uses_bytes vs)) m.bytes ∙ append_again d₀ (uses_bytes m.us) (uses_bytes vs) (grows x);
-            owners = owners_next x refl;
-            good = good_next (pending_ok 16 pending) pending at h p.whole_at m.good;
-            rest = sym (ap (λ (ps : List ℕ). uses_from labels pending n ps m.us) (places_step pending at h p.whole_at)) ∙ m.rest;
-          }
+    pub making_next : (e : List ℕ) (after : ℕ) → at < length pending → length e ≡ length d → AddsOneTo d e labels pending fill x n after → KeepsOwners labels pending x n
+        → Making d₀ labels pending e (next pending at) (n + 1) after
+    unfolding uses_from
+    making_next e after h len a k =
+        let p = making_is h in
+        let b = a m.us making_in in
+        let vs = use_of labels pending x n m.us in
+        record {
+          us = vs;
+          in_list = p.body;
+          counted = omega (arith, m.counted, p.least);
+          length_kept = len ∙ m.length_kept;
+          filled = b.filled;
+          fits = omega (arith, b.filled, fits_next h);
+          bytes = b.bytes ∙ ap (λ (y : List ℕ). append y 0 (uses_bytes vs)) m.bytes ∙ append_again d₀ (uses_bytes m.us) (uses_bytes vs) (grows x);
+          owners = k m.us m.owners;
+          good = good_next (pending_ok 16 pending) pending at h p.whole_at m.good;
+          rest = sym (ap (λ (ps : List ℕ). uses_from labels pending n ps m.us) (places_step pending at h p.whole_at)) ∙ m.rest;
+        }
 
     pub making_end : length pending ≤ at → Made d₀ d labels pending fill
     unfolding uses_from index_of
@@ -195,7 +166,3 @@ left_turn d₀ labels pending d n fill p left ps m e =
       making = subst (λ (k : ℕ). Making d₀ labels pending d k n fill) (sym c.1) m.making;
       first = subst (λ (k : ℕ). places_from pending k ≡ p ∷ ps) (sym c.1) f;
     }
-
-pub hit_is : (found : Option ℕ) → is_hit found ≡ is_some found
-hit_is (Some p) = refl
-hit_is None = refl

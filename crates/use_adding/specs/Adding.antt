@@ -1,10 +1,10 @@
 -- Where a key stands in an index that a buffer holds, and the index with one use more. Assumes nothing.
-use Rattle.std.specs.Prelude.{ℕ, ◌+◌, ◌*◌, ◌-◌, ◌≤◌, ◌<◌, ◌^◌, Bool, true, false, ◌≡◌, length}
+use Rattle.std.specs.Prelude.{ℕ, ◌+◌, ◌*◌, ◌-◌, ◌≤◌, ◌<◌, ◌^◌, Bool, true, false, ◌≡◌, length, Result, Ok, Err}
 use mathlib.Core.List.{List, [], ◌∷◌, ◌++◌, Memᴰ}
 use Rattle.record.specs.Bytes.{part}
 use Rattle.record.specs.Records.{next, limit}
 use Rattle.record.specs.Stores.{le16_bytes, append}
-use Rattle.label_uses.specs.Uses.{UseKey, Use, use_order, insert_use}
+use Rattle.label_uses.specs.Uses.{kept_of, UseKey, Use, use_order, insert_use}
 use Rattle.label_uses.specs.UseBytes.{uses_bytes}
 use Rattle.label_uses.specs.Held.{Holds, Passed}
 use Rattle.label_uses.specs.ReadUse.{owner_place}
@@ -14,7 +14,7 @@ use Rattle.std.specs.declared.cmp.Ordering.TheVariants.{Less, Equal}
 pub record IndexIn (d : List ℕ) (fill : ℕ) (us : List Use) : Type 0 where
   pub holds : Holds d fill us
   pub limited : length d ≤ limit
-  pub owners : (u : Use) → Memᴰ u us → u.key.standing.owner < 2 ^ 32
+  pub owners : (u : Use) → Memᴰ u us → kept_of u.key.standing < 2 ^ 32
 
 pub record AnIndex (d : List ℕ) (fill : ℕ) : Type 0 where
   pub us : List Use
@@ -38,6 +38,11 @@ pub data PlaceIs (us : List Use) (key : UseKey) (at : ℕ) : Bool → Type 0 whe
 
 abbrev pub Finds : (d : List ℕ) (fill : ℕ) → UseKey → (at : ℕ) → Bool → Type 0
 Finds d fill key at found = (us : List Use) → IndexIn d fill us → PlaceIs us key at found
+
+-- the same in an index that fills its buffer: where the key stands, or else where it sorts
+abbrev pub FindsIn : (s : List ℕ) → UseKey → Result ℕ ℕ → Type 0
+FindsIn s key (Ok at) = Finds s (length s) key at true
+FindsIn s key (Err at) = Finds s (length s) key at false
 
 -- the record at `at` has its owner or source, and ends within the list
 pub record UseAt (s : List ℕ) (at : ℕ) : Type 0 where

@@ -1,8 +1,9 @@
 -- The use of one pending more in an index that a buffer holds, and an index made afresh. Assumes nothing.
-use Rattle.std.specs.Prelude.{ℕ, ◌≤◌, List, ◌≡◌, length}
+use Rattle.std.specs.Prelude.{ℕ, ◌≤◌, ◌<◌, ◌^◌, ◌≡◌, length}
+use mathlib.Core.List.{List, Memᴰ}
 use Rattle.record.specs.Stores.{append}
 use Rattle.address_label.specs.declared.AddressLabel.{AddressLabel}
-use Rattle.label_uses.specs.Uses.{Use, use_of}
+use Rattle.label_uses.specs.Uses.{kept_of, Use, use_of}
 use Rattle.label_uses.specs.UseBytes.{uses_bytes, index_of}
 use Rattle.use_adding.specs.Adding.{IndexIn}
 
@@ -13,6 +14,11 @@ pub record AddsOne (d e labels pending : List ℕ) (x : AddressLabel) (n after :
 
 abbrev pub AddsOneTo : (d e labels pending : List ℕ) (fill : ℕ) (x : AddressLabel) (n after : ℕ) → Type 0
 AddsOneTo d e labels pending fill x n after = (us : List Use) → IndexIn d fill us → AddsOne d e labels pending x n after us
+
+-- owners and sources that have four bytes still have with it
+abbrev pub KeepsOwners : (labels pending : List ℕ) (x : AddressLabel) (n : ℕ) → Type 0
+KeepsOwners labels pending x n =
+    (us : List Use) → ((u : Use) → Memᴰ u us → kept_of u.key.standing < 2 ^ 32) → (u : Use) → Memᴰ u (use_of labels pending x n us) → kept_of u.key.standing < 2 ^ 32
 
 pub record RoomForOne (d labels pending : List ℕ) (fill : ℕ) (x : AddressLabel) (n : ℕ) : Type 0 where
   pub us : List Use

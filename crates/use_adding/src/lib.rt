@@ -1,34 +1,312 @@
-// One use more in an index, in place, and an index made afresh.
+// The key of a use, an index of uses as it is read, one use more in place, and an index made afresh.
 #![tactic(auto)]
 
-ghost use Rattle.std.specs.Prelude.{◌≡◌, [], ◌∷◌, ◌+◌, ◌*◌, ◌-◌, ◌≤◌, ◌<◌, length};
+ghost use Rattle.std.specs.Prelude.{◌≡◌, [], ◌∷◌, ◌+◌, ◌*◌, ◌-◌, ◌≤◌, ◌<◌, ◌^◌, ℕ, List, length, get_or};
+ghost use Rattle.std.specs.Option.{is_some};
 ghost use Rattle.record.specs.Bytes.{le16, part};
-ghost use Rattle.record.specs.Records.{places, first_bad};
-ghost use Rattle.record.specs.Stores.{append, le16_bytes};
-ghost use Rattle.names.specs.Owners.{has_owned_name};
-ghost use Rattle.name_index.specs.Index.{IndexOf};
+ghost use Rattle.record.specs.Records.{places, first_bad, limit};
+ghost use Rattle.record.specs.Stores.{append};
+ghost use Rattle.names.specs.Owners.{first_owned};
 ghost use Rattle.name_order.specs.Order.{then_by, numbers};
+ghost use Rattle.std.specs.Ordering.{is_eq};
+ghost use Rattle.name_index.specs.Index.{IndexOf};
+ghost use Rattle.labels.specs.Labels.{label_layout, label_repeat};
+ghost use Rattle.labels.specs.Lookup.{most_labels};
 ghost use Rattle.pending.specs.Pendings.{label_of, pending_ok};
 ghost use Rattle.pending.specs.Pendings.{PendingIs};
-ghost use Rattle.label_uses.specs.Uses.{use_order, known_order, one_use, key_for};
+ghost use Rattle.label_uses.specs.Uses.{use_order, one_use, key_for, kept_of, is_known, known_order};
 ghost use Rattle.label_uses.specs.UseBytes.{flag_of, use_bytes};
 ghost use Rattle.label_uses.specs.ReadUse.{key_with, key_read, owner_place};
-ghost use Rattle.use_adding.specs.Adding.{AnIndex, AnIndexWithRoom, Finds, UseAt, AddsTo, SizeWith, grown_at};
-ghost use Rattle.use_adding.specs.Making.{AddsOneTo, RoomForOne, Made};
+ghost use Rattle.use_adding.specs.Adding.{AnIndex, AnIndexWithRoom, FindsIn, UseAt, AddsTo, SizeWith, grown_at};
+ghost use Rattle.use_adding.specs.Making.{AddsOneTo, KeepsOwners, RoomForOne, Made};
 
 use address_label::AddressLabel;
 use label_uses::Standing;
+use name_index::NameIndex;
+use names::Named;
 use std::cmp::Ordering;
+use std::marker::Model;
 
 // The record kind.
 const USE: u16 = 39;
 
-// The place of a key's record, or the one where it sorts: kept as a flag and a place, since the place means something with either flag.
-#[derive(Clone, Copy)]
-pub struct UsePlace {
-    pub at: usize,
-    pub found: bool,
+// The key of a use: a name, and what it stands for.
+#[derive(Drop)]
+pub struct Key<'a> {
+    name: &'a [u8],
+    standing: Standing,
 }
+
+impl<'a> Model for Key<'a> {
+    ghost use Rattle.label_uses.specs.Uses.{UseKey};
+    ghost use Rattle.label_uses.specs.ReadUse.{key_with};
+
+    ghost Value = { UseKey };
+
+    ghost view = { λ key. key_with key.name.now key.standing };
+}
+
+impl<'a> Key<'a> {
+    fn new(name: &'a [u8], standing: Standing) -> Self
+        ensures { result ≡ key_with name.now standing }
+    {
+        Key { name, standing }
+    }
+
+    pub fn name(&self) -> &'a [u8]
+        ensures { result.now ≡ self.now.name }
+    {
+        self.name
+    }
+}
+
+// A pending list that keeps its layout and is within the limit.
+#[derive(Drop)]
+pub struct Pendings<'a> {
+    bytes: &'a [u8],
+}
+
+impl<'a> Model for Pendings<'a> {
+    ghost use Rattle.std.specs.Prelude.{◌≡◌, ◌≤◌, ◌<◌, ℕ, List, None, length, get_or};
+    ghost use Rattle.record.specs.Records.{places, first_bad, limit};
+    ghost use Rattle.pending.specs.Pendings.{pending_ok};
+
+    ghost Value = { List ℕ };
+
+    ghost view = { λ pending. pending.bytes.now };
+
+    ghost invariant = { λ pending. (first_bad (pending_ok 16 pending.bytes.now) (places pending.bytes.now) ≡ None) × (length pending.bytes.now ≤ limit) × ((i : ℕ) → get_or pending.bytes.now i 0 < 256) };
+}
+
+impl<'a> Pendings<'a> {
+    pub fn new(bytes: &'a [u8]) -> Self
+        requires { (first_bad (pending_ok 16 bytes.now) (places bytes.now) ≡ None) × (length bytes.now ≤ limit) }
+        ensures { result ≡ bytes.now }
+    {
+        Pendings { bytes }
+    }
+
+    pub fn bytes(&self) -> &'a [u8]
+        ensures value { result.now ≡ self.now }
+        ensures kept { (first_bad (pending_ok 16 self.now) (places self.now) ≡ None) × (length self.now ≤ limit) }
+        ensures bytes_fit { (i : ℕ) → get_or self.now i 0 < 256 }
+    {
+        self.bytes
+    }
+
+    // How many pendings the list has.
+    pub fn count(&self) -> u16
+        ensures { (result ≡ length (places self.now)) × (result ≤ 1820) }
+    {
+        record::places(self.bytes).count() as u16
+    }
+}
+
+// A label list with the ordered index of its names.
+#[derive(Drop)]
+pub struct LabelIndex<'a> {
+    index: NameIndex<'a, 4>,
+}
+
+impl<'a> Model for LabelIndex<'a> {
+    ghost use Rattle.std.specs.Prelude.{◌<◌, ℕ, List, length};
+    ghost use Rattle.name_index.specs.Index.{IndexOf};
+
+    ghost Value = { List ℕ };
+
+    ghost view = { λ labels. labels.index.list };
+
+    ghost invariant = { λ labels. IndexOf 4 labels.index.list labels.index.order × (length labels.index.order < 65536) };
+}
+
+impl<'a> LabelIndex<'a> {
+    pub fn new(index: NameIndex<'a, 4>) -> Self
+        requires { IndexOf 4 index.list index.order × (length index.order < 65536) }
+        ensures { result ≡ index.entry.list }
+    {
+        LabelIndex { index }
+    }
+
+    // Made in a lent array; the other is scratch. Labels may repeat a name.
+    pub fn make(labels: &'a [u8], order: &'a mut [u16], spare: &mut [u16]) -> Self
+        requires labels_value { label_layout labels.now ≡ None }
+        requires most_labels_in_bounds { (most_labels ≤ length order.old) × (most_labels ≤ length spare.old) }
+        ensures { result ≡ labels.now }
+    {
+        let index = NameIndex::make(Named::new(labels), order, spare);
+        LabelIndex { index }
+    }
+
+    // The first label that shares its name and owner with an earlier one.
+    pub fn first_repeat(&self) -> Option<usize>
+        ensures { result ≡ label_repeat self.now }
+    {
+        self.index.first_repeat()
+    }
+}
+
+// Labels of which one is looked up by its owner and its name: by a scan, or by an index.
+pub trait Labels {
+    ghost list: { Self → List ℕ };
+
+    // Whether a label has that owner and name.
+    fn has(&self, owner: u32, name: &[u8]) -> bool
+        ensures { result ≡ is_some (first_owned 4 (list self.now) owner name.now) };
+}
+
+impl<'a> Labels for Named<'a, 4> {
+    ghost list = { λ labels. labels };
+
+    fn has(&self, owner: u32, name: &[u8]) -> bool {
+        self.find(owner, name).is_some()
+    }
+}
+
+impl<'a> Labels for LabelIndex<'a> {
+    ghost list = { λ labels. labels };
+
+    fn has(&self, owner: u32, name: &[u8]) -> bool {
+        self.index.find(owner, name).named.is_some()
+    }
+}
+
+// What a name of a source stands for. Labels may share owner and name.
+pub fn standing_of<L: Labels>(labels: &L, source: u32, name: &[u8]) -> Standing
+    ensures { (key_with name.now result ≡ key_for (L.list labels.now) source name.now) × (kept_of result < 2 ^ 32) }
+{
+    if labels.has(source, name) {
+        return Standing::Known(source);
+    }
+    if labels.has(names::FOR_ALL, name) {
+        return Standing::Known(names::FOR_ALL);
+    }
+    Standing::Unknown(source)
+}
+
+// The key of a name of a source.
+pub fn key_of<'a, L: Labels>(labels: &L, source: u32, name: &'a [u8]) -> Key<'a>
+    ensures { (result ≡ key_for (L.list labels.now) source name.now) × (kept_of result.standing < 2 ^ 32) }
+{
+    Key::new(name, standing_of(labels, source, name))
+}
+
+// Whether two standings are the same in the order of the uses.
+fn same(a: Standing, b: Standing) -> bool
+    ensures { result ≡ is_eq (then_by (known_order (is_known a) (is_known b)) (numbers (kept_of a) (kept_of b))) }
+{
+    a == b
+}
+
+// Whether a key's name, from that source, stands for what the key says.
+pub fn stands<L: Labels>(labels: &L, source: u32, key: &Key<'_>) -> bool
+    ensures { result ≡ is_eq (use_order key.now (key_for (L.list labels.now) source key.now.name)) }
+{
+    same(key.standing, standing_of(labels, source, key.name))
+}
+
+// The name of the record at `at`.
+fn name_at(index: &[u8], at: usize) -> &[u8]
+    requires { UseAt index.now at }
+    ensures { result.now ≡ (key_read index.now at).name }
+{
+    let from = at + 7 + 2 * record::half_at(index, at + 5) + 4;
+    let end = record::next(index, at);
+    &index[from..end]
+}
+
+// What the record at `at` says that its name stands for.
+fn standing_at(index: &[u8], at: usize) -> Standing
+    requires { UseAt index.now at }
+    ensures { result ≡ (key_read index.now at).standing }
+{
+    let owner_at = at + 7 + 2 * record::half_at(index, at + 5);
+    let kept = record::word_at(index, owner_at);
+    if index[at + 4] == 1 {
+        Standing::Known(kept)
+    } else {
+        Standing::Unknown(kept)
+    }
+}
+
+// The key of the record at `at`.
+pub fn key_at(index: &[u8], at: usize) -> Key<'_>
+    requires { UseAt index.now at }
+    ensures { result ≡ key_read index.now at }
+{
+    Key::new(name_at(index, at), standing_at(index, at))
+}
+
+// How a key stands to that of the record at `at`.
+pub fn order_at(index: &[u8], at: usize, key: &Key<'_>) -> Ordering
+    requires { UseAt index.now at }
+    ensures { result ≡ use_order key.now (key_read index.now at) }
+{
+    match name_order::compare(key.name, name_at(index, at)) {
+        Ordering::Equal => key.standing.cmp(&standing_at(index, at)),
+        unlike => unlike,
+    }
+}
+
+// The filled part of an index, as it is read.
+#[derive(Drop)]
+pub struct Uses<'a> {
+    bytes: &'a [u8],
+}
+
+impl<'a> Model for Uses<'a> {
+    ghost use Rattle.std.specs.Prelude.{ℕ, List, length};
+    ghost use Rattle.use_adding.specs.Adding.{AnIndex};
+
+    ghost Value = { List ℕ };
+
+    ghost view = { λ uses. uses.bytes.now };
+
+    ghost invariant = { λ uses. AnIndex uses.bytes.now (length uses.bytes.now) };
+}
+
+impl<'a> Uses<'a> {
+    pub fn new(bytes: &'a [u8]) -> Self
+        requires { AnIndex bytes.now (length bytes.now) }
+        ensures { result ≡ bytes.now }
+    {
+        Uses { bytes }
+    }
+
+    // How long the index is.
+    pub fn len(&self) -> usize
+        ensures { (result ≡ length self.now) × (result ≤ limit) }
+    {
+        self.bytes.len()
+    }
+
+    // Where a key stands, or else where it sorts.
+    pub fn find(&self, key: &Key<'_>) -> Result<usize, usize>
+        ensures { FindsIn self.now key.now result }
+    {
+        let bytes = self.bytes;
+        for at in record::places(bytes) {
+            match order_at(bytes, at, key) {
+                Ordering::Less => return Err(at),
+                Ordering::Equal => return Ok(at),
+                Ordering::Greater => {}
+            }
+        }
+        Err(bytes.len())
+    }
+
+    // How long the index is with one use more of the key: for refusal 17, before anything is written.
+    pub fn size_with(&self, key: &Key<'_>) -> usize
+        requires { length key.now.name ≤ 65536 }
+        ensures { SizeWith self.now (length self.now) key.now result }
+    {
+        match self.find(key) {
+            Ok(_) => self.bytes.len() + 2,
+            Err(_) => self.bytes.len() + 13 + key.name.len(),
+        }
+    }
+}
+
+// kept: what writes takes the whole buffer and its fill count, since the bytes behind the count are room for one use more.
 
 // The bytes from `at` to `fill`, moved up by n.
 pub fn move_up(d: &mut [u8], at: usize, fill: usize, n: usize)
@@ -36,54 +314,6 @@ pub fn move_up(d: &mut [u8], at: usize, fill: usize, n: usize)
     ensures { d.new ≡ append d.old (at + n) (part d.old at (fill - at)) }
 {
     d.copy_within(at..fill, at + n);
-}
-
-// How a standing stands to a record's.
-pub fn order_standing(standing: Standing, known: bool, owner: u32) -> Ordering
-    ensures { result ≡ then_by (known_order standing.known known) (numbers standing.owner owner) }
-{
-    match (standing.known, known) {
-        (true, false) => Ordering::Less,
-        (false, true) => Ordering::Greater,
-        _ => name_order::compare_numbers(standing.owner, owner),
-    }
-}
-
-// How a key stands to that of the record at `at`.
-pub fn order_at(index: &[u8], at: usize, name: &[u8], standing: Standing) -> Ordering
-    requires { UseAt index.now at }
-    ensures { result ≡ use_order (key_with name.now standing) (key_read index.now at) }
-{
-    let owner_at = at + 7 + 2 * record::half_at(index, at + 5);
-    let from = owner_at + 4;
-    let end = record::next(index, at);
-    match name_order::compare(name, &index[from..end]) {
-        Ordering::Equal => order_standing(
-            standing,
-            index[at + 4] == 1,
-            record::word_at(index, owner_at),
-        ),
-        unlike => unlike,
-    }
-}
-
-// Where a key stands in an index, or where it sorts.
-pub fn find_use(index: &[u8], fill: usize, name: &[u8], standing: Standing) -> UsePlace
-    requires { AnIndex index.now fill }
-    ensures { Finds index.now fill (key_with name.now standing) result.at result.found }
-{
-    let filled = &index[..fill];
-    for at in record::places(filled) {
-        match order_at(filled, at, name, standing) {
-            Ordering::Less => return UsePlace { at, found: false },
-            Ordering::Equal => return UsePlace { at, found: true },
-            Ordering::Greater => {}
-        }
-    }
-    UsePlace {
-        at: fill,
-        found: false,
-    }
 }
 
 // A number more behind those of the record at `at`: two bytes are put in, and its length and count grow.
@@ -109,115 +339,71 @@ fn put_flag(d: &mut [u8], at: usize, known: bool)
 }
 
 // A record of one use, put in at `at`.
-fn put_use(d: &mut [u8], fill: usize, at: usize, name: &[u8], standing: Standing, n: u16)
-    requires { (at ≤ fill) × (fill + 13 + length name.now ≤ length d.old) × (length d.old ≤ 65536) }
-    ensures { d.new ≡ append (append d.old (at + (13 + length name.now)) (part d.old at (fill - at))) at (use_bytes (one_use (key_with name.now standing) n)) }
+fn put_use(d: &mut [u8], fill: usize, at: usize, key: &Key<'_>, n: u16)
+    requires { (at ≤ fill) × (fill + 13 + length key.now.name ≤ length d.old) × (length d.old ≤ 65536) }
+    ensures { d.new ≡ append (append d.old (at + (13 + length key.now.name)) (part d.old at (fill - at))) at (use_bytes (one_use key.now n)) }
 {
+    let name = key.name;
     move_up(&mut *d, at, fill, 13 + name.len());
     record::put_head(&mut *d, at, (9 + name.len()) as u16, USE);
-    put_flag(&mut *d, at + 4, standing.known);
+    put_flag(&mut *d, at + 4, key.standing.is_known());
     record::put16(&mut *d, at + 5, 1);
     record::put16(&mut *d, at + 7, n);
-    record::put32(&mut *d, at + 9, standing.owner);
+    record::put32(&mut *d, at + 9, key.standing.kept());
     record::put_all(&mut *d, at + 13, name);
 }
 
 // Pending n uses the key. The index's new fill count.
-pub fn add_use(index: &mut [u8], fill: usize, name: &[u8], standing: Standing, n: u16) -> usize
-    requires { AnIndexWithRoom index.old fill (key_with name.now standing) n }
-    ensures { AddsTo index.old index.new fill (key_with name.now standing) n result }
+pub fn add_use(index: &mut [u8], fill: usize, key: &Key<'_>, n: u16) -> usize
+    requires { AnIndexWithRoom index.old fill key.now n }
+    ensures { AddsTo index.old index.new fill key.now n result }
 {
-    let place = find_use(&*index, fill, name, standing);
-    let at = place.at;
-    if place.found {
-        put_number(&mut *index, fill, at, n);
-        return fill + 2;
-    }
-    put_use(&mut *index, fill, at, name, standing, n);
-    fill + 13 + name.len()
-}
-
-// What a name of a source stands for, by an index of the labels, of which some may share owner and name.
-pub fn standing_of(labels: &[u8], index: &[u16], source: u32, name: &[u8]) -> Standing
-    requires labels_value { first_bad (has_owned_name 4 labels.now) (places labels.now) ≡ None }
-    requires index_of { IndexOf 4 labels.now index.now × (length index.now < 65536) }
-    ensures { key_with name.now result ≡ key_for labels.now source name.now }
-{
-    if name_index::find(labels, 4, index, source, name)
-        .named
-        .is_some()
-    {
-        return Standing {
-            known: true,
-            owner: source,
-        };
-    }
-    if name_index::find(labels, 4, index, names::FOR_ALL, name)
-        .named
-        .is_some()
-    {
-        return Standing {
-            known: true,
-            owner: names::FOR_ALL,
-        };
-    }
-    Standing {
-        known: false,
-        owner: source,
+    let place = Uses::new(&index[..fill]).find(key);
+    match place {
+        Ok(at) => {
+            put_number(&mut *index, fill, at, n);
+            fill + 2
+        }
+        Err(at) => {
+            put_use(&mut *index, fill, at, key, n);
+            fill + 13 + key.name.len()
+        }
     }
 }
 
-// The pending at `at`, number n of its list, uses its label. The index's new fill count.
-fn add_pending(
-    d: &mut [u8],
+// The use of a label, whose name stands in `names`, as that of pending n. The index's new fill count.
+pub fn add_label<L: Labels>(
+    index: &mut [u8],
     fill: usize,
-    pending: &[u8],
-    at: usize,
+    names: &[u8],
+    label: AddressLabel,
     n: u16,
-    labels: &[u8],
-    index: &[u16],
+    labels: &L,
 ) -> usize
-    requires pending_is { PendingIs pending.now at }
-    requires labels_value { first_bad (has_owned_name 4 labels.now) (places labels.now) ≡ None }
-    requires index_of { IndexOf 4 labels.now index.now × (length index.now < 65536) }
-    requires room_for_one { RoomForOne d.old labels.now pending.now fill (label_of pending.now at) n }
-    ensures { AddsOneTo d.old d.new labels.now pending.now fill (label_of pending.now at) n result }
+    requires { RoomForOne index.old (L.list labels.now) names.now fill label n }
+    ensures adds { AddsOneTo index.old index.new (L.list labels.now) names.now fill label n result }
+    ensures owners { KeepsOwners (L.list labels.now) names.now label n }
 {
-    let label = pending::read_pending(pending, at).label;
     match label {
         AddressLabel::Constant(_) => fill,
         AddressLabel::Label(l) => {
-            let name = address_label::name_of(pending, label);
-            let standing = standing_of(labels, index, l.location.source, name);
-            add_use(&mut *d, fill, name, standing, n)
+            let name = address_label::name_of(names, label);
+            let key = key_of(labels, l.location.source, name);
+            add_use(&mut *index, fill, &key, n)
         }
     }
 }
 
 // An index made afresh into a buffer as long as the pending list, by an index of the labels. Its fill count.
-pub fn fill_index(d: &mut [u8], pending: &[u8], labels: &[u8], index: &[u16]) -> usize
-    requires pending_value { first_bad (pending_ok 16 pending.now) (places pending.now) ≡ None }
-    requires pending_in_bounds { (length pending.now ≤ length d.old) × (length d.old ≤ 65536) }
-    requires labels_value { first_bad (has_owned_name 4 labels.now) (places labels.now) ≡ None }
-    requires index_of { IndexOf 4 labels.now index.now × (length index.now < 65536) }
+pub fn fill_index(d: &mut [u8], pending: &Pendings<'_>, labels: &LabelIndex<'_>) -> usize
+    requires { (length pending.now ≤ length d.old) × (length d.old ≤ 65536) }
     ensures { Made d.old d.new labels.now pending.now result }
 {
+    let list = pending.bytes;
     let mut fill: usize = 0;
-    for (n, at) in record::places(pending).enumerate() {
-        fill = add_pending(&mut *d, fill, pending, at, n as u16, labels, index);
+    for (n, at) in record::places(list).enumerate() {
+        let label = pending::read_pending(list, at).label;
+        fill = add_label(&mut *d, fill, list, label, n as u16, labels);
     }
     fill
-}
-
-// How long the index is with one use more of the key: for refusal 17, before anything is written.
-pub fn size_with(index: &[u8], fill: usize, name: &[u8], standing: Standing) -> usize
-    requires an_index { AnIndex index.now fill }
-    requires name_len_bound { length name.now ≤ 65536 }
-    ensures { SizeWith index.now fill (key_with name.now standing) result }
-{
-    let place = find_use(index, fill, name, standing);
-    if place.found {
-        return fill + 2;
-    }
-    fill + 13 + name.len()
 }

@@ -1,12 +1,12 @@
 // Writes macros out. A first pass over the token list finds the answer; a second one writes, and only where the first refused nothing.
 #![tactic(auto)]
 
-ghost use Rattle.std.specs.Prelude.{◌≡◌, true, [], ◌∷◌, ◌≤◌, length};
+ghost use Rattle.std.specs.Prelude.{◌≡◌, true, None, [], ◌∷◌, ◌≤◌, length};
 ghost use Rattle.record.specs.Bytes.{location_at};
 ghost use Rattle.record.specs.Records.{limit};
 ghost use Rattle.record.specs.Stores.{append};
-ghost use Rattle.lexer.specs.Tokens.{token_layout};
 ghost use Rattle.macros.specs.Macros.{macro_at_ok, macro_layout};
+ghost use Rattle.lexer.specs.Tokens.{token_layout};
 ghost use Rattle.written_out.specs.declared.Mode.TheVariants.{Leading};
 ghost use Rattle.written_out.specs.Written.{write, replaced, written_out};
 ghost use Rattle.written_out.specs.Outcome.{answer_from, write_out_outcome};
@@ -17,7 +17,8 @@ ghost use Rattle.write_out.specs.Body.{steps_from, Ready, written_from};
 ghost use Rattle.write_out.specs.Calls.{call_verdict, CallIs, act_steps, mode_after, Acting};
 ghost use Rattle.write_out.specs.Entry.{stop_by};
 
-use macro_tokens::{Act, Body};
+use macro_tokens::{Act, Body, Reading, Source};
+use macros::Macros;
 use record::Location;
 use refusal::Refusal;
 use written_out::Mode;
@@ -42,27 +43,25 @@ fn call_verdict(
 
 // The call of the macro at k by the token at `place`, behind which its line goes on from `next` on: the body that it is replaced by.
 fn call_at(
-    text: &[u8],
-    macros: &[u8],
+    source: &Source<'_>,
     levels: usize,
-    list: &[u8],
-    body: Body,
+    reading: &Reading<'_>,
     place: usize,
     next: usize,
     k: usize,
 ) -> Result<Body, Refusal>
-    requires token_in { TokenIn text.now macros.now place × ReadableFrom text.now macros.now list.now body next }
-    requires text_len_bound { (length text.now ≤ limit) × (macro_layout macros.now ≡ None) × (macro_at_ok macros.now k ≡ true) }
-    ensures { CallIs text.now macros.now levels k (replaced levels (location_at (token_record text.now macros.now place) 4) (macro_at macros.now k) (above macros.now k) (arguments_from text.now macros.now list.now body next)) result }
+    requires token_in { TokenIn source.now.text.now source.now.macros.now place × ReadableFrom source.now.text.now source.now.macros.now reading.now.list.now reading.now.body next }
+    requires text_len_bound { (length source.now.text.now ≤ limit) × (macro_layout source.now.macros.now ≡ None) × (macro_at_ok source.now.macros.now k ≡ true) }
+    ensures { CallIs source.now.text.now source.now.macros.now levels k (replaced levels (location_at (token_record source.now.text.now source.now.macros.now place) 4) (macro_at source.now.macros.now k) (above source.now.macros.now k) (arguments_from source.now.text.now source.now.macros.now reading.now.list.now reading.now.body next)) result }
 {
-    let end = record::next(macros, k);
-    let head = macros::head_of(&macros[k + 4..end]);
-    let taken = macro_tokens::arguments_from(text, macros, list, body, next);
-    let location = macro_tokens::location_of(text, macros, place);
+    let end = record::next(source.macros, k);
+    let head = macros::head_of(&source.macros[k + 4..end]);
+    let taken = macro_tokens::arguments_from(source, reading, next);
+    let location = macro_tokens::location_of(source, place);
     call_verdict(location, taken.count, head.count, levels)?;
     let args = taken.args;
     Ok(Body {
-        base: text.len() + k + 4,
+        base: source.text.len() + k + 4,
         start: head.body,
         names: head.names,
         count: head.count,
@@ -72,35 +71,33 @@ fn call_at(
 
 // A token written at `fill`, where there is room for it: the new fill.
 fn write_token(
-    text: &[u8],
-    macros: &[u8],
+    source: &Source<'_>,
     place: usize,
     really: bool,
     out: &mut [u8],
     fill: usize,
 ) -> Result<u32, Refusal>
-    requires { TokenIn text.now macros.now place × (fill ≤ length out.old) × (length out.old ≤ limit) }
-    ensures value { result ≡ answer_from (length out.old) fill (write (token_record text.now macros.now place) ∷ []) }
-    ensures out_after { out.new ≡ append out.old fill (only really (written_from (length out.old) fill (write (token_record text.now macros.now place) ∷ []))) }
+    requires { TokenIn source.now.text.now source.now.macros.now place × (fill ≤ length out.old) × (length out.old ≤ limit) }
+    ensures value { result ≡ answer_from (length out.old) fill (write (token_record source.now.text.now source.now.macros.now place) ∷ []) }
+    ensures out_after { out.new ≡ append out.old fill (only really (written_from (length out.old) fill (write (token_record source.now.text.now source.now.macros.now place) ∷ []))) }
 {
-    let size = macro_tokens::size_of(text, macros, place);
+    let size = macro_tokens::size_of(source, place);
     if out.len() - fill < size {
-        let location = macro_tokens::location_of(text, macros, place);
+        let location = macro_tokens::location_of(source, place);
         return Err(Refusal::NoWrittenSpace(location));
     }
-    macro_tokens::put_token(text, macros, place, really, out, fill);
+    macro_tokens::put_token(source, place, really, out, fill);
     Ok((fill + size) as u32)
 }
 
 // What is done with the token at `place`, behind which its body goes on from `next` on: the new fill, or the first refusal.
+// kept: `out` and `fill` are two parameters, since a struct that holds a `&mut` needs a clause on its `ghost_name` in each contract.
 #[cycle(write_act_write_body)]
 fn write_act(
-    text: &[u8],
-    macros: &[u8],
+    source: &Source<'_>,
     most: usize,
     levels: usize,
-    list: &[u8],
-    body: Body,
+    reading: &Reading<'_>,
     place: usize,
     next: usize,
     act: Act,
@@ -108,18 +105,21 @@ fn write_act(
     out: &mut [u8],
     fill: usize,
 ) -> Result<u32, Refusal>
-    requires { Acting text.now macros.now most list.now body place next act × (fill ≤ length out.old) × (length out.old ≤ limit) }
-    ensures value { result ≡ answer_from (length out.old) fill (act_steps text.now macros.now levels list.now body place next act) }
-    ensures out_after { out.new ≡ append out.old fill (only really (written_from (length out.old) fill (act_steps text.now macros.now levels list.now body place next act))) }
+    requires { Acting source.now.text.now source.now.macros.now most reading.now.list.now reading.now.body place next act × (fill ≤ length out.old) × (length out.old ≤ limit) }
+    ensures value { result ≡ answer_from (length out.old) fill (act_steps source.now.text.now source.now.macros.now levels reading.now.list.now reading.now.body place next act) }
+    ensures out_after { out.new ≡ append out.old fill (only really (written_from (length out.old) fill (act_steps source.now.text.now source.now.macros.now levels reading.now.list.now reading.now.body place next act))) }
 {
     match act {
-        Act::Write(_) => write_token(text, macros, place, really, out, fill),
+        Act::Write(_) => write_token(source, place, really, out, fill),
         Act::Pass => Ok(fill as u32),
         Act::Call(k) => {
-            let inner = call_at(text, macros, levels, list, body, place, next, k)?;
-            let end = record::next(macros, k);
-            let bytes = &macros[k + 4..end];
-            write_body(text, macros, k, levels - 1, bytes, inner, really, out, fill)
+            let inner = call_at(source, levels, reading, place, next, k)?;
+            let end = record::next(source.macros, k);
+            let called = Reading {
+                list: &source.macros[k + 4..end],
+                body: inner,
+            };
+            write_body(source, k, levels - 1, &called, really, out, fill)
         }
     }
 }
@@ -138,30 +138,31 @@ fn mode_after(act: Act) -> Mode
 // kept: `really` is a flag, as the rule on speed has it: measuring and writing are one function that is run twice.
 #[cycle(write_act_write_body)]
 fn write_body(
-    text: &[u8],
-    macros: &[u8],
+    source: &Source<'_>,
     most: usize,
     levels: usize,
-    list: &[u8],
-    body: Body,
+    reading: &Reading<'_>,
     really: bool,
     out: &mut [u8],
     from: usize,
 ) -> Result<u32, Refusal>
-    requires { Ready text.now macros.now most list.now body × (from ≤ length out.old) × (length out.old ≤ limit) }
-    ensures value { result ≡ answer_from (length out.old) from (steps_from text.now macros.now most levels list.now body Leading body.start) }
-    ensures out_after { out.new ≡ append out.old from (only really (written_from (length out.old) from (steps_from text.now macros.now most levels list.now body Leading body.start))) }
+    requires { Ready source.now.text.now source.now.macros.now most reading.now.list.now reading.now.body × (from ≤ length out.old) × (length out.old ≤ limit) }
+    ensures value { result ≡ answer_from (length out.old) from (steps_from source.now.text.now source.now.macros.now most levels reading.now.list.now reading.now.body Leading reading.now.body.start) }
+    ensures out_after { out.new ≡ append out.old from (only really (written_from (length out.old) from (steps_from source.now.text.now source.now.macros.now most levels reading.now.list.now reading.now.body Leading reading.now.body.start))) }
 {
-    let mut at = body.start;
+    // copies of its own: a write to `out` then asks for no field to be read again
+    let source = *source;
+    let reading = *reading;
+    let mut at = reading.body.start;
     let mut fill = from;
     let mut mode = Mode::Leading;
     // kept: `record::places` begins at a list's first record, and this walk behind a macro's head
-    while at < list.len() {
-        let next = record::next(list, at);
-        let place = macro_tokens::place_at(list, body, at);
-        let act = macro_tokens::act_at(text, macros, most, list, body, mode, place, next);
+    while at < reading.list.len() {
+        let next = record::next(reading.list, at);
+        let place = macro_tokens::place_at(&reading, at);
+        let act = macro_tokens::act_at(&source, most, &reading, mode, place, next);
         fill = write_act(
-            text, macros, most, levels, list, body, place, next, act, really, &mut *out, fill,
+            &source, most, levels, &reading, place, next, act, really, &mut *out, fill,
         )? as usize;
         mode = mode_after(act);
         at = next;
@@ -170,10 +171,10 @@ fn write_body(
 }
 
 // A pass over the token list: a body without parameters, which may call all macros.
-fn write_all(text: &[u8], macros: &[u8], really: bool, out: &mut [u8]) -> Result<u32, Refusal>
-    requires { (token_layout text.now ≡ None) × (macro_layout macros.now ≡ None) × (length out.old ≤ limit) }
-    ensures value { result ≡ answer_from (length out.old) 0 (written_out text.now macros.now) }
-    ensures out_after { out.new ≡ append out.old 0 (only really (written_from (length out.old) 0 (written_out text.now macros.now))) }
+fn write_all(source: &Source<'_>, really: bool, out: &mut [u8]) -> Result<u32, Refusal>
+    requires { (token_layout source.now.text.now ≡ None) × (macro_layout source.now.macros.now ≡ None) × (length out.old ≤ limit) }
+    ensures value { result ≡ answer_from (length out.old) 0 (written_out source.now.text.now source.now.macros.now) }
+    ensures out_after { out.new ≡ append out.old 0 (only really (written_from (length out.old) 0 (written_out source.now.text.now source.now.macros.now))) }
 {
     let body = Body {
         base: 0,
@@ -182,7 +183,11 @@ fn write_all(text: &[u8], macros: &[u8], really: bool, out: &mut [u8]) -> Result
         count: 0,
         args: [0; 8],
     };
-    write_body(text, macros, macros.len(), 8, text, body, really, out, 0)
+    let reading = Reading {
+        list: source.text,
+        body,
+    };
+    write_body(source, source.macros.len(), 8, &reading, really, out, 0)
 }
 
 // Refusals 1 and 2, for a buffer of `room` bytes.
@@ -194,7 +199,7 @@ fn check(tokens: &[u8], macros: &[u8], room: usize) -> Result<(), Refusal>
     if room > record::LIMIT {
         return Err(Refusal::BadLayout(2, 65536));
     }
-    refusal::check_names(1, macro_lookup::first_repeat(macros))
+    refusal::check_names(1, macro_lookup::first_repeat(&Macros { bytes: macros }))
 }
 
 // The token list with its macros' calls written out, from the start of `out` on, or a refusal, and then no byte changes.
@@ -202,6 +207,10 @@ pub fn write_out(tokens: &[u8], macros: &[u8], out: &mut [u8]) -> Result<u32, Re
     ensures { write_out_outcome tokens.now macros.now out.old ≡ (record { answer = result; out = out.new }) }
 {
     check(tokens, macros, out.len())?;
-    write_all(tokens, macros, false, &mut *out)?;
-    write_all(tokens, macros, true, out)
+    let source = Source {
+        text: tokens,
+        macros,
+    };
+    write_all(&source, false, &mut *out)?;
+    write_all(&source, true, out)
 }

@@ -11,13 +11,13 @@ returns-in_err-check_layouts c =
     let p = err_from_is_err_and _ c.from_residual.ensures.1 in
     p.1 ∙ ap Err p.2 ∙ sym (lists_are _ _ _ _ _ _ (sym c.in_err-check_layouts.ensures) refl)
 
-pub first_repeat-requires : goal.first_repeat-requires
-first_repeat-requires c = (layouts_pass _ _ _ _ c.args.region _ (sym c.in_ok-check_layouts.ensures)).descriptors_good
+pub new-requires : goal.new-requires
+new-requires c = (layouts_pass _ _ _ _ c.args.region _ (sym c.in_ok-check_layouts.ensures)).descriptors_good
 
 pub check_names-requires : goal.check_names-requires
 check_names-requires c p e =
-    omega (arith, repeat_place _ p (layouts_pass _ _ _ _ c.args.region _ (sym c.in_ok-check_layouts.ensures)).descriptors_good (sym c.first_repeat.ensures ∙ e))
+    omega (arith, repeat_place _ p (layouts_pass _ _ _ _ c.args.region _ (sym c.in_ok-check_layouts.ensures)).descriptors_good (sym (rw c.new.ensures at c.first_repeat.ensures) ∙ e))
 
 -- where the layouts pass, the names decide
 pub returns : goal.returns
-returns c = c.check_names.ensures ∙ sym (lists_are _ _ _ _ _ _ (sym c.in_ok-check_layouts.ensures) (sym c.first_repeat.ensures))
+returns c = c.check_names.ensures ∙ sym (lists_are _ _ _ _ _ _ (sym c.in_ok-check_layouts.ensures) (sym (rw c.new.ensures at c.first_repeat.ensures)))

@@ -1,33 +1,41 @@
-use Rattle.std.proofs.Common.{◌≡◌, Bool, sym, ap, ◌∙◌}
-use Rattle.std.proofs.lemmas.Bool.{not-true, not-false}
-use Rattle.emit_outcome.specs.declared.Emitted.{Emitted}
+use Rattle.std.specs.Prelude.{Err}
+use Rattle.std.proofs.Common.{sym, ap, subst, ◌∙◌}
+use Rattle.std.proofs.lemmas.Result.{err_from_is_err_and}
 use Rattle.emit_outcome.specs.Call.{lent_of, call_of, outcome_of}
-use Rattle.emit_outcome.specs.Emit.{emit_outcome}
+use Rattle.emit_outcome.specs.declared.RefusedLine.{RefusedLine}
 use Rattle.emit_checks.proofs.ListsLaws.{lists_pass}
-use Rattle.emit_core.proofs.EmitLaws.{read_outcome, read_outcome_lem}
+use Rattle.emit_made.proofs.MadeLaws.{stopped_ok, stopped_err}
+use Rattle.emit_core.specs.Read.{ReadBy}
+use Rattle.emit_core.proofs.EmitLaws.{read_outcome_lem, unread_outcome}
 use Rattle.emit_core.proofs.emit_named.Goals as goal
-use Rattle.emit_core.proofs.emit_named.Goals.{After-read_line-read}
 
-by_read : (c : After-read_line-read) (known : Bool) → c.read_line-read.result.known ≡ known →
-    let a = c.args in let call = call_of a.tokens.now a.mnemonic.now a.descriptors.now (lent_of a.«data».now a.pending.now a.breakpoints.now) a.numbers.counts a.numbers.place in
-    emit_outcome a.job call ≡ read_outcome a.job call known c.read_line-read.result.line c.read_line-read.result.made
-by_read c known e =
+pub read_line-requires : goal.read_line-requires
+read_line-requires c = let l = lists_pass _ _ _ _ c.args.numbers.place.region _ c.requires in (l.tokens_good, l.mnemonic_good, l.descriptors_good)
+
+pub returns-in_err-read : goal.returns-in_err-read
+returns-in_err-read c =
     let a = c.args in
-    let call = call_of a.tokens.now a.mnemonic.now a.descriptors.now (lent_of a.«data».now a.pending.now a.breakpoints.now) a.numbers.counts a.numbers.place in
-    let r = c.read_line-read.result in
-    read_outcome_lem a.job call r.known r.line r.made c.read_line-read.ensures c.requires ∙ ap (λ (k : Bool). read_outcome a.job call k r.line r.made) e
-
-pub read_line-read-requires : goal.read_line-read-requires
-read_line-read-requires c = let l = lists_pass _ _ _ _ c.args.numbers.place.region _ c.requires in (l.tokens_good, l.mnemonic_good, l.descriptors_good)
-
-pub returns-then-not-read : goal.returns-then-not-read
-returns-then-not-read c =
-    let a = c.args in
-    by_read (goal.at.returns-then-not-read c).After-read_line-read _ (not-true _ c.if-not-read.true)
-    ∙ sym (ap (λ (x : Emitted). outcome_of x.answer x.counts (lent_of a.«data».now a.pending.now a.breakpoints.now)) c.refused.ensures)
+    let l = a.lists in
+    let lent = lent_of a.«data».now a.pending.now a.breakpoints.now in
+    let p = err_from_is_err_and c.from_residual.result c.from_residual.ensures.1 in
+    let s = stopped_err a.numbers.place.position c.read_line.result (sym c.at_position.ensures ∙ c.in_err-read.was) in
+    let r = subst (ReadBy a.job l.tokens.now l.mnemonic.now l.descriptors.now a.numbers.place.position) s.1 c.read_line.ensures in
+    rw (p.1, p.2)
+    (unread_outcome a.job (call_of l.tokens.now l.mnemonic.now l.descriptors.now lent a.numbers.counts a.numbers.place) s.0 c.requires r ∙ ap (λ (k : RefusedLine). outcome_of (Err k) a.numbers.counts lent) s.2)
 
 pub append_or_refuse-requires : goal.append_or_refuse-requires
-append_or_refuse-requires c = ((lists_pass _ _ _ _ c.args.numbers.place.region _ c.requires).filled, c.read_line-read.ensures.good)
+append_or_refuse-requires c =
+    let a = c.args in
+    let l = a.lists in
+    let s = stopped_ok a.numbers.place.position c.read_line.result (sym c.at_position.ensures ∙ c.in_ok-read.was) in
+    let r = subst (ReadBy a.job l.tokens.now l.mnemonic.now l.descriptors.now a.numbers.place.position) s c.read_line.ensures in
+    ((lists_pass _ _ _ _ a.numbers.place.region _ c.requires).filled, r.good)
 
 pub returns : goal.returns
-returns c = by_read (goal.at.returns c).After-read_line-read _ (not-false _ c.if-not-read.false) ∙ c.append_or_refuse.ensures
+returns c =
+    let a = c.args in
+    let l = a.lists in
+    let lent = lent_of a.«data».now a.pending.now a.breakpoints.now in
+    let s = stopped_ok a.numbers.place.position c.read_line.result (sym c.at_position.ensures ∙ c.in_ok-read.was) in
+    let r = subst (ReadBy a.job l.tokens.now l.mnemonic.now l.descriptors.now a.numbers.place.position) s c.read_line.ensures in
+    read_outcome_lem a.job (call_of l.tokens.now l.mnemonic.now l.descriptors.now lent a.numbers.counts a.numbers.place) _ _ _ r c.requires ∙ c.append_or_refuse.ensures

@@ -7,23 +7,23 @@ use Rattle.emit_bytes.proofs.AppendedLaws.{pendings_length}
 use Rattle.emit_outcome.specs.Call.{lent_of}
 use Rattle.emit_checks.specs.Made.{pairs_of, RoomFor}
 use Rattle.emit_checks.proofs.RoomLaws.{room_fits}
-use Rattle.emit_made.proofs.MadeLaws.{index_most, same_pcs, pcs_within, outcome_same}
+use Rattle.emit_made.proofs.MadeLaws.{same_pcs, pcs_within, outcome_same}
 use Rattle.emit_made.proofs.append_line.Goals as goal
 use Rattle.emit_made.proofs.append_line.Goals.{After-pendings_size-size}
 
 record Known (c : After-pendings_size-size) : Type 0 where
-  count_is : c.count_of-n.result ≡ c.args.made.emit.count
-  words : c.count_of-n.result ≡ length (pairs_of c.args.made.emit)
+  count_is : c.count_of-n.result ≡ c.args.words.count
+  words : c.count_of-n.result ≡ length (pairs_of c.args.words)
   few : c.count_of-n.result ≤ 5
-  waits : c.pendings_size-size.result ≡ pendings_len c.args.tokens.now (pairs_of c.args.made.emit)
+  waits : c.pendings_size-size.result ≡ pendings_len c.args.tokens.now (pairs_of c.args.words)
   fits : RoomFor c.args.numbers (lent_of c.args.«data».now c.args.pending.now c.args.breakpoints.now) c.count_of-n.result c.pendings_size-size.result
   first_pc_lem : 0 < c.count_of-n.result → (c.args.numbers.place.address + c.args.numbers.counts.data_len) % 2 ^ 32 ≡ c.args.numbers.place.address + c.args.numbers.counts.data_len
 
 known : (c : After-pendings_size-size) → Known c
 known c =
-    let e = c.args.made.emit in
+    let e = c.args.words in
     let n = c.count_of-n.result in
-    let few = c.requires.filled.1.counted in
+    let few = c.requires.filled.1 in
     let k : n ≡ e.count = c.count_of-n.ensures in
     let w : n ≡ length (pairs_of e) = k ∙ sym (length-take-le e.count e.instructions (omega (arith, few))) in
     let z : c.pendings_size-size.result ≡ pendings_len c.args.tokens.now (pairs_of e) = c.pendings_size-size.ensures.0 in
@@ -41,16 +41,13 @@ put_breakpoint-requires c =
     let k = known (goal.at.put_breakpoint-requires c).After-pendings_size-size in
     (k.few, omega (arith, k.fits.breakpoint_fits), pcs_within _ _ _ (omega arith) k.first_pc_lem k.fits.last_pc)
 
-pub overflow_cast-result : goal.overflow_cast-result
-overflow_cast-result c = omega (arith, index_most _ _ c.requires.filled.1.placed c.requires.filled.0.tokens_length)
-
 pub returns : goal.returns
 returns c =
     let a = c.args in
     let counts = a.numbers.counts in
     let at = a.numbers.place.address + counts.data_len in
-    let pairs = pairs_of a.made.emit in
+    let pairs = pairs_of a.words in
     let k = known (goal.at.returns c).After-pendings_size-size in
-    outcome_same a.made.cursor.index a.made.emit.loaded (omega (arith, k.words)) (ap (λ (x : ℕ). counts.pending + x) (pendings_length a.tokens.now (record { region = a.numbers.place.region; offset = counts.data_len; location = a.line }) pairs ∙ sym k.waits))
+    outcome_same a.position a.words.loaded (omega (arith, k.words)) (ap (λ (x : ℕ). counts.pending + x) (pendings_length a.tokens.now (record { region = a.numbers.place.region; offset = counts.data_len; location = a.line }) pairs ∙ sym k.waits))
     (omega (arith, k.words, breakpoint_length a.line at (length pairs))) (sym c.put_words.ensures) (sym c.put_pendings.ensures)
     (sym (c.put_breakpoint.ensures ∙ ap (append a.breakpoints.now counts.breakpoints) (same_pcs a.line _ at c.count_of-n.result k.first_pc_lem ∙ ap (breakpoint_bytes a.line at) k.words)))

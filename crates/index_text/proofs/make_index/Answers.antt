@@ -1,7 +1,6 @@
-use Rattle.std.proofs.Common.{◌≡◌, ℕ, List, take, ap, subst, ◌∙◌}
+use Rattle.std.proofs.Common.{◌≡◌, ℕ, List, take, ap, ◌∙◌}
 use Rattle.input.specs.Input.{list_of, behind_lists, word_or_zero, held}
 use Rattle.input.proofs.InputLaws.{held_is}
-use Rattle.text.specs.Text.{Put}
 use Rattle.indexed_outcome.specs.Make.{make_outcome}
 use Rattle.index_text.specs.IndexText.{outcome_text, make_index_text}
 use Rattle.index_text.proofs.IndexTextLaws.{held_text}
@@ -16,7 +15,6 @@ text_is input pending labels index fill p l n i =
 pub returns : goal.returns
 returns c =
     let h = c.hold-kept in
-    let p = c.put_outcome in
     let i : take h.result h.new.space ≡ held (list_of 2 c.args.input.now) = (held_is c.list_of.result.now h.new.space h.result h.ensures.value h.ensures.space_after).bytes ∙ ap held c.list_of.ensures in
-    subst (λ (text : List ℕ). Put c.args.out.now 0 text p.new.out p.result)
-    (text_is c.args.input.now _ _ _ _ c.list_of-pending.ensures c.list_of-labels.ensures (c.word_or_zero-fill.ensures ∙ ap (λ (x : List ℕ). word_or_zero x 0) c.behind_lists.ensures) i) p.ensures
+    c.put_outcome.ensures
+    ∙ text_is c.args.input.now _ _ _ _ c.list_of-pending.ensures c.list_of-labels.ensures (c.word_or_zero-fill.ensures ∙ ap (λ (x : List ℕ). word_or_zero x 0) c.behind_lists.ensures) i

@@ -1,19 +1,22 @@
-use Rattle.std.proofs.Common.{◌≡◌, ℕ, List, Bool, true, false, sym, ap, ◌∙◌, arith}
-use Rattle.std.proofs.lemmas.Bool.{not-true, not-false}
+use Rattle.std.specs.Prelude.{Err}
+use Rattle.std.proofs.Common.{ℕ, List, true, sym, ap, subst, ◌∙◌, arith}
+use Rattle.std.proofs.lemmas.Result.{err_from_is_err_and}
 use Rattle.emit_outcome.specs.Call.{Lent, Call, EmitOutcome, lent_of, call_of}
-use Rattle.emit_outcome.specs.Emit.{line_outcome, emit_outcome}
-use Rattle.emit_checks.specs.Made.{pairs_of, made_line}
+use Rattle.emit_outcome.specs.Emit.{line_outcome}
+use Rattle.emit_outcome.specs.declared.RefusedLine.{RefusedLine}
+use Rattle.emit_checks.specs.Made.{made_line}
 use Rattle.emit_checks.proofs.ListsLaws.{lists_pass}
-use Rattle.emit_core.proofs.EmitLaws.{read_outcome, read_outcome_lem}
+use Rattle.emit_made.proofs.MadeLaws.{stopped_ok, stopped_err}
+use Rattle.emit_core.specs.Read.{ReadBy, ReadIs}
+use Rattle.emit_core.proofs.EmitLaws.{read_outcome_lem, unread_outcome}
 use Rattle.label_uses.specs.UseBytes.{index_of}
 use Rattle.indexed_outcome.specs.Indexed.{IndexedCall, filled_pending, indexed_call_of, indexed_outcome_of}
-use Rattle.indexed_outcome.specs.declared.IndexedEmitted.{IndexedEmitted}
 use Rattle.indexed_core.specs.Steps.{new_index}
 use Rattle.indexed_core.proofs.NewUsesLaws.{new_index_lem}
 use Rattle.indexed_core.proofs.ChecksLaws.{all_pass, pending_passes}
 use Rattle.indexed_core.proofs.StepsLaws.{call_unknown, call_line}
 use Rattle.indexed_core.proofs.emit_named.Goals as goal
-use Rattle.indexed_core.proofs.emit_named.Goals.{Start, After-read_line-read}
+use Rattle.indexed_core.proofs.emit_named.Goals.{Start, In_ok-read}
 
 abbrev lent : Start → Lent
 lent c = let a = c.args in lent_of a.«data».now a.pending.now a.breakpoints.now
@@ -24,51 +27,55 @@ plain_call c = let a = c.args in call_of a.tokens.now a.mnemonic.now a.descripto
 abbrev call : Start → IndexedCall
 call c = indexed_call_of (plain_call c) c.args.labels.now c.args.index.now c.args.fill
 
-by_read : (c : After-read_line-read) (known : Bool) → c.read_line-read.result.known ≡ known →
-    let a = c.args in let plain = call_of a.tokens.now a.mnemonic.now a.descriptors.now (lent_of a.«data».now a.pending.now a.breakpoints.now) a.numbers.counts a.numbers.place in
-    emit_outcome a.job plain ≡ read_outcome a.job plain known c.read_line-read.result.line c.read_line-read.result.made
-by_read c known e =
+was_read : (c : In_ok-read) → let a = c.args in let r = c.in_ok-read.read in
+    ReadIs a.job a.tokens.now a.mnemonic.now a.descriptors.now a.numbers.place.position true r.line r.made
+was_read c =
     let a = c.args in
-    let plain = call_of a.tokens.now a.mnemonic.now a.descriptors.now (lent_of a.«data».now a.pending.now a.breakpoints.now) a.numbers.counts a.numbers.place in
-    let r = c.read_line-read.result in
-    read_outcome_lem a.job plain r.known r.line r.made c.read_line-read.ensures (all_pass (indexed_call_of plain a.labels.now a.index.now a.fill) c.requires).lists_pass
-    ∙ ap (λ (k : Bool). read_outcome a.job plain k r.line r.made) e
+    subst (ReadBy a.job a.tokens.now a.mnemonic.now a.descriptors.now a.numbers.place.position)
+    (stopped_ok a.numbers.place.position c.read_line.result (sym c.at_position.ensures ∙ c.in_ok-read.was)) c.read_line.ensures
 
-pub read_line-read-requires : goal.read_line-read-requires
-read_line-read-requires c =
-    let s = (goal.at.read_line-read-requires c).Start in
+pub read_line-requires : goal.read_line-requires
+read_line-requires c =
+    let s = (goal.at.read_line-requires c).Start in
     let l = lists_pass _ _ _ _ c.args.numbers.place.region _ (all_pass (call s) c.requires).lists_pass in
     (l.tokens_good, l.mnemonic_good, l.descriptors_good)
 
-pub returns-then-not-read : goal.returns-then-not-read
-returns-then-not-read c =
-    let s = (goal.at.returns-then-not-read c).Start in
-    call_unknown c.args.job (call s) c.requires _ (by_read (goal.at.returns-then-not-read c).After-read_line-read false (not-true _ c.if-not-read.true))
-    ∙ sym (ap (λ (x : IndexedEmitted). indexed_outcome_of x.answer x.counts (lent s) c.args.index.now) c.refused.ensures)
+pub returns-in_err-read : goal.returns-in_err-read
+returns-in_err-read c =
+    let a = c.args in
+    let s = (goal.at.returns-in_err-read c).Start in
+    let p = err_from_is_err_and c.from_residual.result c.from_residual.ensures.1 in
+    let k = stopped_err a.numbers.place.position c.read_line.result (sym c.at_position.ensures ∙ c.in_err-read.was) in
+    let r = subst (ReadBy a.job a.tokens.now a.mnemonic.now a.descriptors.now a.numbers.place.position) k.1 c.read_line.ensures in
+    rw (p.1, p.2)
+    (call_unknown a.job (call s) c.requires k.0 (unread_outcome a.job (plain_call s) k.0 (all_pass (call s) c.requires).lists_pass r)
+    ∙ ap (λ (x : RefusedLine). indexed_outcome_of (Err x) (record { counts = a.numbers.counts; index = a.fill }) (lent s) a.index.now) k.2)
 
 pub append_or_refuse-requires : goal.append_or_refuse-requires
 append_or_refuse-requires c =
     let s = (goal.at.append_or_refuse-requires c).Start in
-    let p = all_pass (call s) c.requires in
-    record {
-      lists_filled = (lists_pass _ _ _ _ c.args.numbers.place.region _ p.lists_pass).filled;
-      line_good = c.read_line-read.ensures.good;
-      pending_kept = (pending_passes _ _ _ (lent s) c.args.numbers.place.region c.args.numbers.counts p.six_pass).2;
-      labels_good = p.labels_good;
-      index_good = p.index_good;
-    }
+    let p = all_pass (call s) c.requires in (
+      record {
+        lists_filled = (lists_pass _ _ _ _ c.args.numbers.place.region _ p.lists_pass).filled;
+        pending_kept = (pending_passes _ _ _ (lent s) c.args.numbers.place.region c.args.numbers.counts p.six_pass).2;
+        labels_good = p.labels_good;
+        index_good = p.index_good;
+      },
+      (was_read (goal.at.append_or_refuse-requires c).In_ok-read).good,
+    )
 
 pub returns : goal.returns
 returns c =
     let s = (goal.at.returns c).Start in
     let a = c.args in
-    let r = c.read_line-read in
-    let e = by_read (goal.at.returns c).After-read_line-read true (not-false _ c.if-not-read.false) in
-    let y : EmitOutcome = line_outcome a.tokens.now r.result.line a.numbers (lent s) (made_line r.result.made) in
-    let new : List ℕ = new_index a.labels.now a.tokens.now (filled_pending (lent s) a.numbers.counts) (pairs_of r.result.made.emit) in
-    call_line a.job (call s) c.requires r.result.line y new r.ensures.location_is e
+    let r = c.in_ok-read.read in
+    let is = was_read (goal.at.returns c).In_ok-read in
+    let e = read_outcome_lem a.job (plain_call s) true r.line r.made is (all_pass (call s) c.requires).lists_pass in
+    let y : EmitOutcome = line_outcome a.tokens.now r.line a.numbers (lent s) (made_line r.made) in
+    let new : List ℕ = new_index a.labels.now a.tokens.now (filled_pending (lent s) a.numbers.counts) (made_line r.made).pairs in
+    call_line a.job (call s) c.requires r.line y new is.location_is e
     (λ position loaded f.
     ap (λ (o : EmitOutcome). index_of a.labels.now (filled_pending o.lent o.counts)) (sym e)
-    ∙ new_index_lem a.job (plain_call s) r.result.known r.result.made a.labels.now position loaded (λ i. omega (arith, c.type_inv.tokens i)) (λ i. omega (arith, c.type_inv.mnemonic i))
-    r.ensures.line_is (not-false _ c.if-not-read.false) (ap (λ (o : EmitOutcome). o.answer) e ∙ f))
+    ∙ new_index_lem a.job (plain_call s) r.line r.made position loaded f a.labels.now (λ i. omega (arith, c.type_inv.tokens i)) (λ i. omega (arith, c.type_inv.mnemonic i))
+    is.line_is (ap (λ (o : EmitOutcome). o.answer) e ∙ f))
     ∙ c.append_or_refuse.ensures

@@ -3,19 +3,18 @@ use Rattle.std.proofs.Common.{◌≡◌, ℕ, List, ap, ◌∙◌}
 use Rattle.emit_outcome.specs.Call.{Lent, lent_of}
 use Rattle.input.proofs.InputLaws.{held_is}
 use Rattle.input.specs.Input.{held}
-use Rattle.text.specs.Text.{Put}
 use Rattle.indexed_text.specs.IndexedText.{call_text, emit_indexed_text}
 use Rattle.indexed_text.proofs.emit_indexed.Goals as goal
 
 -- the text of a call by equal buffers, whatever the text is
-text_put : (text : Lent → List ℕ → List ℕ) (out d p b i d' p' b' i' e : List ℕ) (n : ℕ) → d ≡ d' → p ≡ p' → b ≡ b' → i ≡ i'
-    → Put out 0 (text (lent_of d p b) i) e n → Put out 0 (text (lent_of d' p' b') i') e n
-text_put text out d p b i d' p' b' i' e n hd hp hb hi h = rw (← hd, ← hp, ← hb, ← hi) h
+text_by : (text : Lent → List ℕ → List ℕ) (out d p b i d' p' b' i' : List ℕ) → d ≡ d' → p ≡ p' → b ≡ b' → i ≡ i'
+    → out ≡ text (lent_of d p b) i → out ≡ text (lent_of d' p' b') i'
+text_by text out d p b i d' p' b' i' hd hp hb hi h = rw (← hd, ← hp, ← hb, ← hi) h
 
 pub returns : goal.returns
 unfolding emit_indexed_text
 returns c =
-    text_put (call_text c.args.input.now) _ _ _ _ _ _ _ _ _ _ _
+    text_by (call_text c.args.input.now) _ _ _ _ _ _ _ _ _
     ((held_is c.list_of.result.now _ _ c.hold-d.ensures.value c.hold-d.ensures.space_after).bytes ∙ ap held c.list_of.ensures)
     ((held_is c.list_of-2.result.now _ _ c.hold-p.ensures.value c.hold-p.ensures.space_after).bytes ∙ ap held c.list_of-2.ensures)
     ((held_is c.list_of-3.result.now _ _ c.hold-b.ensures.value c.hold-b.ensures.space_after).bytes ∙ ap held c.list_of-3.ensures)

@@ -1,14 +1,20 @@
-use Rattle.std.proofs.Common.{◌≡◌, take, ap, ◌∙◌}
-use Rattle.input.specs.Input.{list_of, held}
+-- The buffers are those of the input, of which one byte more than the limit is held at most.
+use Rattle.std.proofs.Common.{◌≡◌, ℕ, List, ap, ◌∙◌}
+use Rattle.emit_outcome.specs.Call.{Lent, lent_of}
+use Rattle.input.specs.Input.{held}
 use Rattle.input.proofs.InputLaws.{held_is}
-use Rattle.line_text.specs.Line.{job_text}
+use Rattle.line_text.specs.Line.{call_text, job_text}
 use Rattle.line_text.proofs.put_job.Goals as goal
+
+-- the text of a call by equal buffers, whatever the text is
+text_by : (text : Lent → List ℕ) (out d p b d' p' b' : List ℕ) → d ≡ d' → p ≡ p' → b ≡ b' → out ≡ text (lent_of d p b) → out ≡ text (lent_of d' p' b')
+text_by text out d p b d' p' b' hd hp hb h = rw (← hd, ← hp, ← hb) h
 
 pub returns : goal.returns
 unfolding job_text
 returns c =
-    let s = c.args.input.now in
-    let d : take c.hold-d.result c.hold-d.new.space ≡ held (list_of 3 s) = (held_is _ _ _ c.hold-d.ensures.value c.hold-d.ensures.space_after).bytes ∙ ap held c.list_of.ensures in
-    let p : take c.hold-p.result c.hold-p.new.space ≡ held (list_of 4 s) = (held_is _ _ _ c.hold-p.ensures.value c.hold-p.ensures.space_after).bytes ∙ ap held c.list_of-2.ensures in
-    let b : take c.hold-b.result c.hold-b.new.space ≡ held (list_of 5 s) = (held_is _ _ _ c.hold-b.ensures.value c.hold-b.ensures.space_after).bytes ∙ ap held c.list_of-3.ensures in
-    rw (← d, ← p, ← b) c.put_call.ensures
+    text_by (call_text c.args.job c.args.input.now) _ _ _ _ _ _ _
+    ((held_is c.list_of.result.now _ _ c.hold-d.ensures.value c.hold-d.ensures.space_after).bytes ∙ ap held c.list_of.ensures)
+    ((held_is c.list_of-2.result.now _ _ c.hold-p.ensures.value c.hold-p.ensures.space_after).bytes ∙ ap held c.list_of-2.ensures)
+    ((held_is c.list_of-3.result.now _ _ c.hold-b.ensures.value c.hold-b.ensures.space_after).bytes ∙ ap held c.list_of-3.ensures)
+    c.put_call.ensures

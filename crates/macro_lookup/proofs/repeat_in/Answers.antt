@@ -4,14 +4,12 @@ use Rattle.std.proofs.Common.{eqb-true, ◌<◌, ◌≤◌, refl, ◌≡◌, ℕ
 use Rattle.std.proofs.lemmas.Bool.{eqb-false, false≢true}
 use Rattle.record.specs.Bytes.{same_bytes}
 use Rattle.record.proofs.BytesLaws.{same_eq, eq_same}
-use Rattle.names.specs.Owners.{owned_name}
 use Rattle.macros.specs.Macros.{name_at, name_ok, body_at, macro_at_ok, macro_layout, macro_repeat}
 use Rattle.name_index.specs.Index.{IndexOf}
 use Rattle.name_index.proofs.IndexLaws.{at_list}
 use Rattle.name_index.proofs.PlacesLaws.{within}
 use Rattle.macro_lookup.specs.Lookup.{own_name, Scanned}
 use Rattle.macro_lookup.proofs.LookupLaws.{macro_is, name_ok_lem}
-use Rattle.macro_lookup.proofs.TogetherLaws.{body_name, body_named}
 use Rattle.macro_lookup.proofs.RepeatLaws.{scan_start, low_listed, low_ok, here_ok, scan_other, scan_lower, scan_higher, scan_found, scan_none, none_listed}
 use Rattle.macro_lookup.proofs.repeat_in.Goals as goal
 use Rattle.macro_lookup.proofs.repeat_in.Goals.{After-widened-p, After-same_name, then-not-same_name, else-not-same_name+then-p-low, else-not-same_name+else-p-low}
@@ -19,13 +17,13 @@ use Rattle.macro_lookup.proofs.repeat_in.Goals.{After-widened-p, After-same_name
 pub returns-then-is_empty : goal.returns-then-is_empty
 returns-then-is_empty c =
     let e : length c.args.index.now ≡ 0 = eqb-true _ _ (sym c.if-is_empty.ensures) in
-    sym (none_listed c.args.macros.now c.args.index.now c.requires.0 c.requires.1 (omega (arith, e)))
+    sym (none_listed c.args.macros.now.bytes.now c.args.index.now c.args.macros.now.good c.requires (omega (arith, e)))
 
 pub loop-i-init : goal.loop-i-init
 loop-i-init c =
-    let s = c.args.macros.now in
+    let s = c.args.macros.now.bytes.now in
     let l = c.args.index.now in
-    record { scanned = subst (λ (low : ℕ). Scanned s l 1 low (length s)) (sym c.widened-low.ensures) (scan_start s l c.requires.0 c.requires.1 (omega (arith, eqb-false _ _ (sym c.if-is_empty.ensures)))); within = tt }
+    record { scanned = subst (λ (low : ℕ). Scanned s l 1 low (length s)) (sym c.widened-low.ensures) (scan_start s l c.args.macros.now.good c.requires (omega (arith, eqb-false _ _ (sym c.if-is_empty.ensures)))); within = tt }
 
 -- the least so far or a place within the list
 least_so : (o : Option ℕ) (n p : ℕ) → p < n → min (unwrap_or o p) p ≡ min (unwrap_or o n) p
@@ -33,75 +31,73 @@ least_so None n p h = omega arith
 least_so (Some q) n p h = refl
 
 -- the two macros that are compared
-ok_here : (c : After-widened-p) → macro_at_ok c.args.macros.now c.widened-p.result ≡ true
+ok_here : (c : After-widened-p) → macro_at_ok c.args.macros.now.bytes.now c.widened-p.result ≡ true
 ok_here c =
     let l = c.loop-i in
-    subst (λ (p : ℕ). macro_at_ok c.args.macros.now p ≡ true) (sym c.widened-p.ensures) (here_ok c.args.macros.now c.args.index.now c.requires.0 c.requires.1 l.i l.low _ l.invariant.scanned (omega arith))
+    subst (λ (p : ℕ). macro_at_ok c.args.macros.now.bytes.now p ≡ true) (sym c.widened-p.ensures) (here_ok c.args.macros.now.bytes.now c.args.index.now c.args.macros.now.good c.requires l.i l.low _ l.invariant.scanned (omega arith))
 
-ok_low : (c : After-widened-p) → macro_at_ok c.args.macros.now c.loop-i.low ≡ true
+ok_low : (c : After-widened-p) → macro_at_ok c.args.macros.now.bytes.now c.loop-i.low ≡ true
 ok_low c =
     let l = c.loop-i in
-    low_ok c.args.macros.now c.args.index.now c.requires.0 c.requires.1 l.i l.low _ l.invariant.scanned
+    low_ok c.args.macros.now.bytes.now c.args.index.now c.args.macros.now.good c.requires l.i l.low _ l.invariant.scanned
 
-pub name_at-requires : goal.name_at-requires
-name_at-requires c = body_named _ _ (ok_here (goal.at.name_at-requires c).After-widened-p)
+pub body_at-requires : goal.body_at-requires
+body_at-requires c = ok_here (goal.at.body_at-requires c).After-widened-p
 
-pub name_at-requires-in-loop-i : goal.name_at-requires-in-loop-i
-name_at-requires-in-loop-i c = body_named _ _ (ok_low (goal.at.name_at-requires-in-loop-i c).After-widened-p)
+pub body_at-requires-in-loop-i : goal.body_at-requires-in-loop-i
+body_at-requires-in-loop-i c = ok_low (goal.at.body_at-requires-in-loop-i c).After-widened-p
 
 pub same_name-requires : goal.same_name-requires
 same_name-requires c =
     let w = (goal.at.same_name-requires c).After-widened-p in
-    let s = c.args.macros.now in
-    let ok : (p : ℕ) (b : List ℕ) → macro_at_ok s p ≡ true → b ≡ owned_name 0 s p → name_ok b 0 ≡ true = λ p b h e. ap (λ (x : List ℕ). name_ok x 0) (e ∙ body_name s p h) ∙ name_ok_lem s p (macro_is s p h) in
-    (ok c.widened-p.result _ (ok_here w) c.name_at.ensures, ok c.loop-i.low _ (ok_low w) c.name_at-in-loop-i.ensures)
+    let s = c.args.macros.now.bytes.now in
+    let ok : (p : ℕ) (b : List ℕ) → macro_at_ok s p ≡ true → b ≡ body_at s p → name_ok b 0 ≡ true = λ p b h e. ap (λ (x : List ℕ). name_ok x 0) e ∙ name_ok_lem s p (macro_is s p h) in
+    (ok c.widened-p.result _ (ok_here w) c.body_at.ensures, ok c.loop-i.low _ (ok_low w) c.body_at-in-loop-i.ensures)
 
 -- what the test says
-tested : (c : After-same_name) → macro_at_ok c.args.macros.now c.widened-p.result ≡ true → macro_at_ok c.args.macros.now c.loop-i.low ≡ true
-    → c.same_name.result ≡ same_bytes (own_name c.args.macros.now (get_or c.args.index.now c.loop-i.i 0)) (own_name c.args.macros.now c.loop-i.low)
-tested c h k =
-    let s = c.args.macros.now in
+tested : (c : After-same_name) → c.same_name.result ≡ same_bytes (own_name c.args.macros.now.bytes.now (get_or c.args.index.now c.loop-i.i 0)) (own_name c.args.macros.now.bytes.now c.loop-i.low)
+tested c =
     c.same_name.ensures
     ∙ ap₂ (λ (x y : List ℕ). same_bytes (name_at x 0) (name_at y 0))
-    (c.name_at.ensures ∙ body_name s c.widened-p.result h ∙ ap (body_at s) c.widened-p.ensures)
-    (c.name_at-in-loop-i.ensures ∙ body_name s c.loop-i.low k)
+    (c.body_at.ensures ∙ ap (body_at c.args.macros.now.bytes.now) c.widened-p.ensures)
+    c.body_at-in-loop-i.ensures
 
 pub loop-i-preserved : goal.loop-i-preserved
 loop-i-preserved c =
     let l = c.loop-i in
-    let s = c.args.macros.now in
+    let s = c.args.macros.now.bytes.now in
     let index = c.args.index.now in
     let g = goal.at.loop-i-preserved c in
-    let test = tested g.After-same_name (ok_here g.After-widened-p) (ok_low g.After-widened-p) in
+    let test = tested g.After-same_name in
     let scan = l.invariant.scanned in
     elim c.if-not-same_name.branch [
       | then-not-same_name w ↦
           rw (w.best-is, w.low-is, c.widened-p.ensures)
           (record {
             scanned =
-                scan_other s index c.requires.0 c.requires.1 l.i l.low _ scan (omega arith)
+                scan_other s index c.args.macros.now.good c.requires l.i l.low _ scan (omega arith)
                 (λ e. false≢true (sym w.if-not-same_name.true ∙ test ∙ ap (λ (n : List ℕ). same_bytes n (own_name s l.low)) e ∙ eq_same (own_name s l.low)));
             within = l.invariant.within;
           })
       | else-not-same_name+then-p-low w ↦
           let e = same_eq _ _ (sym test ∙ w.if-not-same_name.false) in
-          let m : l.low < length s = within s l.low (low_listed s index c.requires.0 c.requires.1 l.i l.low _ scan) in
+          let m : l.low < length s = within s l.low (low_listed s index c.args.macros.now.good c.requires l.i l.low _ scan) in
           rw (w.best-is, w.low-is, w.smaller.ensures, w.unwrap_or.ensures, c.widened-p.ensures)
           (record {
             scanned =
                 rw (least_so l.best (length s) l.low m)
-                (scan_lower s index c.requires.0 c.requires.1 l.i l.low _ scan (omega arith) e (omega (arith, w.if-p-low.true, c.widened-p.ensures)));
+                (scan_lower s index c.args.macros.now.good c.requires l.i l.low _ scan (omega arith) e (omega (arith, w.if-p-low.true, c.widened-p.ensures)));
             within = omega arith;
           })
       | else-not-same_name+else-p-low w ↦
           let e = same_eq _ _ (sym test ∙ w.if-not-same_name.false) in
           let p = get_or index l.i 0 in
-          let m : p < length s = within s p (at_list 0 s index c.requires.1 l.i (omega arith)) in
+          let m : p < length s = within s p (at_list 0 s index c.requires l.i (omega arith)) in
           rw (w.best-is, w.low-is, w.smaller-else-p-low.ensures, w.unwrap_or-else-p-low.ensures, c.widened-p.ensures)
           (record {
             scanned =
                 rw (least_so l.best (length s) p m)
-                (scan_higher s index c.requires.0 c.requires.1 l.i l.low _ scan (omega arith) e (omega (arith, w.if-p-low.false, c.widened-p.ensures)));
+                (scan_higher s index c.args.macros.now.good c.requires l.i l.low _ scan (omega arith) e (omega (arith, w.if-p-low.false, c.widened-p.ensures)));
             within = omega arith;
           })
     ]
@@ -115,4 +111,4 @@ found s l g ix i low (Some p) b w h = sym (scan_found s l g ix i low _ b h w)
 pub returns : goal.returns
 returns c =
     let l = c.loop-i in
-    found _ _ c.requires.0 c.requires.1 l.i l.low _ l.invariant.scanned l.invariant.within (omega arith)
+    found _ _ c.args.macros.now.good c.requires l.i l.low _ l.invariant.scanned l.invariant.within (omega arith)

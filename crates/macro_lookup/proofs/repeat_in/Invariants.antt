@@ -6,6 +6,6 @@ use Rattle.macro_lookup.proofs.repeat_in.Given as goal
 
 abbrev pub invariant-loop-i : goal.invariant-loop-i
 invariant-loop-i l = record {
-  scanned : Scanned l.macros l.index l.i l.low (unwrap_or l.best (length l.macros));
-  within : MatchOption l.best Unit (λ b. b < length l.macros);
+  scanned : Scanned l.macros.bytes.now l.index l.i l.low (unwrap_or l.best (length l.macros.bytes.now));
+  within : MatchOption l.best Unit (λ b. b < length l.macros.bytes.now);
 }

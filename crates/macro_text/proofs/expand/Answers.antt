@@ -1,7 +1,6 @@
-use Rattle.std.proofs.Common.{◌≡◌, ℕ, min, List, take, ap, subst, ◌∙◌}
+use Rattle.std.proofs.Common.{◌≡◌, ℕ, min, List, take, ap, ◌∙◌}
 use Rattle.std.specs.Prelude.{replicate}
 use Rattle.input.specs.Input.{list_of, behind_lists, word_or_zero}
-use Rattle.text.specs.Text.{Put}
 use Rattle.written_out.specs.Outcome.{write_out_outcome}
 use Rattle.macro_text.specs.MacroText.{outcome_text, expand_text}
 use Rattle.macro_text.proofs.MacroTextLaws.{held_text}
@@ -15,7 +14,6 @@ text_is input tokens macros asked room t m n r = held_text tokens macros asked r
 
 pub returns : goal.returns
 returns c =
-    subst (λ (text : List ℕ). Put c.args.out.now 0 text c.put_written.new.out c.put_written.result)
-    (text_is c.args.input.now _ _ _ _ c.list_of-tokens.ensures c.list_of-macros.ensures
-    (c.word_or_zero-asked.ensures ∙ ap (λ (x : List ℕ). word_or_zero x 0) c.behind_lists.ensures) c.least-room.ensures)
     c.put_written.ensures
+    ∙ text_is c.args.input.now _ _ _ _ c.list_of-tokens.ensures c.list_of-macros.ensures
+    (c.word_or_zero-asked.ensures ∙ ap (λ (x : List ℕ). word_or_zero x 0) c.behind_lists.ensures) c.least-room.ensures

@@ -6,6 +6,6 @@ use Rattle.macro_tokens.proofs.callee_of.Goals as goal
 pub returns : goal.returns
 returns c =
     let a = c.args in
-    subst (λ (x : List ℕ). CalleeIs a.macros.now x a.limit c.callee.result)
-    (ap (λ (r : List ℕ). take (length r - 12) (drop 12 r)) c.token_bytes-bytes.ensures.0 ∙ text_behind a.text.now a.macros.now a.place c.requires.0)
+    subst (λ (x : List ℕ). CalleeIs a.source.now.macros.now x a.limit c.callee.result)
+    (ap (λ (r : List ℕ). take (length r - 12) (drop 12 r)) c.token_bytes-bytes.ensures.0 ∙ text_behind a.source.now.text.now a.source.now.macros.now a.place c.requires.0)
     c.callee.ensures

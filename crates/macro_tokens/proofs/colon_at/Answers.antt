@@ -8,20 +8,20 @@ use Rattle.macro_tokens.proofs.colon_at.Goals as goal
 pub place_at-requires : goal.place_at-requires
 place_at-requires c =
     let a = c.args in
-    (c.requires.readable, token a.text.now a.macros.now a.list.now a.body a.at c.requires c.if-at-list.true)
+    (c.requires.readable, token a.source.now.text.now a.source.now.macros.now a.reading.now.list.now a.reading.now.body a.at c.requires c.if-at-reading.true)
 
 pub kind_of-requires : goal.kind_of-requires
 kind_of-requires c =
     let a = c.args in
-    subst (TokenIn a.text.now a.macros.now) (sym c.place_at.ensures) (place_in a.text.now a.macros.now a.list.now a.body a.at c.requires c.if-at-list.true)
+    subst (TokenIn a.source.now.text.now a.source.now.macros.now) (sym c.place_at.ensures) (place_in a.source.now.text.now a.source.now.macros.now a.reading.now.list.now a.reading.now.body a.at c.requires c.if-at-reading.true)
 
-pub returns-then-at-list : goal.returns-then-at-list
-returns-then-at-list c =
+pub returns-then-at-reading : goal.returns-then-at-reading
+returns-then-at-reading c =
     let a = c.args in
-    ap (λ (k : ℕ). eqb k 12) (c.kind_of.ensures ∙ ap (λ (p : ℕ). kind_at (token_record a.text.now a.macros.now p) 0) c.place_at.ensures)
-    ∙ sym (ap starts_colon (read_here a.text.now a.macros.now a.list.now a.body a.at c.requires c.if-at-list.true))
+    ap (λ (k : ℕ). eqb k 12) (c.kind_of.ensures ∙ ap (λ (p : ℕ). kind_at (token_record a.source.now.text.now a.source.now.macros.now p) 0) c.place_at.ensures)
+    ∙ sym (ap starts_colon (read_here a.source.now.text.now a.source.now.macros.now a.reading.now.list.now a.reading.now.body a.at c.requires c.if-at-reading.true))
 
-pub returns-else-at-list : goal.returns-else-at-list
-returns-else-at-list c =
+pub returns-else-at-reading : goal.returns-else-at-reading
+returns-else-at-reading c =
     let a = c.args in
-    sym (ap starts_colon (read_end a.text.now a.macros.now a.list.now a.body a.at c.if-at-list.false))
+    sym (ap starts_colon (read_end a.source.now.text.now a.source.now.macros.now a.reading.now.list.now a.reading.now.body a.at c.if-at-reading.false))

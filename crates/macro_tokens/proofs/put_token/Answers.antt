@@ -9,4 +9,4 @@ nothing true bytes out fill e = cc
 nothing false bytes out fill e = append_none out fill
 
 pub returns-else-really : goal.returns-else-really
-returns-else-really c = nothing c.args.really (token_record c.args.text.now c.args.macros.now c.args.place) c.args.out.now c.args.fill c.if-really.false
+returns-else-really c = nothing c.args.really (token_record c.args.source.now.text.now c.args.source.now.macros.now c.args.place) c.args.out.now c.args.fill c.if-really.false

@@ -12,16 +12,16 @@ cut s at e h =
     let k : e - at ≡ 4 + body_len s at = omega arith in
     ap (part s at) k
 
-pub returns-then-place-text : goal.returns-then-place-text
-returns-then-place-text c =
+pub returns-then-place-source : goal.returns-then-place-source
+returns-then-place-source c =
     let a = c.args in
     let n = c.next-next in
-    let e = cut a.text.now a.place n.result n.ensures.0 ∙ sym (record_text a.text.now a.macros.now a.place c.if-place-text.true) in
-    (e, subst (λ (l : List ℕ). 12 ≤ length l) (sym e) (record_long a.text.now a.macros.now a.place c.requires))
+    let e = cut a.source.now.text.now a.place n.result n.ensures.0 ∙ sym (record_text a.source.now.text.now a.source.now.macros.now a.place c.if-place-source.true) in
+    (e, subst (λ (l : List ℕ). 12 ≤ length l) (sym e) (record_long a.source.now.text.now a.source.now.macros.now a.place c.requires))
 
-pub returns-else-place-text : goal.returns-else-place-text
-returns-else-place-text c =
+pub returns-else-place-source : goal.returns-else-place-source
+returns-else-place-source c =
     let a = c.args in
-    let n = c.next-next-else-place-text in
-    let e = cut a.macros.now _ n.result n.ensures.0 ∙ sym (record_macros a.text.now a.macros.now a.place c.if-place-text.false) in
-    (e, subst (λ (l : List ℕ). 12 ≤ length l) (sym e) (record_long a.text.now a.macros.now a.place c.requires))
+    let n = c.next-next-else-place-source in
+    let e = cut a.source.now.macros.now _ n.result n.ensures.0 ∙ sym (record_macros a.source.now.text.now a.source.now.macros.now a.place c.if-place-source.false) in
+    (e, subst (λ (l : List ℕ). 12 ≤ length l) (sym e) (record_long a.source.now.text.now a.source.now.macros.now a.place c.requires))

@@ -11,18 +11,25 @@ behind_name-at-requires c = omega (arith, (name_is c.args.list.now 0 (parts_of c
 pub bounds-list-at : goal.bounds-list-at
 bounds-list-at c = omega (arith, c.behind_name-at.ensures.0, (parts_of c.args.list.now c.requires).counted)
 
-pub behind_names-body-requires : goal.behind_names-body-requires
-behind_names-body-requires c =
+pub behind-body-requires : goal.behind-body-requires
+behind-body-requires c =
     let b = c.args.list.now in
     let p = parts_of b c.requires in
     let n = c.behind_name-at.ensures.0 in
-    (omega (arith, n, p.counted), ap₂ (λ (m i : ℕ). all_ok b m (i + 1)) (c.wide-count.ensures.0 ∙ ap (byte_at b) n) n ∙ p.names_ok)
+    omega (arith, n, p.counted)
+
+pub invariant_of-names : goal.invariant_of-names
+invariant_of-names c =
+    let b = c.args.list.now in
+    let p = parts_of b c.requires in
+    let n = c.behind_name-at.ensures.0 in
+    record { ok = ap₂ (λ (m i : ℕ). all_ok b m (i + 1)) (c.wide-count.ensures.0 ∙ ap (byte_at b) n) n ∙ p.names_ok }
 
 pub returns : goal.returns
 returns c =
     let b = c.args.list.now in
     let n = c.behind_name-at.ensures.0 in
     let k = c.wide-count.ensures.0 ∙ ap (byte_at b) n in
-    let e : c.behind_names-body.result ≡ behind_names (count_of b) b (behind_name b 0 + 1) =
-    c.behind_names-body.ensures.0 ∙ ap₂ (λ (m i : ℕ). behind_names m b (i + 1)) k n in
-    (cc, c.behind_names-body.ensures.1)
+    let e : c.behind-body.result ≡ behind_names (count_of b) b (behind_name b 0 + 1) =
+    c.behind-body.ensures.0 ∙ ap₂ (λ (m i : ℕ). behind_names m b (i + 1)) k n in
+    (cc, c.behind-body.ensures.1)

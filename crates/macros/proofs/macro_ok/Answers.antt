@@ -8,7 +8,7 @@ use Rattle.macros.specs.Macros.{behind_name, name_at, name_places, known, is_goo
 use Rattle.macros.proofs.NamesLaws.{all_ok, differ_from}
 use Rattle.macros.proofs.LayoutLaws.{no_name, no_count, over_count, no_names, same_names, bad_tokens, as_known, tokens_part}
 use Rattle.macros.proofs.macro_ok.Goals as goal
-use Rattle.macros.proofs.macro_ok.Goals.{then-count-gt-MOST-via-then-count-gt-MOST, then-count-gt-MOST-via-else-count-gt-MOST+then-not-names_ok, then-count-gt-MOST-via-else-count-gt-MOST+else-not-names_ok+then-not-differ}
+use Rattle.macros.proofs.macro_ok.Goals.{then-count-gt-MOST-via-then-count-gt-MOST, then-count-gt-MOST-via-else-count-gt-MOST+then-not-names_ok}
 
 is_kept : (l : Option ℕ) → is_some l ≡ false → is_good l ≡ true
 is_kept None e = refl
@@ -36,10 +36,16 @@ returns-then-count-gt-MOST c =
       | then-count-gt-MOST-via-then-count-gt-MOST w ↦ sym (over_count b h₁ h₂ (omega (arith, k, w.if-count-gt-MOST.true)))
       | then-count-gt-MOST-via-else-count-gt-MOST+then-not-names_ok w ↦
           sym (no_names b h₁ h₂ (omega (arith, k, w.if-count-gt-MOST.false)) (sym (w.if-not-names_ok.ensures ∙ ap₂ (λ (m i : ℕ). all_ok b m (i + 1)) k n)))
-      | then-count-gt-MOST-via-else-count-gt-MOST+else-not-names_ok+then-not-differ w ↦
-          let h₄ = sym (w.if-not-names_ok.ensures ∙ ap₂ (λ (m i : ℕ). all_ok b m (i + 1)) k n) in
-          sym (same_names b h₁ h₂ (omega (arith, k, w.if-count-gt-MOST.false)) h₄ (sym (w.if-not-differ.ensures ∙ ap₂ (λ (m i : ℕ). differ_from b m (i + 1)) k n)))
     ]
+
+pub returns-then-not-differ : goal.returns-then-not-differ
+returns-then-not-differ c =
+    let b = c.args.list.now in
+    let n = c.behind_name-at.ensures.0 in
+    let k = c.wide-count.ensures.0 ∙ ap (byte_at b) n in
+    let h₄ = sym (c.if-not-names_ok.ensures ∙ ap₂ (λ (m i : ℕ). all_ok b m (i + 1)) k n) in
+    let h₅ = sym (c.if-not-differ.ensures ∙ ap₂ (λ (m i : ℕ). differ_from b m (i + 1)) k n) in
+    sym (same_names b (sym c.if-not-name_ok.ensures) (omega (arith, n)) (omega (arith, k)) h₄ h₅)
 
 pub returns-then-is_none : goal.returns-then-is_none
 returns-then-is_none c =
@@ -48,10 +54,10 @@ returns-then-is_none c =
     let k = c.wide-count.ensures.0 ∙ ap (byte_at b) n in
     let h₄ = sym (c.if-not-names_ok.ensures ∙ ap₂ (λ (m i : ℕ). all_ok b m (i + 1)) k n) in
     let h₅ = sym (c.if-not-differ.ensures ∙ ap₂ (λ (m i : ℕ). differ_from b m (i + 1)) k n) in
-    let x = tokens_part b c.behind_names-end.result _ _ c.behind_names-end.ensures.0 k n in
+    let x = tokens_part b c.behind-end.result _ _ c.behind-end.ensures.0 k n in
     let g = is_kept _ (ap is_some (sym (c.first_bad_token.ensures ∙ ap token_layout x)) ∙ c.if-is_none.ensures) in
     let ps = ap₂ (λ (m i : ℕ). map (name_at b) (name_places m b (i + 1))) k n in
-    c.all_known.ensures ∙ ap₂ (λ (y : List (List ℕ)) (z : List ℕ). known y (records_of z)) ps x
+    c.know_all.ensures ∙ ap₂ (λ (y : List (List ℕ)) (z : List ℕ). known y (records_of z)) ps x
     ∙ sym (as_known b (sym c.if-not-name_ok.ensures) (omega (arith, n)) (omega (arith, k)) h₄ h₅ g)
 
 pub returns-else-is_none : goal.returns-else-is_none
@@ -61,6 +67,6 @@ returns-else-is_none c =
     let k = c.wide-count.ensures.0 ∙ ap (byte_at b) n in
     let h₄ = sym (c.if-not-names_ok.ensures ∙ ap₂ (λ (m i : ℕ). all_ok b m (i + 1)) k n) in
     let h₅ = sym (c.if-not-differ.ensures ∙ ap₂ (λ (m i : ℕ). differ_from b m (i + 1)) k n) in
-    let x = tokens_part b c.behind_names-end.result _ _ c.behind_names-end.ensures.0 k n in
+    let x = tokens_part b c.behind-end.result _ _ c.behind-end.ensures.0 k n in
     let g = is_broken _ (ap is_some (sym (c.first_bad_token.ensures ∙ ap token_layout x)) ∙ c.if-is_none.ensures) in
     c.if-is_none.false ∙ sym (bad_tokens b (sym c.if-not-name_ok.ensures) (omega (arith, n)) (omega (arith, k)) h₄ h₅ g)

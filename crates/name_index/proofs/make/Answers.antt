@@ -13,10 +13,12 @@ few : (skip : ℕ) (list : List ℕ) → first_bad (has_owned_name skip list) (p
 few skip list g = count_at_least 4 list (has_owned_name skip list) (λ p e. ((owned_is skip list p e).whole_at, omega arith)) g
 
 pub sort-requires-clause-a_in_bounds : goal.sort-requires-clause-a_in_bounds
-sort-requires-clause-a_in_bounds c =
+sort-requires-clause-a_in_bounds g c =
     let n = length-take c.fill-n.result c.fill-n.new.index in
-    (omega (arith, n), omega (arith, n, few c.args.skip c.args.list.now c.requires.list_value))
+    (omega (arith, n), omega (arith, n, few g.row.SKIP c.args.list.now c.bytes.ensures.named))
 
 pub sort-requires-clause-all_named : goal.sort-requires-clause-all_named
-sort-requires-clause-all_named c =
-    subst (AllNamed c.args.skip c.args.list.now) (sym c.fill-n.ensures.1) (all_ok (has_owned_name c.args.skip c.args.list.now) (places c.args.list.now) c.requires.list_value)
+sort-requires-clause-all_named g c =
+    let s = c.args.list.now in
+    let ok = has_owned_name g.row.SKIP s in
+    rw c.bytes.ensures.value (subst (AllNamed g.row.SKIP s) (sym c.fill-n.ensures.1) (all_ok ok (places s) c.bytes.ensures.named))

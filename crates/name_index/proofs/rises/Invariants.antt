@@ -9,8 +9,8 @@ use Rattle.name_index.proofs.rises.Given as goal
 
 -- the names rise where they do from the record at `last` on
 abbrev pub invariant-loop-at : goal.invariant-loop-at
-invariant-loop-at l = record {
-  last_named : has_owned_name l.skip l.list l.last ≡ true;
-  named : first_bad (has_owned_name l.skip l.list) (places_left l.at-iterator) ≡ None;
-  rest : names_rise l.skip l.list ≡ in_order (below l.skip l.list) (l.last ∷ places_left l.at-iterator);
+invariant-loop-at g l = record {
+  last_named : has_owned_name g.row.SKIP l.list l.last ≡ true;
+  named : first_bad (has_owned_name g.row.SKIP l.list) (places_left l.at-iterator) ≡ None;
+  rest : names_rise g.row.SKIP l.list ≡ in_order (below g.row.SKIP l.list) (l.last ∷ places_left l.at-iterator);
 }

@@ -7,7 +7,7 @@ use Rattle.page_core.proofs.put_page.Given as goal
 
 abbrev pub invariant-loop-number : goal.invariant-loop-number
 invariant-loop-number l =
-    let label = label_at l.labels in
+    let label = label_at l.labels.list in
     (l.number ≤ l.count)
     × (length l.slots ≡ length l.initial.slots)
     × Left l.initial.out 0 (image_text label 0 (image_of l.regions)) l.out l.end (image_text label l.number (drop l.number (image_of l.regions)))

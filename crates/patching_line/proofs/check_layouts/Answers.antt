@@ -2,8 +2,8 @@
 use Rattle.std.specs.Prelude.{Err, None, Ok, Option}
 use Rattle.std.proofs.Common.{◌≡◌, ℕ, List, refl, sym, ap, ◌∙◌, arith}
 use Rattle.std.proofs.lemmas.Result.{err_from_is_err_and}
-use Rattle.refusal.specs.Verdicts.{layout_verdict, Verdict}
-use Rattle.refusal.proofs.VerdictsLaws.{layout_pass}
+use Rattle.refusal.specs.Verdicts.{layout_verdict}
+use Rattle.refusal.proofs.VerdictsLaws.{layout_pass, verdict}
 use Rattle.pending.specs.Pendings.{pending_layout}
 use Rattle.breakpoints.specs.Breakpoints.{filled_layout}
 use Rattle.emit_checks.proofs.PlacesLaws.{token_place, mnemonic_place, descriptor_place, breakpoint_place}
@@ -15,10 +15,6 @@ use Rattle.patching_line.proofs.ListedLaws.{listed_place, listed_good}
 use Rattle.patching_line.proofs.ListsLaws.{layouts_are}
 use Rattle.patching_line.proofs.check_layouts.Goals as goal
 
--- a list's verdict is what its check gave
-verdict : (buffer : ℕ) {bad layout : Option ℕ} {v : Verdict} → bad ≡ layout → v ≡ layout_verdict buffer bad → layout_verdict buffer layout ≡ v
-verdict buffer e f = ap (layout_verdict buffer) (sym e) ∙ sym f
-
 -- the layout of the pendings, by the count of the regions
 pendings_are : (pending : List ℕ) (counts : PatchCounts) {regions n : ℕ} {l : Option ℕ}
     → l ≡ filled_layout counts.pending pending (has_patched counts.patches (filled_pendings pending counts) (pending_layout n (filled_pendings pending counts))) → n ≡ regions
@@ -28,7 +24,7 @@ pendings_are pending counts e k =
 
 -- a region list that has passed
 listed_passed : (region fill : ℕ) (s : List ℕ) {bad : Option ℕ} → bad ≡ listed_in region fill s → Ok tt ≡ layout_verdict 3 bad → listed_in region fill s ≡ None
-listed_passed region fill s e f = layout_pass 3 (listed_in region fill s) (verdict 3 e f)
+listed_passed region fill s e f = layout_pass 3 (listed_in region fill s) (verdict (layout_verdict 3) e f)
 
 pub check_layout-requires : goal.check_layout-requires
 check_layout-requires c p e = omega (arith, token_place _ p (sym c.first_bad_token.ensures ∙ e))
@@ -36,7 +32,7 @@ check_layout-requires c p e = omega (arith, token_place _ p (sym c.first_bad_tok
 pub returns-in_err-check_layout : goal.returns-in_err-check_layout
 returns-in_err-check_layout c position kept =
     let p = err_from_is_err_and _ c.from_residual.ensures.1 in
-    layouts_are _ _ _ _ _ _ _ _ (verdict 0 c.first_bad_token.ensures c.in_err-check_layout.ensures) refl refl refl refl refl position kept
+    layouts_are _ _ _ _ _ _ _ _ (verdict (layout_verdict 0) c.first_bad_token.ensures c.in_err-check_layout.ensures) refl refl refl refl refl position kept
     ∙ sym (p.1 ∙ ap Err p.2)
 
 pub check_layout-requires-2 : goal.check_layout-requires-2
@@ -45,7 +41,7 @@ check_layout-requires-2 c p e = omega (arith, mnemonic_place _ p (sym c.first_ba
 pub returns-in_err-check_layout-2 : goal.returns-in_err-check_layout-2
 returns-in_err-check_layout-2 c position kept =
     let p = err_from_is_err_and _ c.from_residual-in_err-check_layout-2.ensures.1 in
-    layouts_are _ _ _ _ _ _ _ _ (verdict 0 c.first_bad_token.ensures c.in_ok-check_layout.ensures) (verdict 1 c.first_bad_mnemonic.ensures c.in_err-check_layout-2.ensures) refl refl refl refl position kept
+    layouts_are _ _ _ _ _ _ _ _ (verdict (layout_verdict 0) c.first_bad_token.ensures c.in_ok-check_layout.ensures) (verdict (layout_verdict 1) c.first_bad_mnemonic.ensures c.in_err-check_layout-2.ensures) refl refl refl refl position kept
     ∙ sym (p.1 ∙ ap Err p.2)
 
 pub check_layout-requires-3 : goal.check_layout-requires-3
@@ -54,24 +50,24 @@ check_layout-requires-3 c p e = omega (arith, descriptor_place _ p (sym c.first_
 pub returns-in_err-check_layout-3 : goal.returns-in_err-check_layout-3
 returns-in_err-check_layout-3 c position kept =
     let p = err_from_is_err_and _ c.from_residual-in_err-check_layout-3.ensures.1 in
-    layouts_are _ _ _ _ _ _ _ _ (verdict 0 c.first_bad_token.ensures c.in_ok-check_layout.ensures) (verdict 1 c.first_bad_mnemonic.ensures c.in_ok-check_layout-2.ensures) (verdict 2 c.first_bad_descriptor.ensures c.in_err-check_layout-3.ensures) refl refl refl position kept
+    layouts_are _ _ _ _ _ _ _ _ (verdict (layout_verdict 0) c.first_bad_token.ensures c.in_ok-check_layout.ensures) (verdict (layout_verdict 1) c.first_bad_mnemonic.ensures c.in_ok-check_layout-2.ensures) (verdict (layout_verdict 2) c.first_bad_descriptor.ensures c.in_err-check_layout-3.ensures) refl refl refl position kept
     ∙ sym (p.1 ∙ ap Err p.2)
 
 pub check_layout-requires-4 : goal.check_layout-requires-4
-check_layout-requires-4 c p e = omega (arith, listed_place c.args.region c.args.counts.regions c.args.regions.now p (sym c.check_listed.ensures ∙ e))
+check_layout-requires-4 c p e = omega (arith, listed_place c.args.line.region c.args.counts.regions c.args.regions.now p (sym c.check_listed.ensures ∙ e))
 
 pub returns-in_err-check_layout-4 : goal.returns-in_err-check_layout-4
 returns-in_err-check_layout-4 c position kept =
     let p = err_from_is_err_and _ c.from_residual-in_err-check_layout-4.ensures.1 in
-    layouts_are _ _ _ _ _ _ _ _ (verdict 0 c.first_bad_token.ensures c.in_ok-check_layout.ensures) (verdict 1 c.first_bad_mnemonic.ensures c.in_ok-check_layout-2.ensures) (verdict 2 c.first_bad_descriptor.ensures c.in_ok-check_layout-3.ensures) (verdict 3 c.check_listed.ensures c.in_err-check_layout-4.ensures) refl refl position kept
+    layouts_are _ _ _ _ _ _ _ _ (verdict (layout_verdict 0) c.first_bad_token.ensures c.in_ok-check_layout.ensures) (verdict (layout_verdict 1) c.first_bad_mnemonic.ensures c.in_ok-check_layout-2.ensures) (verdict (layout_verdict 2) c.first_bad_descriptor.ensures c.in_ok-check_layout-3.ensures) (verdict (layout_verdict 3) c.check_listed.ensures c.in_err-check_layout-4.ensures) refl refl position kept
     ∙ sym (p.1 ∙ ap Err p.2)
 
-pub slice_bounds-region_count-end : goal.slice_bounds-region_count-end
-slice_bounds-region_count-end c =
-    omega (arith, listed_good c.args.region c.args.counts.regions c.args.regions.now (listed_passed c.args.region c.args.counts.regions c.args.regions.now c.check_listed.ensures c.in_ok-check_layout-4.ensures))
+pub slice_bounds-new-end : goal.slice_bounds-new-end
+slice_bounds-new-end c =
+    omega (arith, listed_good c.args.line.region c.args.counts.regions c.args.regions.now (listed_passed c.args.line.region c.args.counts.regions c.args.regions.now c.check_listed.ensures c.in_ok-check_layout-4.ensures))
 
-pub region_count-count-requires : goal.region_count-count-requires
-region_count-count-requires c = (listed_good c.args.region c.args.counts.regions c.args.regions.now (listed_passed c.args.region c.args.counts.regions c.args.regions.now c.check_listed.ensures c.in_ok-check_layout-4.ensures)).1
+pub new-requires : goal.new-requires
+new-requires c = (listed_good c.args.line.region c.args.counts.regions c.args.regions.now (listed_passed c.args.line.region c.args.counts.regions c.args.regions.now c.check_listed.ensures c.in_ok-check_layout-4.ensures)).1
 
 pub check_layout-requires-5 : goal.check_layout-requires-5
 check_layout-requires-5 c p e = omega (arith, pendings_place _ _ _ _ p (sym c.check_pendings-bad.ensures ∙ e))
@@ -79,11 +75,11 @@ check_layout-requires-5 c p e = omega (arith, pendings_place _ _ _ _ p (sym c.ch
 pub returns-in_err-check_layout-5 : goal.returns-in_err-check_layout-5
 returns-in_err-check_layout-5 c position kept =
     let p = err_from_is_err_and _ c.from_residual-in_err-check_layout-5.ensures.1 in
-    layouts_are _ _ _ _ _ _ _ _ (verdict 0 c.first_bad_token.ensures c.in_ok-check_layout.ensures) (verdict 1 c.first_bad_mnemonic.ensures c.in_ok-check_layout-2.ensures) (verdict 2 c.first_bad_descriptor.ensures c.in_ok-check_layout-3.ensures) (verdict 3 c.check_listed.ensures c.in_ok-check_layout-4.ensures) (verdict 4 (pendings_are c.args.pending.now c.args.counts c.check_pendings-bad.ensures c.region_count-count.ensures.0) c.in_err-check_layout-5.ensures) refl position kept
+    layouts_are _ _ _ _ _ _ _ _ (verdict (layout_verdict 0) c.first_bad_token.ensures c.in_ok-check_layout.ensures) (verdict (layout_verdict 1) c.first_bad_mnemonic.ensures c.in_ok-check_layout-2.ensures) (verdict (layout_verdict 2) c.first_bad_descriptor.ensures c.in_ok-check_layout-3.ensures) (verdict (layout_verdict 3) c.check_listed.ensures c.in_ok-check_layout-4.ensures) (verdict (layout_verdict 4) (pendings_are c.args.pending.now c.args.counts c.check_pendings-bad.ensures (rw c.new.ensures at c.count-count.ensures.0)) c.in_err-check_layout-5.ensures) refl position kept
     ∙ sym (p.1 ∙ ap Err p.2)
 
 pub check_layout-requires-6 : goal.check_layout-requires-6
 check_layout-requires-6 c p e = omega (arith, breakpoint_place _ _ p (sym c.check_breakpoint_buffer.ensures ∙ e))
 
 pub returns : goal.returns
-returns c = layouts_are _ _ _ _ _ _ _ _ (verdict 0 c.first_bad_token.ensures c.in_ok-check_layout.ensures) (verdict 1 c.first_bad_mnemonic.ensures c.in_ok-check_layout-2.ensures) (verdict 2 c.first_bad_descriptor.ensures c.in_ok-check_layout-3.ensures) (verdict 3 c.check_listed.ensures c.in_ok-check_layout-4.ensures) (verdict 4 (pendings_are c.args.pending.now c.args.counts c.check_pendings-bad.ensures c.region_count-count.ensures.0) c.in_ok-check_layout-5.ensures) (verdict 5 c.check_breakpoint_buffer.ensures c.check_layout-6.ensures)
+returns c = layouts_are _ _ _ _ _ _ _ _ (verdict (layout_verdict 0) c.first_bad_token.ensures c.in_ok-check_layout.ensures) (verdict (layout_verdict 1) c.first_bad_mnemonic.ensures c.in_ok-check_layout-2.ensures) (verdict (layout_verdict 2) c.first_bad_descriptor.ensures c.in_ok-check_layout-3.ensures) (verdict (layout_verdict 3) c.check_listed.ensures c.in_ok-check_layout-4.ensures) (verdict (layout_verdict 4) (pendings_are c.args.pending.now c.args.counts c.check_pendings-bad.ensures (rw c.new.ensures at c.count-count.ensures.0)) c.in_ok-check_layout-5.ensures) (verdict (layout_verdict 5) c.check_breakpoint_buffer.ensures c.check_layout-6.ensures)

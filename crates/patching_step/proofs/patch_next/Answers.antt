@@ -33,25 +33,25 @@ passed job labels {regions} {pending} {kept} {order} {counts} {at} {q} {g} {addr
     (omega (arith, w, length-take-le counts.regions regions f.within), f.within, omega (arith, s), omega (arith, s))
 
 pub read_pending-patch-requires : goal.read_pending-patch-requires
-read_pending-patch-requires c = rw c.widened.ensures (patch_at _ _ _ _ c.requires.indexed.1 _ c.requires.in_order.0 _ c.requires.in_order.1).pending_is
+read_pending-patch-requires c = rw c.widened.ensures (patch_at _ _ _ _ c.requires.lists _ c.requires.in_order.0 _ c.requires.in_order.1).pending_is
 
-pub region_at-region-requires-clause-number_bound : goal.region_at-region-requires-clause-number_bound
-region_at-region-requires-clause-number_bound c =
-    rw (c.read_pending-patch.ensures, c.widened.ensures) (patch_at _ _ _ _ c.requires.indexed.1 _ c.requires.in_order.0 _ c.requires.in_order.1).region_is
+pub region-region-requires : goal.region-region-requires
+region-region-requires c =
+    rw (c.new.ensures, c.read_pending-patch.ensures, c.widened.ensures) (patch_at _ _ _ _ c.requires.lists _ c.requires.in_order.0 _ c.requires.in_order.1).region_is
 
-pub get_address-address-requires-clause-label_in_bounds : goal.get_address-address-requires-clause-label_in_bounds
-get_address-address-requires-clause-label_in_bounds c =
-    rw (c.read_pending-patch.ensures, c.widened.ensures) (pending_name _ _ (patch_at _ _ _ _ c.requires.indexed.1 _ c.requires.in_order.0 _ c.requires.in_order.1).pending_is)
+pub get_address-address-requires : goal.get_address-address-requires
+get_address-address-requires c =
+    rw (c.read_pending-patch.ensures, c.widened.ensures) (pending_name _ _ (patch_at _ _ _ _ c.requires.lists _ c.requires.in_order.0 _ c.requires.in_order.1).pending_is)
 
 pub put_back-requires : goal.put_back-requires
 put_back-requires c =
-    (c.requires.indexed.1.lists.regions_filled, patches_at _ _ _ _ c.requires.indexed.1 _ c.requires.in_order.0 c.args.counts.patches (omega (arith, c.requires.in_order.1)))
+    (c.requires.lists.lists.regions_filled, patches_at _ _ _ _ c.requires.lists _ c.requires.in_order.0 c.args.counts.patches (omega (arith, c.requires.in_order.1)))
 
 pub overflow_add-slot : goal.overflow_add-slot
 overflow_add-slot c =
     omega (
       arith,
-      passed c.args.job (table_of c.args.labels.now) c.requires.indexed.1 c.requires.in_order.0 c.requires.in_order.1 c.widened.ensures c.read_pending-patch.ensures c.region_at-region.ensures
+      passed c.args.job (table_of c.args.labels.now.list) c.requires.lists c.requires.in_order.0 c.requires.in_order.1 c.widened.ensures c.read_pending-patch.ensures (rw c.new.ensures at c.region-region.ensures)
           c.get_address-address.ensures c.check_pending.ensures c.in-Ok.is,
     )
 
@@ -59,13 +59,13 @@ pub overflow_add-slot-in-Ok : goal.overflow_add-slot-in-Ok
 overflow_add-slot-in-Ok c =
     omega (
       arith,
-      passed c.args.job (table_of c.args.labels.now) c.requires.indexed.1 c.requires.in_order.0 c.requires.in_order.1 c.widened.ensures c.read_pending-patch.ensures c.region_at-region.ensures
+      passed c.args.job (table_of c.args.labels.now.list) c.requires.lists c.requires.in_order.0 c.requires.in_order.1 c.widened.ensures c.read_pending-patch.ensures (rw c.new.ensures at c.region-region.ensures)
           c.get_address-address.ensures c.check_pending.ensures c.in-Ok.is,
     )
 
 pub slice_bounds-put_all-end : goal.slice_bounds-put_all-end
 slice_bounds-put_all-end c =
-    let p = passed c.args.job (table_of c.args.labels.now) c.requires.indexed.1 c.requires.in_order.0 c.requires.in_order.1 c.widened.ensures c.read_pending-patch.ensures c.region_at-region.ensures
+    let p = passed c.args.job (table_of c.args.labels.now.list) c.requires.lists c.requires.in_order.0 c.requires.in_order.1 c.widened.ensures c.read_pending-patch.ensures (rw c.new.ensures at c.region-region.ensures)
     c.get_address-address.ensures c.check_pending.ensures c.in-Ok.is in
     search rules
 
@@ -73,7 +73,7 @@ pub put_all-requires : goal.put_all-requires
 put_all-requires c =
     omega (
       arith,
-      passed c.args.job (table_of c.args.labels.now) c.requires.indexed.1 c.requires.in_order.0 c.requires.in_order.1 c.widened.ensures c.read_pending-patch.ensures c.region_at-region.ensures
+      passed c.args.job (table_of c.args.labels.now.list) c.requires.lists c.requires.in_order.0 c.requires.in_order.1 c.widened.ensures c.read_pending-patch.ensures (rw c.new.ensures at c.region-region.ensures)
           c.get_address-address.ensures c.check_pending.ensures c.in-Ok.is,
       length-take {A = ℕ},
     )
@@ -82,7 +82,7 @@ pub write_pending-requires : goal.write_pending-requires
 write_pending-requires c =
     omega (
       arith,
-      passed c.args.job (table_of c.args.labels.now) c.requires.indexed.1 c.requires.in_order.0 c.requires.in_order.1 c.widened.ensures c.read_pending-patch.ensures c.region_at-region.ensures
+      passed c.args.job (table_of c.args.labels.now.list) c.requires.lists c.requires.in_order.0 c.requires.in_order.1 c.widened.ensures c.read_pending-patch.ensures (rw c.new.ensures at c.region-region.ensures)
           c.get_address-address.ensures c.check_pending.ensures c.in-Ok.is,
     )
 
@@ -90,7 +90,7 @@ pub overflow_add-result : goal.overflow_add-result
 overflow_add-result c =
     omega (
       arith,
-      passed c.args.job (table_of c.args.labels.now) c.requires.indexed.1 c.requires.in_order.0 c.requires.in_order.1 c.widened.ensures c.read_pending-patch.ensures c.region_at-region.ensures
+      passed c.args.job (table_of c.args.labels.now.list) c.requires.lists c.requires.in_order.0 c.requires.in_order.1 c.widened.ensures c.read_pending-patch.ensures (rw c.new.ensures at c.region-region.ensures)
           c.get_address-address.ensures c.check_pending.ensures c.in-Ok.is,
     )
 
@@ -98,7 +98,7 @@ pub overflow_add-counts : goal.overflow_add-counts
 overflow_add-counts c =
     omega (
       arith,
-      passed c.args.job (table_of c.args.labels.now) c.requires.indexed.1 c.requires.in_order.0 c.requires.in_order.1 c.widened.ensures c.read_pending-patch.ensures c.region_at-region.ensures
+      passed c.args.job (table_of c.args.labels.now.list) c.requires.lists c.requires.in_order.0 c.requires.in_order.1 c.widened.ensures c.read_pending-patch.ensures (rw c.new.ensures at c.region-region.ensures)
           c.get_address-address.ensures c.check_pending.ensures c.in-Ok.is,
     )
 
@@ -106,15 +106,15 @@ pub returns-in-Err : goal.returns-in-Err
 returns-in-Err c =
     let a = c.args in
     let read = c.read_pending-patch.ensures ∙ ap (pending_at (filled_pendings a.pending.now a.counts)) c.widened.ensures in
-    next_stops a.job (table_of a.labels.now) a.regions.now a.pending.now a.kept.now a.counts (get_or a.order.now a.counts.patches 0) c.read_pending-patch.result
-    c.region_at-region.result c.get_address-address.result read c.region_at-region.ensures c.get_address-address.ensures a.order.now c.requires.in_order.0 _
+    next_stops a.job (table_of a.labels.now.list) a.regions.now a.pending.now a.kept.now a.counts (get_or a.order.now a.counts.patches 0) c.read_pending-patch.result
+    c.region-region.result c.get_address-address.result read (rw c.new.ensures at c.region-region.ensures) c.get_address-address.ensures a.order.now c.requires.in_order.0 _
     c.check_pending.result c.check_pending.ensures c.in-Err.is _ c.put_back.ensures _ c.now_at.ensures
 
 pub returns-in-Ok : goal.returns-in-Ok
 returns-in-Ok c =
     let a = c.args in
     let read = c.read_pending-patch.ensures ∙ ap (pending_at (filled_pendings a.pending.now a.counts)) c.widened.ensures in
-    let i = c.region_at-region.result.start + c.read_pending-patch.result.offset in
-    next_passes a.job (table_of a.labels.now) a.regions.now a.pending.now a.kept.now a.counts (get_or a.order.now a.counts.patches 0) c.read_pending-patch.result
-    c.region_at-region.result c.get_address-address.result read c.region_at-region.ensures c.get_address-address.ensures c.check_pending.result c.check_pending.ensures
+    let i = c.region-region.result.start + c.read_pending-patch.result.offset in
+    next_passes a.job (table_of a.labels.now.list) a.regions.now a.pending.now a.kept.now a.counts (get_or a.order.now a.counts.patches 0) c.read_pending-patch.result
+    c.region-region.result c.get_address-address.result read (rw c.new.ensures at c.region-region.ensures) c.get_address-address.ensures c.check_pending.result c.check_pending.ensures
     c.in-Ok.is _ c.write_pending.ensures _ (c.put_all.ensures ∙ ap (λ (m : ℕ). append a.kept.now (4 * a.counts.patches) (take m (drop i a.regions.now))) (four i)) _ c.now_at-in-Ok.ensures

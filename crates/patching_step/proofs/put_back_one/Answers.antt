@@ -16,8 +16,8 @@ inside regions pending fill at p g f a p-is g-is h =
 
 pub overflow_add-region : goal.overflow_add-region
 overflow_add-region c =
-    omega (arith, inside _ _ c.args.fill _ _ _ c.requires.0 c.requires.1 c.read_pending-patch.ensures c.region_at-region.ensures c.if-end-region.false, c.requires.0.within)
+    omega (arith, inside _ _ c.args.fill _ _ _ c.requires.0 c.requires.1 c.read_pending-patch.ensures (rw c.new.ensures at c.region-region.ensures) c.if-end-region.false, c.requires.0.within)
 
 pub put_all-requires : goal.put_all-requires
 put_all-requires c =
-    omega (arith, inside _ _ c.args.fill _ _ _ c.requires.0 c.requires.1 c.read_pending-patch.ensures c.region_at-region.ensures c.if-end-region.false, c.requires.0.within, c.requires.2)
+    omega (arith, inside _ _ c.args.fill _ _ _ c.requires.0 c.requires.1 c.read_pending-patch.ensures (rw c.new.ensures at c.region-region.ensures) c.if-end-region.false, c.requires.0.within, c.requires.2)

@@ -7,4 +7,4 @@ returns c =
     line_turns _ _ _ _ _ _
     (line_given _ c.args.line.now _ _ _ _ _ c.list_of.ensures c.list_of-2.ensures c.behind_lists-numbers.ensures c.word_or_zero.ensures c.half_or_zero.ensures)
     (c.patch_line-lined.ensures k)
-    c.put_line-end.ensures
+    c.put_line.ensures

@@ -1,5 +1,6 @@
-use Rattle.std.proofs.Common.{◌≡◌, ℕ, List, ap, ◌∙◌}
+use Rattle.std.proofs.Common.{◌≡◌, ℕ, List, ◌++◌, ap, ◌∙◌}
 use Rattle.record.specs.Bytes.{byte_at}
+use Rattle.pseudo_names.specs.PseudoNames.{bytes_of}
 use Rattle.line_text.specs.Line.{job_numbered}
 use Rattle.input.specs.Input.{behind_lists}
 use Rattle.patching_text.specs.Script.{steps_text}
@@ -17,4 +18,4 @@ returns-in-Some c =
 pub returns-in-None : goal.returns-in-None
 unfolding steps_text
 returns-in-None c =
-    rw (← (c.in-None.ensures ∙ byte_is _ c.args.input.now _ c.behind_lists-numbers.ensures c.byte_or_zero.ensures)) c.put_text.ensures
+    rw (← (c.in-None.ensures ∙ byte_is _ c.args.input.now _ c.behind_lists-numbers.ensures c.byte_or_zero.ensures)) (c.push.ensures ∙ ap (λ (l : List ℕ). l ++ bytes_of "no such job\n") c.clear.ensures)

@@ -9,12 +9,12 @@ on : (c : In-loop-rest) → goes_on c.loop-rest.turns c.loop-rest.rest.now ≡ t
 on c = sym c.goes_on.ensures ∙ c.loop-rest-test.true
 
 pub loop-rest-init : goal.loop-rest-init
-loop-rest-init c = here_first c.args.out.now _ _ c.args.script.now
+loop-rest-init c = here_first c.args.out.now _ _ c.args.script.now c.requires.0
 
 pub do_turn-turned-requires : goal.do_turn-turned-requires
 do_turn-turned-requires c =
     let l = c.loop-rest in
-    (omega (arith, here_room l.invariant c.requires.0), turn_there l.rest.now (here_turn l.invariant (on (goal.at.do_turn-turned-requires c).In-loop-rest)).1)
+    (omega (arith, here_room l.invariant), turn_there l.rest.now (here_turn l.invariant (on (goal.at.do_turn-turned-requires c).In-loop-rest)).1)
 
 pub behind_turn-next-requires : goal.behind_turn-next-requires
 behind_turn-next-requires c =
@@ -28,12 +28,12 @@ loop-rest-smaller c =
 pub loop-rest-preserved : goal.loop-rest-preserved
 loop-rest-preserved c =
     rw c.behind_turn-next.ensures
-    (here_next c.loop-rest.invariant (on (goal.at.loop-rest-preserved c).In-loop-rest) _ _ _ c.do_turn-turned.ensures)
+    (here_next c.loop-rest.invariant (on (goal.at.loop-rest-preserved c).In-loop-rest) _ _ c.do_turn-turned.ensures)
 
 pub put_end-requires : goal.put_end-requires
 put_end-requires c =
-    (omega (arith, here_room c.loop-rest.invariant c.requires.0), omega arith, omega arith, omega arith)
+    (here_room c.loop-rest.invariant, omega arith, omega arith, omega arith)
 
 pub returns : goal.returns
 returns c =
-    here_last c.loop-rest.invariant (sym c.goes_on.ensures ∙ c.loop-rest-test.false) _ _ c.put_end.ensures
+    here_last c.loop-rest.invariant (sym c.goes_on.ensures ∙ c.loop-rest-test.false) _ c.put_end.ensures

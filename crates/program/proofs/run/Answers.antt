@@ -1,4 +1,4 @@
--- What is read is a part of its buffer.
+-- What is read is a part of its buffer, whose bytes the search would count one by one.
 use Rattle.std.proofs.Common.{ℕ, sym}
 use Rattle.std.proofs.lemmas.List.{length-replicate}
 use Rattle.program.proofs.run.Goals as goal
@@ -11,6 +11,3 @@ slice_bounds-input-end g c = c.read_full-count.ensures.0
 
 pub slice_bounds-put-end : goal.slice_bounds-put-end
 slice_bounds-put-end g c = c.read_full-count.ensures.1
-
-pub put-requires : goal.put-requires
-put-requires g c = c.requires

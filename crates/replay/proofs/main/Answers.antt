@@ -1,7 +1,6 @@
 -- What is read and what is written is a part of its buffer.
 use Rattle.std.proofs.Common.{ℕ, sym}
 use Rattle.std.proofs.lemmas.List.{length-replicate}
-use Rattle.text.proofs.TextLaws.{put_counts}
 use Rattle.replay.proofs.main.Goals as goal
 
 pub slice_bounds-read_full-end : goal.slice_bounds-read_full-end
@@ -12,9 +11,3 @@ slice_bounds-input-end c = c.read_full-count.ensures.0
 
 pub slice_bounds-replay-end : goal.slice_bounds-replay-end
 slice_bounds-replay-end c = c.read_full-count.ensures.1
-
-pub slice_bounds-out-end : goal.slice_bounds-out-end
-slice_bounds-out-end c = (put_counts _ _ _ _ _ c.replay-end.ensures).0
-
-pub slice_bounds-write_all-end : goal.slice_bounds-write_all-end
-slice_bounds-write_all-end c = (put_counts _ _ _ _ _ c.replay-end.ensures).1

@@ -3,7 +3,7 @@ use Rattle.text_pieces.proofs.WordLaws.{directive_fits, directive_long}
 use Rattle.text_pieces.proofs.directive_at.Goals as goal
 
 pub returns-then-len-gt-LONGEST : goal.returns-then-len-gt-LONGEST
-returns-then-len-gt-LONGEST c = directive_long c.args.text.now c.args.at _ c.word_len-len.ensures.0 c.if-len-gt-LONGEST.true
+returns-then-len-gt-LONGEST c = directive_long c.args.place.now.text.now c.args.place.now.at _ c.word_len-len.ensures.0 c.if-len-gt-LONGEST.true
 
 pub returns : goal.returns
-returns c = directive_fits c.args.text.now c.args.at _ c.word_len-len.ensures.0 c.if-len-gt-LONGEST.false
+returns c = directive_fits c.args.place.now.text.now c.args.place.now.at _ c.word_len-len.ensures.0 c.if-len-gt-LONGEST.false

@@ -8,7 +8,7 @@ use Rattle.text_pieces.proofs.hexadecimal_at.Goals as goal
 
 pub overflow_add-result : goal.overflow_add-result
 overflow_add-result c =
-    let s = c.args.text.now in
-    let start = c.args.at + 2 in
+    let s = c.args.place.now.text.now in
+    let start = c.args.place.now.at + 2 in
     let read = number_read 16 s start _ _ c.number_in.ensures c.in-Some.is in
     omega (arith, number_is 16 (drop start s) _ _ (sym read), leading_le (is_digit_of 16) (drop start s), length-drop start s)

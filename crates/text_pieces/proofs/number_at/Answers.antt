@@ -9,10 +9,10 @@ returns-then-is_hexadecimal c = c.hexadecimal_at.ensures ∙ number_hex _ _ (sym
 
 pub returns-in-Some : goal.returns-in-Some
 returns-in-Some c =
-    ap decimal_piece (number_read 10 c.args.text.now c.args.at _ _ c.number_in.ensures c.in-Some.is)
-    ∙ number_decimal c.args.text.now c.args.at (sym c.is_hexadecimal.ensures ∙ c.if-is_hexadecimal.false)
+    ap decimal_piece (number_read 10 c.args.place.now.text.now c.args.place.now.at _ _ c.number_in.ensures c.in-Some.is)
+    ∙ number_decimal c.args.place.now.text.now c.args.place.now.at (sym c.is_hexadecimal.ensures ∙ c.if-is_hexadecimal.false)
 
 pub returns-in-None : goal.returns-in-None
 returns-in-None c =
-    ap decimal_piece (number_read 10 c.args.text.now c.args.at _ _ c.number_in.ensures c.in-None.is)
-    ∙ number_decimal c.args.text.now c.args.at (sym c.is_hexadecimal.ensures ∙ c.if-is_hexadecimal.false)
+    ap decimal_piece (number_read 10 c.args.place.now.text.now c.args.place.now.at _ _ c.number_in.ensures c.in-None.is)
+    ∙ number_decimal c.args.place.now.text.now c.args.place.now.at (sym c.is_hexadecimal.ensures ∙ c.if-is_hexadecimal.false)

@@ -22,7 +22,7 @@ slice_bounds-put_tokens-end-in-Ok c = sym (length-take-le _ _ (within (goal.at.s
 pub put_tokens-requires : goal.put_tokens-requires
 put_tokens-requires c =
     let d = c.read_text.new.tokens in
-    omega (arith, line_length (take c.in-Ok.fill d), length-take c.in-Ok.fill d, c.requires)
+    omega (arith, line_length (take c.in-Ok.fill d), length-take c.in-Ok.fill d, ap length c.requires.0, c.requires.1)
 
-pub put_refusal-requires : goal.put_refusal-requires
-put_refusal-requires c = omega (arith, refused_most c.numbers.result, c.requires)
+pub push_refusal-requires : goal.push_refusal-requires
+push_refusal-requires c = omega (arith, refused_most c.numbers.result, ap length c.requires.0)

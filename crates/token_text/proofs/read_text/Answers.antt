@@ -1,7 +1,6 @@
-use Rattle.std.proofs.Common.{◌≡◌, ℕ, min, List, take, drop, subst, ◌∙◌}
+use Rattle.std.proofs.Common.{◌≡◌, ℕ, min, List, take, drop, ◌∙◌}
 use Rattle.std.specs.Prelude.{replicate}
 use Rattle.input.specs.Input.{word_or_zero}
-use Rattle.text.specs.Text.{Put}
 use Rattle.text_reader.specs.Outcome.{read_text}
 use Rattle.token_text.specs.TokenText.{outcome_text, read_text_text}
 use Rattle.token_text.proofs.TokenTextLaws.{held_text}
@@ -15,6 +14,4 @@ text_is input text source asked room t s n r = held_text text source asked room 
 
 pub returns : goal.returns
 returns c =
-    subst (λ (text : List ℕ). Put c.args.out.now 0 text c.put_read.new.out c.put_read.result)
-    (text_is c.args.input.now _ _ _ _ c.text_of.ensures c.word_or_zero-source.ensures c.word_or_zero-asked.ensures c.least-room.ensures)
-    c.put_read.ensures
+    c.put_read.ensures ∙ text_is c.args.input.now _ _ _ _ c.text_of.ensures c.word_or_zero-source.ensures c.word_or_zero-asked.ensures c.least-room.ensures

@@ -39,10 +39,6 @@ returns-then-room-gt-LIMIT c =
     let m = sym c.first_bad_macro.ensures ∙ layout_pass 1 c.first_bad_macro.result (sym c.check_layout-2.ensures ∙ c.in_ok-check_layout-2.was) in
     sym (stop_room a.tokens.now a.macros.now a.room (tokens_good (goal.at.returns-then-room-gt-LIMIT c).After-first_bad_macro) m c.if-room-gt-LIMIT.true)
 
-pub first_repeat-requires : goal.first_repeat-requires
-first_repeat-requires c =
-    sym c.first_bad_macro.ensures ∙ layout_pass 1 c.first_bad_macro.result (sym c.check_layout-2.ensures ∙ c.in_ok-check_layout-2.was)
-
 macros_good : (c : After-first_repeat) → macro_layout c.args.macros.now ≡ None
 macros_good c = sym c.first_bad_macro.ensures ∙ layout_pass 1 c.first_bad_macro.result (sym c.check_layout-2.ensures ∙ c.in_ok-check_layout-2.was)
 

@@ -10,12 +10,12 @@ use Rattle.write_out.proofs.write_all.Goals as goal
 
 pub write_body-requires : goal.write_body-requires
 write_body-requires c =
-    (outer_ready c.args.text.now c.args.macros.now (replicate 8 0) refl c.requires.0 c.requires.1, omega arith, c.requires.2)
+    (outer_ready c.args.source.now.text.now c.args.source.now.macros.now (replicate 8 0) refl c.requires.0 c.requires.1, omega arith, c.requires.2)
 
 pub returns : goal.returns
 returns c =
     let a = c.args in
-    let e = outer_is a.text.now a.macros.now (replicate 8 0) refl c.requires.0 c.requires.1 in
+    let e = outer_is a.source.now.text.now a.source.now.macros.now (replicate 8 0) refl c.requires.0 c.requires.1 in
     record {
       value = c.write_body.ensures.value ∙ ap (answer_from (length a.out.now) 0) e;
       out_after = c.write_body.ensures.out_after ∙ ap (λ (x : List Step). append a.out.now 0 (only a.really (written_from (length a.out.now) 0 x))) e;

@@ -1,5 +1,4 @@
 use Rattle.std.proofs.Common.{◌≡◌, ℕ, get_or, ap, ◌∙◌}
-use Rattle.reading.specs.Reading.{image_of}
 use Rattle.machine.specs.declared.Effect.{Effect}
 use Rattle.machine.specs.declared.Effect.TheVariants.{SetRt, SetRd, Go, Overflows, Unknown}
 use Rattle.machine.specs.declared.Reason.TheVariants.{Pc, Word, Overflow}
@@ -11,34 +10,34 @@ use Rattle.dry_run_core.proofs.steps.run.Goals as goal
 use Rattle.dry_run_core.proofs.steps.run.Goals.{After-effect}
 
 -- an effect that is told is that of the step
-told : (c : After-effect) (e : Effect) → c.effect.result ≡ e → step (image_of c.args.regions.now) c.loop-steps.m ≡ apply e c.in-Some.word c.loop-steps.m
+told : (c : After-effect) (e : Effect) → c.effect.result ≡ e → step c.args.image.now c.loop-steps.m ≡ apply e c.in-Some.word c.loop-steps.m
 told c e k =
     let m = c.loop-steps.m in
-    step_word_lem (image_of c.args.regions.now) m c.fetch.result c.in-Some.word _ _ c.effect.result c.loop-steps.invariant.zero_held c.fetch.ensures c.in-Some.is
+    step_word_lem c.args.image.now m c.fetch.result c.in-Some.word _ _ c.effect.result c.loop-steps.invariant.zero_held c.fetch.ensures c.in-Some.is
     (ap (λ (r : ℕ). get_or m.registers r 0) c.rs-i.ensures.0)
     (ap (λ (r : ℕ). get_or m.registers r 0) c.rt-j.ensures.0)
     c.effect.ensures
     ∙ ap (λ (x : Effect). apply x c.in-Some.word m) k
 
 pub loop-steps-init : goal.loop-steps-init
-loop-steps-init c = here_start _ _ _ c.requires.zero
+loop-steps-init c = here_start _ _ _ c.requires
 
 pub returns-in_default : goal.returns-in_default
 returns-in_default c =
     c.ran.ensures
     ∙ here_stops _ _ _ _ _ c.loop-steps.invariant c.loop-steps-test.true Pc
-    (step_none (image_of c.args.regions.now) c.loop-steps.m c.fetch.result c.fetch.ensures c.in_default.is)
+    (step_none c.args.image.now c.loop-steps.m c.fetch.result c.fetch.ensures c.in_default.is)
 
 pub loop-steps-preserved-in-SetRt : goal.loop-steps-preserved-in-SetRt
 loop-steps-preserved-in-SetRt c =
     here_goes _ _ _ _ _ c.loop-steps.invariant c.loop-steps-test.true _
-    (step_sets (image_of c.args.regions.now) c.loop-steps.m (rt c.in-Some.word) _ c.in-SetRt.value _ c.loop-steps.invariant.zero_held c.rt-j.ensures.0 c.next_pc.ensures
+    (step_sets c.args.image.now c.loop-steps.m (rt c.in-Some.word) _ c.in-SetRt.value _ c.loop-steps.invariant.zero_held c.rt-j.ensures.0 c.next_pc.ensures
     (told (goal.at.loop-steps-preserved-in-SetRt c).After-effect (SetRt c.in-SetRt.value) c.in-SetRt.is))
 
 pub loop-steps-preserved-in-SetRd : goal.loop-steps-preserved-in-SetRd
 loop-steps-preserved-in-SetRd c =
     here_goes _ _ _ _ _ c.loop-steps.invariant c.loop-steps-test.true _
-    (step_sets (image_of c.args.regions.now) c.loop-steps.m (rd c.in-Some.word) _ c.in-SetRd.value _ c.loop-steps.invariant.zero_held c.rd-k.ensures.0 c.next_pc-in-SetRd.ensures
+    (step_sets c.args.image.now c.loop-steps.m (rd c.in-Some.word) _ c.in-SetRd.value _ c.loop-steps.invariant.zero_held c.rd-k.ensures.0 c.next_pc-in-SetRd.ensures
     (told (goal.at.loop-steps-preserved-in-SetRd c).After-effect (SetRd c.in-SetRd.value) c.in-SetRd.is))
 
 pub loop-steps-preserved : goal.loop-steps-preserved

@@ -1,7 +1,7 @@
-use Rattle.std.proofs.Common.{◌≤◌, length, drop}
-use Rattle.text.proofs.TextLaws.{Left}
+use Rattle.std.proofs.Common.{◌≡◌, ◌++◌, drop}
 use Rattle.dry_run_text.specs.Lines.{hex_fields}
 use Rattle.dry_run_text.proofs.lines.put_hex_fields.Given as goal
 
+-- behind the text so far stand the numbers that are left
 abbrev pub invariant-loop-number : goal.invariant-loop-number
-invariant-loop-number l = (l.number-index ≤ length l.numbers) × Left l.initial.out l.at (hex_fields l.numbers) l.out l.end (hex_fields (drop l.number-index l.numbers))
+invariant-loop-number l = l.out ++ hex_fields (drop l.number-index l.numbers) ≡ l.initial.out ++ hex_fields l.numbers

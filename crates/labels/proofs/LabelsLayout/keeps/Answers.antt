@@ -8,7 +8,6 @@ use Rattle.names.proofs.OwnersLaws.{owned_is}
 use Rattle.labels.specs.Labels.{label_kind, label_body, label_ok}
 use Rattle.labels.proofs.LabelsLaws.{label_unnamed}
 use Rattle.labels.proofs.LabelsLayout.keeps.Goals as goal
-use Rattle.labels.proofs.LabelsLayout.keeps.Goals.{then-not-has_name-via-then-not-has_name, then-not-has_name-via-else-not-has_name+then-not-kind_ok}
 
 same_test : (a b c d : ℕ) → (a ≤ b → c ≤ d) → (c ≤ d → a ≤ b) → leb a b ≡ leb c d
 same_test a b c d f g = go (leb a b) refl
@@ -49,26 +48,30 @@ module _ (s : List ℕ) (at : ℕ) (e : has_owned_name 4 s at ≡ true) where
     over : 1 ≤ long → 64 < long → label_ok s at ≡ false
     over f g = by_name ∙ rw (k, le-leb 1 long f, lt-leb long 64 g) refl
 
-pub returns-then-not-has_name : goal.returns-then-not-has_name
-returns-then-not-has_name c =
-    elim c.then-not-has_name.branch [
-      | then-not-has_name-via-then-not-has_name w ↦ sym (label_unnamed _ _ (sym w.if-not-has_name.ensures))
-      | then-not-has_name-via-else-not-has_name+then-not-kind_ok w ↦
-          sym (other _ _ (sym w.if-not-has_name.ensures) (sym w.if-not-kind_ok.ensures))
-    ]
+pub returns-in_default : goal.returns-in_default
+returns-in_default c = sym (label_unnamed _ _ c.in_default.ensures)
+
+pub returns-then-not-kind_ok : goal.returns-then-not-kind_ok
+returns-then-not-kind_ok c =
+    let e = c.in-Some.ensures in
+    sym (other _ _ (rw (e.0, e.1) at c.in-Some.label.named) (sym (rw (e.0, e.1) at c.kind_ok.ensures) ∙ c.if-not-kind_ok.true))
 
 pub returns-in-1-to-64 : goal.returns-in-1-to-64
 returns-in-1-to-64 c =
-    let l = ap length c.name_at-name.ensures in
-    c.all_text.ensures ∙ ap (all is_text) c.name_at-name.ensures
-    ∙ sym (fits _ _ (sym c.if-not-has_name.ensures) (sym c.if-not-kind_ok.ensures) (omega (arith, l)) (omega (arith, l)))
+    let e = c.in-Some.ensures in
+    let n = rw (e.0, e.1) at c.name-name.ensures in
+    let l = ap length n in
+    c.all_text.ensures ∙ ap (all is_text) n
+    ∙ sym (fits _ _ (rw (e.0, e.1) at c.in-Some.label.named) (sym (rw (e.0, e.1) at c.kind_ok.ensures) ∙ c.if-not-kind_ok.false) (omega (arith, l)) (omega (arith, l)))
 
-pub returns-in_default : goal.returns-in_default
-returns-in_default c =
-    let l = ap length c.name_at-name.ensures in
-    sym (short _ _ (sym c.if-not-has_name.ensures) (sym c.if-not-kind_ok.ensures) (omega (arith, l)))
+pub returns-in_default-len : goal.returns-in_default-len
+returns-in_default-len c =
+    let e = c.in-Some.ensures in
+    let l = ap length (rw (e.0, e.1) at c.name-name.ensures) in
+    sym (short _ _ (rw (e.0, e.1) at c.in-Some.label.named) (sym (rw (e.0, e.1) at c.kind_ok.ensures) ∙ c.if-not-kind_ok.false) (omega (arith, l)))
 
-pub returns-in_default-2 : goal.returns-in_default-2
-returns-in_default-2 c =
-    let l = ap length c.name_at-name.ensures in
-    sym (over _ _ (sym c.if-not-has_name.ensures) (sym c.if-not-kind_ok.ensures) (omega (arith, l)) (omega (arith, l)))
+pub returns-in_default-len-2 : goal.returns-in_default-len-2
+returns-in_default-len-2 c =
+    let e = c.in-Some.ensures in
+    let l = ap length (rw (e.0, e.1) at c.name-name.ensures) in
+    sym (over _ _ (rw (e.0, e.1) at c.in-Some.label.named) (sym (rw (e.0, e.1) at c.kind_ok.ensures) ∙ c.if-not-kind_ok.false) (omega (arith, l)) (omega (arith, l)))

@@ -1,5 +1,10 @@
-use Rattle.text.proofs.TextLaws.{put_then}
+use Rattle.std.proofs.Common.{◌++◌, append_assoc, ◌∙◌}
+use Rattle.io.specs.Digits.{last_digits}
+use Rattle.pseudo_names.specs.PseudoNames.{bytes_of}
 use Rattle.patching_text.proofs.lines.put_ended.Goals as goal
 
 pub returns : goal.returns
-returns c = put_then _ _ _ _ _ (put_then _ _ _ _ _ c.put_text-address_at.ensures _ _ _ c.put_hex-end.ensures) _ _ _ c.put_byte.ensures
+returns c =
+    let out = c.args.out.now in
+    let digits = last_digits 16 8 c.args.address in
+    rw (c.push_byte.ensures, c.push_hex.ensures, c.push.ensures) (append_assoc (out ++ bytes_of "ended ") digits (bytes_of "\n") ∙ append_assoc out (bytes_of "ended ") (digits ++ bytes_of "\n"))

@@ -1,7 +1,0 @@
-use Rattle.line_uses.proofs.LineLaws.{nothing_adds}
-use Rattle.line_uses.proofs.add_pair.Goals as goal
-
-pub returns-in-None : goal.returns-in-None
-returns-in-None c =
-    let a = c.args in
-    nothing_adds a.labels.now a.tokens.now a.waits c.in-None.is a.index.now a.fill a.n
