@@ -1,5 +1,5 @@
 -- A line for a Release 6 board is the manual's but for the two listed points, and its build is the manual one. Assumes nothing.
-use Rattle.std.specs.Prelude.{ℕ, ◌%◌, ◌≡◌, refl, Bool, true, false, List, leb, eqb, Err, None, Ok, Option, Result, Some}
+use Rattle.std.specs.Prelude.{ℕ, ◌%◌, ◌≡◌, refl, Bool, true, false, List, leb, eqb, Err, None, Ok, Option, Some}
 use Rattle.std.proofs.Common.{sym, ap, ap₂, ◌∙◌, eqb-true}
 use Rattle.instructions.specs.declared.Opcode.{Opcode}
 use Rattle.instructions.specs.declared.Opcode.TheVariants.{Op, Func, Special, Algebra, Cop1, Cop1I}
@@ -24,7 +24,7 @@ use Rattle.build_outcome.specs.Build.{build_outcome}
 use Rattle.emit_pairs.specs.declared.Fault.{Fault}
 use Rattle.emit_pairs.specs.declared.Fault.TheVariants.{Immediate as ImmediateFault, ShiftAmount, ConditionCode, Dropped}
 use Rattle.emit_pairs.specs.declared.InstructionPair.{InstructionPair}
-use Rattle.emit_pairs.specs.Pairs.{is_immediate, immediate_range}
+use Rattle.emit_pairs.specs.Pairs.{is_immediate, immediate_range, Range}
 use Rattle.emit_dispatch.specs.Wants.{encoding_wants}
 use Rattle.emit_dispatch.specs.Lines.{within_or, range_then, encoding_range, encoding_pairs, encoding_form, line_by, encoding_line}
 use Rattle.emit_outcome.specs.Call.{Call}
@@ -49,7 +49,7 @@ use Rattle.acceptance.specs.Changed.{is_listed27, dropped_or, UnchangedRead, Unc
 
 -- ---- what a Release 6 job takes: 19 and 20 as in a manual job, then 27, then 9
 
-abbrev dropping : Bool → Result (Unit {0}) Fault
+abbrev dropping : Bool → Range
 dropping d = elim d [ true ↦ Err Dropped | false ↦ Ok tt ]
 
 -- a test of 19 or 20 goes first
@@ -130,7 +130,7 @@ pairs_as_manual (FPBranch flag) op x h = refl
 
 -- ---- a line with neither point: its whole outcome, answer, position, counts and every lent byte
 
-kept_stays : (r : Result (Unit {0}) Fault) → dropped_or false r ≡ r
+kept_stays : (r : Range) → dropped_or false r ≡ r
 kept_stays (Ok tt) = refl
 kept_stays (Err ImmediateFault) = refl
 kept_stays (Err ShiftAmount) = refl
@@ -187,7 +187,7 @@ jr_same op ts i h = go (read_operands (encoding_wants Source) ts i).answer
         → line_by a (read_operands (encoding_wants Source) ts i).index (encoding_range Release6 Source op) (encoding_pairs Release6 Source op) (encoding_form Source)
         ≡ line_by a (read_operands (encoding_wants Source) ts i).index (encoding_range Manual Source (Func 9)) (encoding_pairs Manual Source (Func 9)) (encoding_form Source)
     go (Got x) =
-        ap₂ (λ (r : Result (Unit {0}) Fault) (ps : List InstructionPair). line_by (Got x) (read_operands (encoding_wants Source) ts i).index (λ y. r) (λ y. ps) (encoding_form Source))
+        ap₂ (λ (r : Range) (ps : List InstructionPair). line_by (Got x) (read_operands (encoding_wants Source) ts i).index (λ y. r) (λ y. ps) (encoding_form Source))
         (ap dropping (eight_kept op h)) (ap (λ (o : Opcode). encoding_pairs Manual Source o x) (source_by op h))
     go (Missed m) = refl
 

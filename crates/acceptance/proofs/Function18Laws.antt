@@ -1,6 +1,6 @@
 -- Every word of opcode 0 and function 18 in an accepted line of a Release 6 job is one of those listed in Function18.antt: by the format of each word.
 -- Assumes nothing.
-use Rattle.std.specs.Prelude.{ℕ, ◌%◌, ◌≡◌, refl, Bool, true, false, ◌||◌, ◌⊎◌, eqb, Err, None, Ok, Result, Some, Option}
+use Rattle.std.specs.Prelude.{ℕ, ◌%◌, ◌≡◌, refl, Bool, true, false, ◌||◌, ◌⊎◌, eqb, Err, None, Ok, Some, Option}
 use Rattle.std.proofs.Common.{arith, sym, ap, ◌∙◌, inl, inr}
 use mathlib.Core.List.Memᴰ
 use mathlib.Core.List.{List, [], ◌∷◌, ◌++◌, Memᴰ}
@@ -27,7 +27,7 @@ use Rattle.operand.specs.Answers.{Got}
 use Rattle.operand_list.specs.OperandLists.{AskedAll, read_operands}
 use Rattle.operands.specs.Operands.{with_sign}
 use Rattle.emit_pairs.specs.declared.Fault.TheVariants.{Immediate as ImmediateFault, ShiftAmount, ConditionCode, Dropped}
-use Rattle.emit_pairs.specs.Pairs.{is_immediate}
+use Rattle.emit_pairs.specs.Pairs.{is_immediate, Range}
 use Rattle.emit_dispatch.specs.LineAnswers.{Made}
 use Rattle.emit_dispatch.specs.Wants.{encoding_wants, pseudo_wants}
 use Rattle.emit_dispatch.specs.Lines.{is_given, encoding_range, range_answer, encoding_line}
@@ -42,7 +42,6 @@ use Rattle.formats.proofs.EveryWord.{every_word}
 use Rattle.acceptance.specs.Function18.{IsMflo, Lands, ImmediateHolds, OffsetHolds, EncodingHolds, Holds, HeldBy}
 use Rattle.acceptance.specs.Changed.{third_given, is_listed27, dropped_or}
 use Rattle.acceptance.proofs.AsManual.{range_as_manual}
-use Rattle.emit_pairs.specs.declared.Fault.{Fault}
 
 -- ---- opcode and function of a format
 
@@ -257,7 +256,7 @@ loading_each S (Some l) = load_each S l.constant (number l.register)
 -- ---- the line
 
 -- a line that was made is not dropped
-kept_listed : (listed : Bool) (r : Result (Unit {0}) Fault) → dropped_or listed r ≡ Ok tt → listed ≡ false
+kept_listed : (listed : Bool) (r : Range) → dropped_or listed r ≡ Ok tt → listed ≡ false
 kept_listed false r e = refl
 kept_listed true (Ok tt) e = cc
 kept_listed true (Err ImmediateFault) e = cc

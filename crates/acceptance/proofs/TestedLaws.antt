@@ -1,6 +1,6 @@
 -- 19 and 20 in a job by the manual: a line has them exactly by its shift amount and its condition code; else the commit's range stays.
 -- Assumes nothing.
-use Rattle.std.specs.Prelude.{ℕ, ◌<◌, ◌≡◌, refl, Bool, true, false, leb, ◌++◌, Err, Ok, Result, Option, None, Some}
+use Rattle.std.specs.Prelude.{ℕ, ◌<◌, ◌≡◌, refl, Bool, true, false, leb, ◌++◌, Err, Ok, Option, None, Some}
 use Rattle.std.proofs.Common.{ap, ◌∙◌, arith}
 use Rattle.std.proofs.lemmas.Bool.{lt-leb}
 use Rattle.instructions.specs.declared.Opcode.{Opcode}
@@ -15,6 +15,7 @@ use Rattle.descriptors.specs.Descriptors.{instruction_at}
 use Rattle.descriptors.specs.Mnemonics.{mnemonic_location}
 use Rattle.emit_pairs.specs.declared.Fault.{Fault}
 use Rattle.emit_pairs.specs.declared.Fault.TheVariants.{ShiftAmount, ConditionCode}
+use Rattle.emit_pairs.specs.Pairs.{Range}
 use Rattle.emit_dispatch.specs.Wants.{encoding_wants}
 use Rattle.emit_dispatch.specs.Lines.{within_or, range_then, encoding_range}
 use Rattle.emit_outcome.specs.Call.{Call}
@@ -69,10 +70,10 @@ range_as_commit (FPCond fmt) op x = tested ConditionCode (leb x.0 7)
 range_as_commit (FPCrossMove flag) op x = refl
 range_as_commit (FPBranch flag) op x = tested ConditionCode (leb x.0 7)
 
-over_shift : (amount : ℕ) (next : Result (Unit {0}) Fault) → 31 < amount → shift_or (Some amount) next ≡ Err ShiftAmount
+over_shift : (amount : ℕ) (next : Range) → 31 < amount → shift_or (Some amount) next ≡ Err ShiftAmount
 over_shift amount next h = ap (λ (b : Bool). elim b [ true ↦ next | false ↦ Err ShiftAmount ]) (lt-leb amount 31 h)
 
-over_code : (code : ℕ) (next : Result (Unit {0}) Fault) → 7 < code → code_or (Some code) next ≡ Err ConditionCode
+over_code : (code : ℕ) (next : Range) → 7 < code → code_or (Some code) next ≡ Err ConditionCode
 over_code code next h = ap (λ (b : Bool). elim b [ true ↦ next | false ↦ Err ConditionCode ]) (lt-leb code 7 h)
 
 -- ---- the line's whole outcome

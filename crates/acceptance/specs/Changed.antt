@@ -1,6 +1,6 @@
 -- Where a line for a Release 6 board has one of the points that document 02 lists, P9: "A Release 6 job changes function 8 under the Source
 -- encoding to 9, and otherwise follows P5. New numbers: 27, an Inputs line with a third operand or a Func 18 line". Assumes nothing.
-use Rattle.std.specs.Prelude.{ℕ, ◌≡◌, Bool, true, false, ◌||◌, Err, Ok, Result}
+use Rattle.std.specs.Prelude.{ℕ, ◌≡◌, Bool, true, false, ◌||◌, Err, Ok}
 use Rattle.instructions.specs.declared.Opcode.{Opcode}
 use Rattle.instructions.specs.declared.Encoding.{Encoding}
 use Rattle.instructions.specs.declared.Encoding.TheVariants.{Register, RegisterShift, Source, Destination, Inputs, Sham, SpecialBranch, Immediate, LoadImmediate, Jump, Branch, BranchZero, Parameterless, Offset, FPOffset, FP3Register, FP2Register, FPMove, FPCond, FPCrossMove, FPBranch}
@@ -19,7 +19,7 @@ use Rattle.emit_outcome.specs.Dispatch.{meaning}
 use Rattle.emit_outcome.specs.Emit.{start_of}
 use Rattle.emit_outcome.specs.declared.Meaning.{Meaning}
 use Rattle.emit_outcome.specs.declared.Meaning.TheVariants.{Table, Builtin, Neither}
-use Rattle.emit_pairs.specs.declared.Fault.{Fault}
+use Rattle.emit_pairs.specs.Pairs.{Range}
 
 -- ---- 27: "an Inputs line with a third operand or a Func 18 line"
 
@@ -50,7 +50,7 @@ abbrev pub is_listed27 : (e : Encoding) → Opcode → AskedAll (encoding_wants 
 is_listed27 e op x = third_given e x || is_function 18 op
 
 -- "tested straight after 20", and so before 9: what becomes of a manual job's range
-abbrev pub dropped_or : (dropped : Bool) → Result (Unit {0}) Fault → Result (Unit {0}) Fault
+abbrev pub dropped_or : (dropped : Bool) → Range → Range
 dropped_or dropped (Ok tt) = elim dropped [ true ↦ Err Dropped | false ↦ Ok tt ]
 dropped_or dropped (Err ShiftAmount) = Err ShiftAmount
 dropped_or dropped (Err ConditionCode) = Err ConditionCode

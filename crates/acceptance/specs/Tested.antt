@@ -1,12 +1,12 @@
 -- Which number of a line a job by the manual tests, and against what (document 02, P5: "19, a shift amount outside 0 to 31; 20, a condition code
 -- outside 0 to 7; both tested on the full 64-bit operand"). Assumes nothing.
-use Rattle.std.specs.Prelude.{ℕ, true, false, leb, Err, Result, Option, None, Some}
+use Rattle.std.specs.Prelude.{ℕ, true, false, leb, Err, Option, None, Some}
 use Rattle.instructions.specs.declared.Encoding.{Encoding}
 use Rattle.instructions.specs.declared.Encoding.TheVariants.{Register, RegisterShift, Source, Destination, Inputs, Sham, SpecialBranch, Immediate, LoadImmediate, Jump, Branch, BranchZero, Parameterless, Offset, FPOffset, FP3Register, FP2Register, FPMove, FPCond, FPCrossMove, FPBranch}
 use Rattle.operand_list.specs.OperandLists.{AskedAll}
 use Rattle.emit_pairs.specs.declared.Fault.TheVariants.{ShiftAmount, ConditionCode}
 use Rattle.emit_dispatch.specs.Wants.{encoding_wants}
-use Rattle.emit_pairs.specs.declared.Fault.{Fault}
+use Rattle.emit_pairs.specs.Pairs.{Range}
 
 -- the line's shift amount
 abbrev pub shift_amount : (e : Encoding) → AskedAll (encoding_wants e) → Option ℕ
@@ -57,11 +57,11 @@ condition_code (FPCrossMove flag) x = None
 condition_code (FPBranch flag) x = Some x.0
 
 -- 19 for a shift amount over 31, else `next`
-abbrev pub shift_or : Option ℕ → Result (Unit {0}) Fault → Result (Unit {0}) Fault
+abbrev pub shift_or : Option ℕ → Range → Range
 shift_or None next = next
 shift_or (Some amount) next = elim (leb amount 31) [ true ↦ next | false ↦ Err ShiftAmount ]
 
 -- 20 for a condition code over 7, else `next`
-abbrev pub code_or : Option ℕ → Result (Unit {0}) Fault → Result (Unit {0}) Fault
+abbrev pub code_or : Option ℕ → Range → Range
 code_or None next = next
 code_or (Some code) next = elim (leb code 7) [ true ↦ next | false ↦ Err ConditionCode ]

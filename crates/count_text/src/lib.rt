@@ -1,26 +1,14 @@
 // What `count_forms` does (document 02, P14), from the bytes that it reads to those that it prints.
 #![tactic(auto)]
 
-ghost use Rattle.std.specs.Prelude.{◌≡◌, []};
-ghost use Rattle.count_text.specs.CountText.{count_lines, count_text};
+ghost use Rattle.std.specs.Prelude.{◌≡◌};
+ghost use Rattle.count_text.specs.CountText.{count_text};
 
-use form_counts::FormCounts;
 use program::Program;
 use text::Printed;
 
-#[tactic(auto, using(text::proofs::TextLaws::last_most, std::proofs::lemmas::Grind::common_steps))]
-fn put_counts(out: &mut Printed, counts: FormCounts)
-    requires { out.old ≡ [] }
-    ensures { out.new ≡ count_lines counts }
-{
-    out.push_number_line(b"addiu", counts.addiu);
-    out.push_number_line(b"ori", counts.ori);
-    out.push_number_line(b"lui", counts.lui);
-    out.push_number_line(b"both", counts.both);
-}
-
-// The text that `count_forms` prints for an input.
-#[tactic(auto, using(text::proofs::TextLaws::refused_most), unfolding(crate::specs::CountText::count_text))]
+// The text that `count_forms` prints for an input: the four counts, or the refusal alone.
+#[tactic(auto, using(text::proofs::TextLaws::refused_most, text::proofs::TextLaws::last_most, std::proofs::lemmas::Grind::common_steps), unfolding(crate::specs::CountText::count_text))]
 pub fn count_forms(input: &[u8], out: &mut Printed)
     ensures { out.new ≡ count_text input.now }
 {
@@ -28,7 +16,12 @@ pub fn count_forms(input: &[u8], out: &mut Printed)
     let end = input::word_or_zero(input, 4);
     out.clear();
     match form_counts::count_forms(start, end) {
-        Ok(counts) => put_counts(out, counts),
+        Ok(counts) => {
+            out.push_number_line(b"addiu", counts.addiu);
+            out.push_number_line(b"ori", counts.ori);
+            out.push_number_line(b"lui", counts.lui);
+            out.push_number_line(b"both", counts.both);
+        }
         Err(refusal) => out.push_refusal(refusal::numbers(refusal)),
     }
 }

@@ -1,2 +1,3 @@
 pub mod CursorsLaws
+pub mod PositionLaws
 pub mod ReadsLaws

@@ -278,6 +278,14 @@ impl<'a> Descriptors<'a> {
         self.repeat_by_index()
     }
 
+    // The row of the descriptor at a place.
+    pub fn instruction(&self, place: usize) -> Instruction
+        requires { place + 12 ≤ length self.now }
+        ensures { result ≡ instruction_at self.now place }
+    {
+        Descriptor::new(self.list, place).instruction()
+    }
+
     // The place of the descriptor of that name.
     pub fn find(&self, name: &[u8]) -> Option<usize>
         ensures { result ≡ find_descriptor self.now name.now }

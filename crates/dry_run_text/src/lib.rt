@@ -1,13 +1,13 @@
 // What `dry_run` does (document 02, P10), from the bytes that it reads to those that it prints.
 #![tactic(auto)]
 
-ghost use Rattle.std.specs.Prelude.{◌≡◌, []};
-ghost use Rattle.dry_run_text.specs.Lines.{run_text, outcome_text, machine_in, dry_run_text};
+ghost use Rattle.std.specs.Prelude.{◌≡◌, ◌++◌, ◌+◌, ◌≤◌, length};
+ghost use Rattle.dry_run_text.specs.Lines.{run_text, machine_in, dry_run_text};
 
-use dry_run_outcome::{DryRun, Stopped};
+use dry_run_outcome::Stopped;
 use machine::{Machine, Reason};
 use program::Program;
-use text::Printed;
+use text::{MOST, Printed};
 
 mod lines;
 
@@ -21,10 +21,11 @@ fn machine_in(numbers: &[u8]) -> Machine
     }
 }
 
-#[tactic(auto, using(crate::proofs::LinesLaws::reason_most, crate::proofs::LinesLaws::steps_most, crate::proofs::LinesLaws::pc_length, crate::proofs::LinesLaws::registers_length, std::proofs::lemmas::Grind::common_steps))]
+// The four lines of a run.
+#[tactic(auto, using(std::proofs::lemmas::Grind::common_steps))]
 fn put_run(out: &mut Printed, reason: Reason, steps: u32, machine: Machine)
-    requires { out.old ≡ [] }
-    ensures { out.new ≡ run_text reason steps machine }
+    requires { length out.old + length (run_text reason steps machine) ≤ MOST }
+    ensures { out.new ≡ out.old ++ run_text reason steps machine }
 {
     lines::put_reason(&mut *out, reason);
     out.push_number_line(b"steps", steps as u64);
@@ -32,31 +33,20 @@ fn put_run(out: &mut Printed, reason: Reason, steps: u32, machine: Machine)
     lines::put_registers(out, &machine.registers);
 }
 
-// The four lines of a run, or the refusal alone.
-#[tactic(auto, using(text::proofs::TextLaws::refused_most))]
-fn put_outcome(out: &mut Printed, run: DryRun)
-    requires { out.old ≡ [] }
-    ensures { out.new ≡ outcome_text run.answer run.machine }
-{
-    match run.answer {
-        Ok(Stopped { reason, steps }) => put_run(out, reason, steps, run.machine),
-        Err(refusal) => out.push_refusal(refusal::numbers(refusal)),
-    }
-}
-
-// The text that `dry_run` prints for an input.
-#[tactic(auto, unfolding(crate::specs::Lines::dry_run_text))]
+// The text that `dry_run` prints for an input: the run's lines, or the refusal alone.
+#[tactic(auto, using(text::proofs::TextLaws::refused_most, crate::proofs::LinesLaws::run_most), unfolding(crate::specs::Lines::dry_run_text))]
 pub fn dry_run(input: &[u8], out: &mut Printed)
     ensures { out.new ≡ dry_run_text input.now }
 {
     let numbers = input::behind_lists(input, 1);
     let machine = machine_in(numbers);
     let allowance = input::word_or_zero(numbers, 132);
+    let run = dry_run_core::dry_run(input::list_of(input, 0), machine, allowance);
     out.clear();
-    put_outcome(
-        out,
-        dry_run_core::dry_run(input::list_of(input, 0), machine, allowance),
-    );
+    match run.answer {
+        Ok(Stopped { reason, steps }) => put_run(out, reason, steps, run.machine),
+        Err(refusal) => out.push_refusal(refusal::numbers(refusal)),
+    }
 }
 
 // `dry_run` as a program.

@@ -1,6 +1,6 @@
 -- Laws of what a line appends: one word or one record more, and the lengths. Assumes nothing.
 use Prim.Native.Nat.{ℕ, zero, suc, ◌+◌, ◌*◌, ◌≤◌, ◌<◌}
-use Rattle.std.proofs.Common.{not-suc-le-zero, add-one, arith, ◌∙◌, length-append, length-take-le}
+use Rattle.std.proofs.Common.{not-suc-le-zero, add-one, arith, ◌∙◌, length-append, length-take-le, drop, drop-cons, drop_of_length-le}
 use Rattle.std.specs.Prelude.{◌≡◌, refl, length, take, get_or, None, Option, Some}
 use Rattle.std.proofs.Math.Path.{sym, ap}
 use mathlib.Core.List.{List, [], ◌∷◌, ◌++◌, map, append_assoc, append-nil}
@@ -116,3 +116,22 @@ sizes_within tokens (p ∷ ps) (suc m) (suc n) h = omega (arith, sizes_within to
 pub sizes_room : (tokens : List ℕ) (d : InstructionPair) (w : Option InstructionLabel) (ps : List InstructionPair) (i n : ℕ) → i < n → n ≤ length ps → (get_or ps i d).label ≡ w
     → pendings_len tokens (take i ps) + pair_len tokens w ≤ pendings_len tokens (take n ps)
 sizes_room tokens d w ps i n h k g = omega (arith, sizes_next tokens d w ps i (omega arith) g, sizes_within tokens ps (i + 1) n (omega arith))
+
+-- what the first pair that is left has, and the others
+module _ (tokens : List ℕ) (d : InstructionPair) (ps : List InstructionPair) (i : ℕ) (h : i < length ps) where
+  pub sizes_here : pendings_len tokens (drop i ps) ≡ pair_len tokens (get_or ps i d).label + pendings_len tokens (drop (i + 1) ps)
+  unfolding pendings_len
+  sizes_here = rw (add-one, drop-cons ps i d h) refl
+
+  pub pendings_here : (origin : Origin) → pendings_bytes tokens origin (drop i ps) ≡ pair_bytes tokens origin (get_or ps i d).label ++ pendings_bytes tokens (onward origin) (drop (i + 1) ps)
+  unfolding pendings_bytes
+  pendings_here origin = rw (add-one, drop-cons ps i d h) refl
+
+module _ (tokens : List ℕ) (ps : List InstructionPair) (i : ℕ) (h : length ps ≤ i) where
+  pub sizes_end : pendings_len tokens (drop i ps) ≡ 0
+  unfolding pendings_len
+  sizes_end = rw (drop_of_length-le ps h) refl
+
+  pub pendings_end : (origin : Origin) → pendings_bytes tokens origin (drop i ps) ≡ []
+  unfolding pendings_bytes
+  pendings_end origin = rw (drop_of_length-le ps h) refl

@@ -1,8 +1,9 @@
 // What a line appends, as bytes: its words and its pending records.
 #![tactic(auto)]
 
-ghost use Rattle.std.specs.Prelude.{◌≡◌, map, ◌+◌, ◌*◌, ◌^◌, ◌≤◌, ◌<◌, length, take};
+ghost use Rattle.std.specs.Prelude.{◌≡◌, map, ◌+◌, ◌*◌, ◌^◌, ◌≤◌, ◌<◌, length};
 ghost use Rattle.emit_pairs.specs.declared.InstructionPair.{InstructionPair};
+ghost use Rattle.emit_pairs.specs.Pairs.{pairs_of};
 ghost use Rattle.record.specs.Stores.{le32_bytes, append};
 ghost use Rattle.emit_bytes.specs.Appended.{word_bytes, onward, pair_bytes, pendings_bytes, pair_len, pendings_len};
 
@@ -31,37 +32,14 @@ pub fn count_of(e: EmitInstruction) -> usize
 
 // The first n words from `at` on.
 pub fn put_words(d: &mut [u8], at: usize, e: EmitInstruction)
-    requires { (e.count ≤ 5) × (at + 4 * e.count ≤ length d.old) }
-    ensures { d.new ≡ append d.old at (word_bytes (take e.count e.instructions)) }
+    requires { at + 4 * e.count ≤ length d.old }
+    ensures { d.new ≡ append d.old at (word_bytes (pairs_of e)) }
 {
     let words = words_of(e);
     for i in 0..count_of(e) {
         let bytes = words[i];
         record::put_all(&mut *d, at + 4 * i, &bytes[..]);
     }
-}
-
-// How many bytes the record of one word takes.
-fn pair_size(tokens: &[u8], waits: Option<InstructionLabel>) -> usize
-    requires { length tokens.now ≤ 65536 }
-    ensures { (result ≡ pair_len tokens.now waits) × (result ≤ 65572) }
-{
-    waits.map_or(
-        0,
-        |waits| 36 + address_label::name_of(tokens, waits.label).len(),
-    )
-}
-
-// How many bytes the pending records of a line take.
-pub fn pendings_size(tokens: &[u8], e: EmitInstruction) -> usize
-    requires { (e.count ≤ 5) × (length tokens.now ≤ 65536) }
-    ensures { (result ≡ pendings_len tokens.now (take e.count e.instructions)) × (result ≤ 327860) }
-{
-    let mut size: usize = 0;
-    for i in 0..e.count {
-        size += pair_size(tokens, e.instructions[i].label);
-    }
-    size
 }
 
 // The origin of the next word.
@@ -76,34 +54,74 @@ fn onward(origin: Origin) -> Origin
     }
 }
 
-// The record of one word, if it waits for a label; gives the place behind it.
-fn put_pair(
-    d: &mut [u8],
-    tokens: &[u8],
-    at: usize,
-    origin: Origin,
-    waits: Option<InstructionLabel>,
-) -> usize
-    requires { (at + pair_len tokens.now waits ≤ length d.old) × (length tokens.now ≤ 65536) }
-    ensures { (d.new ≡ append d.old at (pair_bytes tokens.now origin waits)) × (result ≡ at + pair_len tokens.now waits) }
-{
-    let Some(label) = waits else {
-        return at;
-    };
-    pending::put_pending(&mut *d, tokens, at, origin, label);
-    at + pair_size(tokens, waits)
+// The pending records of a line: its words, and the token list in which the names stand that they wait for.
+#[derive(Clone, Copy)]
+pub struct LinePendings<'a> {
+    tokens: &'a [u8],
+    words: EmitInstruction,
+    ghost short: { length tokens.now ≤ 65536 },
 }
 
-// The pending records of a line from `at` on, one for each word that waits for a label. `origin` is that of the first word.
-pub fn put_pendings(d: &mut [u8], tokens: &[u8], at: usize, origin: Origin, e: EmitInstruction)
-    requires count_bound { (e.count ≤ 5) × (origin.offset + 20 < 2 ^ 32) × (length tokens.now ≤ 65536) }
-    requires instructions_in_bounds { at + pendings_len tokens.now (take e.count e.instructions) ≤ length d.old }
-    ensures { d.new ≡ append d.old at (pendings_bytes tokens.now origin (take e.count e.instructions)) }
-{
-    let mut to = at;
-    let mut from = origin;
-    for i in 0..e.count {
-        to = put_pair(&mut *d, tokens, to, from, e.instructions[i].label);
-        from = onward(from);
+impl<'a> LinePendings<'a> {
+    pub fn new(tokens: &'a [u8], words: EmitInstruction) -> Self
+        requires { length tokens.now ≤ 65536 }
+        ensures { (result.tokens.now ≡ tokens.now) × (result.words ≡ words) }
+    {
+        LinePendings { tokens, words }
+    }
+
+    // How many bytes the record of one word takes.
+    fn pair_size(self, waits: Option<InstructionLabel>) -> usize
+        ensures { (result ≡ pair_len self.entry.tokens.now waits) × (result ≤ 65572) }
+    {
+        let tokens = self.tokens;
+        waits.map_or(
+            0,
+            |waits| 36 + address_label::name_of(tokens, waits.label).len(),
+        )
+    }
+
+    // How many bytes they take.
+    pub fn size(self) -> usize
+        ensures { (result ≡ pendings_len self.entry.tokens.now (pairs_of self.entry.words)) × (result ≤ 327860) }
+    {
+        let mut size = 0;
+        for pair in self.words.pairs() {
+            size += self.pair_size(pair.label);
+        }
+        size
+    }
+
+    // The record of one word, if it waits for a label; gives the place behind it.
+    #[tactic(auto, using(record::proofs::StoresLaws::append_none))]
+    fn put_pair(
+        self,
+        d: &mut [u8],
+        at: usize,
+        origin: Origin,
+        waits: Option<InstructionLabel>,
+    ) -> usize
+        requires { at + pair_len self.tokens.now waits ≤ length d.old }
+        ensures { (d.new ≡ append d.old at (pair_bytes self.entry.tokens.now origin waits)) × (result ≡ at + pair_len self.entry.tokens.now waits) }
+    {
+        let Some(label) = waits else {
+            return at;
+        };
+        pending::put_pending(&mut *d, self.tokens, at, origin, label);
+        at + self.pair_size(waits)
+    }
+
+    // They go from `at` on, one for each word that waits for a label. `origin` is that of the first word.
+    pub fn put(self, d: &mut [u8], at: usize, origin: Origin)
+        requires offset_fits { origin.offset + 20 < 2 ^ 32 }
+        requires in_bounds { at + pendings_len self.tokens.now (pairs_of self.words) ≤ length d.old }
+        ensures { d.new ≡ append d.old at (pendings_bytes self.entry.tokens.now origin (pairs_of self.entry.words)) }
+    {
+        let mut to = at;
+        let mut from = origin;
+        for pair in self.words.pairs() {
+            to = self.put_pair(&mut *d, to, from, pair.label);
+            from = onward(from);
+        }
     }
 }

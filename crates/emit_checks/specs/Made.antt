@@ -1,18 +1,17 @@
--- What the steps of an emit call know of the lists that passed, and of the line that was made. Assumes nothing.
-use Rattle.std.specs.Prelude.{ℕ, ◌+◌, ◌*◌, ◌^◌, ◌≤◌, ◌<◌, ◌≡◌, List, [], length, take, None, Result, Ok, Err}
+-- What the steps of an emit call know of the lists that passed, and of the line that was read. Assumes nothing.
+use Rattle.std.specs.Prelude.{ℕ, ◌+◌, ◌*◌, ◌^◌, ◌≤◌, ◌<◌, ◌≡◌, List, [], length, None, Result, Ok, Err}
 use Rattle.lexer.specs.Tokens.{token_layout}
 use Rattle.descriptors.specs.Mnemonics.{mnemonic_layout}
 use Rattle.descriptors.specs.Descriptors.{descriptor_layout}
-use Rattle.cursor.specs.Reads.{Placed}
-use Rattle.emit_pairs.specs.declared.EmitInstruction.{EmitInstruction}
-use Rattle.emit_pairs.specs.declared.InstructionPair.{InstructionPair}
-use Rattle.emit_dispatch.specs.declared.LineEmit.{LineEmit}
+use Rattle.emit_pairs.specs.declared.emit_instruction.EmitInstruction.{EmitInstruction}
+use Rattle.emit_pairs.specs.Pairs.{pairs_of}
 use Rattle.emit_dispatch.specs.declared.Unmade.{Unmade}
 use Rattle.emit_dispatch.specs.LineAnswers.{Made, unmade_answer}
 use Rattle.emit_dispatch.specs.Lines.{Line}
 use Rattle.loading.specs.declared.LoadForm.TheVariants.{Nothing as Unloaded}
 use Rattle.refusal.specs.declared.Refusal.{Refusal}
 use Rattle.refusal.specs.Verdicts.{Verdict}
+use Rattle.emit_checks.specs.declared.LineRead.{LineRead}
 use Rattle.emit_outcome.specs.declared.Appended.{Appended}
 use Rattle.emit_outcome.specs.declared.Emitted.{Emitted}
 use Rattle.emit_outcome.specs.declared.RefusedLine.{RefusedLine}
@@ -37,10 +36,6 @@ pub record ListsGood (token_list mnemonic descriptors : List ℕ) (lent : Lent) 
   pub descriptors_good : descriptor_layout descriptors ≡ None
   pub filled : Filled token_list lent counts
 
--- the words that count
-abbrev pub pairs_of : EmitInstruction → List InstructionPair
-pairs_of e = take e.count e.instructions
-
 -- the line that has these words, with the index behind it
 abbrev pub words_line : EmitInstruction → (index : ℕ) → Line
 words_line words index = record { answer = Made; pairs = pairs_of words; form = words.loaded; index = index }
@@ -50,22 +45,13 @@ answer_line (Ok words) index = words_line words index
 answer_line (Err unmade) index = record { answer = unmade_answer unmade; pairs = []; form = Unloaded; index = index }
 
 -- the line that the code holds: its answer, its words, its form and the index behind it
-abbrev pub made_line : LineEmit → Line
-made_line made = answer_line made.answer made.cursor.index
-
-abbrev pub Counted : Result EmitInstruction Unmade → Type 0
-Counted (Ok words) = words.count ≤ 5
-Counted (Err unmade) = Unit {0}
-
--- no more words count than there are, and the position behind them stands in the token list
-pub record MadeGood (token_list : List ℕ) (made : LineEmit) : Type 0 where
-  pub counted : Counted made.answer
-  pub placed : Placed token_list made.cursor
+abbrev pub made_line : LineRead → Line
+made_line read = answer_line read.answer read.position
 
 -- what the checks of a line give: its words, or the refusal at which they stop
-abbrev pub PassedBy : Verdict → LineEmit → Result EmitInstruction Refusal → Type 0
-PassedBy stop made (Ok words) = (stop ≡ Ok tt) × (made.answer ≡ Ok words)
-PassedBy stop made (Err refusal) = stop ≡ Err refusal
+abbrev pub PassedBy : Verdict → LineRead → Result EmitInstruction Refusal → Type 0
+PassedBy stop read (Ok words) = (stop ≡ Ok tt) × (read.answer ≡ Ok words)
+PassedBy stop read (Err refusal) = stop ≡ Err refusal
 
 -- what a check gives, a refusal with the position at which reading stands then
 abbrev pub stopped_at : {A : Type 0} → (position : ℕ) → Result A Refusal → Result A RefusedLine

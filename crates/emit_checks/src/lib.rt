@@ -6,15 +6,25 @@ ghost use Rattle.emit_outcome.specs.Call.{lent_of};
 ghost use Rattle.emit_outcome.specs.Checks.{layout_stop, list_stop, met_location, miss_refusal};
 ghost use Rattle.emit_outcome.specs.Room.{edge_stop, room_stop};
 ghost use Rattle.emit_outcome.specs.Emit.{fault_refusal, line_stop};
-ghost use Rattle.emit_checks.specs.Made.{pairs_of, made_line, Filled, MadeGood, PassedBy, stopped_at};
+ghost use Rattle.emit_pairs.specs.Pairs.{pairs_of};
+ghost use Rattle.emit_checks.specs.Made.{made_line, Filled, PassedBy, stopped_at};
 
 use descriptors::Descriptors;
-use emit_dispatch::{LineEmit, Unmade};
+use emit_bytes::LinePendings;
+use emit_dispatch::Unmade;
 use emit_outcome::{FillCounts, LineNumbers, Lists, RefusedLine};
 use emit_pairs::{EmitInstruction, Fault};
 use operand::Miss;
 use record::Location;
 use refusal::Refusal;
+
+// A line that was read: where its mnemonic stands, its words or why there are none, and the position behind its operands.
+#[derive(Clone, Copy)]
+pub struct LineRead {
+    pub line: Location,
+    pub answer: Result<EmitInstruction, Unmade>,
+    pub position: u32,
+}
 
 // What a check gives, a refusal with the position at which reading stands then.
 pub fn at_position<T>(position: u32, given: Result<T, Refusal>) -> Result<T, RefusedLine>
@@ -131,13 +141,13 @@ fn check_room(
     line: Location,
     e: EmitInstruction,
 ) -> Result<(), Refusal>
-    requires { Filled tokens.now (lent_of «data».now pending.now breakpoints.now) numbers.counts × (e.count ≤ 5) }
+    requires { Filled tokens.now (lent_of «data».now pending.now breakpoints.now) numbers.counts }
     ensures { result ≡ room_stop tokens.now line numbers
         (lent_of «data».now pending.now breakpoints.now) (pairs_of e) }
 {
     let counts = numbers.counts;
     let n = emit_bytes::count_of(e);
-    let size = emit_bytes::pendings_size(tokens, e);
+    let size = LinePendings::new(tokens, e).size();
     if numbers.place.region == emit_outcome::NO_REGION {
         return Err(Refusal::MissingRegion(line));
     }
@@ -158,21 +168,21 @@ fn check_room(
     Ok(())
 }
 
-// Refusals 4 to 12, 19, 20 and 27 of a line whose mnemonic stands at `line`, or its words.
+// Refusals 4 to 12, 19, 20 and 27 of a line that was read, or its words.
 pub fn check_line(
     tokens: &[u8],
     data: &[u8],
     pending: &[u8],
     breakpoints: &[u8],
     numbers: LineNumbers,
-    line: Location,
-    made: LineEmit,
+    read: LineRead,
 ) -> Result<EmitInstruction, Refusal>
-    requires { Filled tokens.now (lent_of «data».now pending.now breakpoints.now) numbers.counts × MadeGood tokens.now made }
-    ensures { PassedBy (line_stop tokens.now line numbers
-        (lent_of «data».now pending.now breakpoints.now) (made_line made)) made result }
+    requires { Filled tokens.now (lent_of «data».now pending.now breakpoints.now) numbers.counts }
+    ensures { PassedBy (line_stop tokens.now read.line numbers
+        (lent_of «data».now pending.now breakpoints.now) (made_line read)) read result }
 {
-    match made.answer {
+    let line = read.line;
+    match read.answer {
         Err(Unmade::Missed(miss)) => Err(miss_refusal(line, miss)),
         Err(Unmade::OutOfRange(fault)) => Err(fault_refusal(line, fault)),
         Ok(words) => {

@@ -1,6 +1,6 @@
 -- Laws of an emit call: its outcome by what the lists and the mnemonic are. Assumes nothing.
 use Rattle.std.specs.Prelude.{ℕ, ◌+◌, ◌≤◌, ◌≡◌, refl, List, length, Bool, true, false, Err, None, Ok, Option, Result, Some}
-use Rattle.std.proofs.Common.{arith, sym, subst, ◌∙◌, length-take}
+use Rattle.std.proofs.Common.{arith, sym, subst, ◌∙◌}
 use Rattle.std.proofs.Math.Path.{ap}
 use Rattle.jobs.specs.declared.Job.{Job}
 use Rattle.record.specs.declared.Location.{Location}
@@ -8,16 +8,20 @@ use Rattle.refusal.specs.declared.Refusal.{Refusal}
 use Rattle.refusal.specs.declared.Refusal.TheVariants.{UnknownInstruction}
 use Rattle.descriptors.specs.declared.Instruction.{Instruction}
 use Rattle.lexer.specs.declared.Token.{Token}
+use Rattle.lexer.specs.Tokens.{token_ok, token_layout, tokens}
+use Rattle.record.specs.Records.{places, first_bad}
+use Rattle.record.proofs.RecordsLaws.{limit_good}
 use Rattle.cursor.specs.declared.Cursor.{Cursor}
+use Rattle.cursor.specs.Reads.{Placed, CursorIn}
+use Rattle.cursor.proofs.CursorsLaws.{place_least, place_end}
 use Rattle.descriptors.specs.Mnemonics.{mnemonic_name, mnemonic_location}
 use Rattle.descriptors.specs.Descriptors.{descriptor_layout, find_descriptor, instruction_at}
 use Rattle.descriptors.proofs.DescriptorsLaws.{descriptor_found}
 use Rattle.pseudo_names.specs.PseudoNames.{pseudo_of}
-use Rattle.emit_pairs.specs.declared.EmitInstruction.{EmitInstruction}
+use Rattle.emit_pairs.specs.declared.emit_instruction.EmitInstruction.{EmitInstruction}
 use Rattle.emit_dispatch.specs.declared.Unmade.{Unmade}
 use Rattle.emit_dispatch.specs.declared.Unmade.TheVariants.{Missed as MissedOperand, OutOfRange as OutsideRange}
 use Rattle.emit_dispatch.specs.LineAnswers.{unmade_answer}
-use Rattle.emit_dispatch.specs.declared.LineEmit.{LineEmit}
 use Rattle.emit_dispatch.specs.Lines.{Line, encoding_line}
 use Rattle.emit_dispatch.specs.Contract.{MadeAs, LineAs}
 use Rattle.emit_outcome.specs.declared.Meaning.{Meaning}
@@ -32,7 +36,8 @@ use Rattle.emit_outcome.specs.Returned.{returned}
 use Rattle.emit_outcome.specs.Contract.{EmittedBy}
 use Rattle.emit_outcome.specs.Checks.{list_stop}
 use Rattle.emit_outcome.specs.Emit.{call_line, call_refused, line_outcome, list_outcome, meaning_outcome, emit_outcome}
-use Rattle.emit_checks.specs.Made.{words_line, answer_line, made_line, Counted, MadeGood}
+use Rattle.emit_checks.specs.Made.{words_line, answer_line, made_line}
+use Rattle.emit_checks.specs.declared.LineRead.{LineRead}
 use Rattle.emit_core.specs.Read.{LineMade, LineFor, ReadIs}
 use Rattle.pseudo_names.specs.declared.Pseudo.{Pseudo}
 use Rattle.refusal.specs.Verdicts.{Verdict}
@@ -62,28 +67,24 @@ module _ (descriptors name : List ℕ) where
           none None h = let z : ◌≡◌ {A = ℕ} 0 1 = cc (by_pseudo f h) in absurd (omega arith)
 
 -- the line of a descriptor that was read
-pub table_as : (job : Job) (descriptors : List ℕ) (p : ℕ) {x : Instruction} {s : List ℕ} (ts : List Token) (i : ℕ) {answer : Result EmitInstruction Unmade} {cursor : Cursor}
-    → x ≡ instruction_at descriptors p → LineAs s (encoding_line job x.encoding x.opcode ts i) answer cursor → LineAs s (table_line job descriptors p ts i) answer cursor
+pub table_as : (job : Job) (descriptors : List ℕ) (p : ℕ) {x : Instruction} (ts : List Token) (i : ℕ) {before after : CursorIn} {answer : Result EmitInstruction Unmade}
+    → x ≡ instruction_at descriptors p → LineAs before (encoding_line job x.encoding x.opcode ts i) answer after → LineAs before (table_line job descriptors p ts i) answer after
 unfolding table_line
-table_as job descriptors p {x} {s} ts i {answer} {cursor} e a =
-    let f : encoding_line job x.encoding x.opcode ts i ≡ table_line job descriptors p ts i = ap (λ (y : Instruction). encoding_line job y.encoding y.opcode ts i) e in
-    subst (λ (l : Line). LineAs s l answer cursor) f a
+table_as job descriptors p ts i {before} {after} {answer} e a =
+    subst (λ (y : Instruction). LineAs before (encoding_line job y.encoding y.opcode ts i) answer after) e a
 
--- ---- a made line
+-- ---- a line that was read
 
 -- a line is what was made of it
-pub line_made : {s : List ℕ} {line : Line} {made : LineEmit} → LineAs s line made.answer made.cursor → LineMade line made
-line_made a = (a.made_as, sym (ap (λ (x : Cursor). x.index) a.cursor_is))
+pub line_made : {before after : CursorIn} {line : Line} (read : LineRead) → LineAs before line read.answer after → read.position ≡ after.index → LineMade line read
+line_made read a e = (a.made_as, sym (e ∙ ap (λ (c : CursorIn). c.index) a.after_is))
 
-counted_of : (line : Line) (answer : Result EmitInstruction Unmade) → ((e : EmitInstruction) → answer ≡ Ok e → length e.instructions ≡ 5) → MadeAs line answer → Counted answer
-counted_of line (Ok e) five m = omega (arith, five e refl, m.1.count_is, ap length m.1.pairs_are, length-take e.count e.instructions)
-counted_of line (Err unmade) five m = tt
-
-pub made_good : {s : List ℕ} {line : Line} {made : LineEmit} → LineAs s line made.answer made.cursor → ((e : EmitInstruction) → made.answer ≡ Ok e → length e.instructions ≡ 5) → MadeGood s made
-made_good {s} {line} {made} a five = record {
-  counted = counted_of line made.answer five a.made_as;
-  placed = a.placed;
-}
+-- an index fits 32 bits
+pub index_most : (s : List ℕ) (c : Cursor) → Placed s c → c.index ≤ 65536
+unfolding token_layout
+index_most s c p =
+    let n = length (tokens s) in
+    omega (arith, p.index_within, place_least s p.layout_good n (omega arith), place_end s n (omega arith), (limit_good s (first_bad (token_ok s) (places s)) p.layout_good).0)
 
 -- the outcome is that of the line; the words of one that is not made are no part of it
 module _ (token_list : List ℕ) (at : Location) (numbers : LineNumbers) (lent : Lent) where
@@ -126,23 +127,23 @@ module _ (job : Job) (c : Call) where
   by_meaning e f = ap (list_outcome job c) e ∙ ap (meaning_outcome job c) f
 
   -- a line that was read, from where the call starts
-  abbrev pub read_outcome : (known : Bool) → Location → LineEmit → EmitOutcome
-  read_outcome true line made = line_outcome c.token_list line c.numbers c.lent (made_line made)
-  read_outcome false line made = call_refused c (UnknownInstruction line)
+  abbrev pub read_outcome : (known : Bool) → LineRead → EmitOutcome
+  read_outcome true read = line_outcome c.token_list read.line c.numbers c.lent (made_line read)
+  read_outcome false read = call_refused c (UnknownInstruction read.line)
 
-  module _ (known : Bool) (line : Location) (made : LineEmit) (read : ReadIs job c.token_list c.mnemonic c.descriptors c.numbers.place.position known line made) (pass : stop ≡ Ok tt) where
-    located : (l : Line) → LineMade l made → call_line c l ≡ line_outcome c.token_list line c.numbers c.lent (made_line made)
-    located l e = made_outcome c.token_list (mnemonic_location c.mnemonic) c.numbers c.lent l made.answer made.cursor.index e.0 e.1 ∙ ap (λ (x : Location). line_outcome c.token_list x c.numbers c.lent (made_line made)) (sym read.location_is)
+  module _ (known : Bool) (read : LineRead) (is : ReadIs job c.token_list c.mnemonic c.descriptors c.numbers.place.position known read) (pass : stop ≡ Ok tt) where
+    located : (l : Line) → LineMade l read → call_line c l ≡ line_outcome c.token_list read.line c.numbers c.lent (made_line read)
+    located l e = made_outcome c.token_list (mnemonic_location c.mnemonic) c.numbers c.lent l read.answer read.position e.0 e.1 ∙ ap (λ (x : Location). line_outcome c.token_list x c.numbers c.lent (made_line read)) (sym is.location_is)
 
-    by_read : (m : Meaning) → meaning c.descriptors (mnemonic_name c.mnemonic) ≡ m → LineFor job c.token_list c.descriptors c.numbers.place.position m known made
-        → emit_outcome job c ≡ read_outcome known line made
-    by_read (Table p) e l = by_meaning pass e ∙ located _ l.1 ∙ sym (ap (λ (k : Bool). read_outcome k line made) l.0)
-    by_read (Builtin p) e l = by_meaning pass e ∙ located _ l.1 ∙ sym (ap (λ (k : Bool). read_outcome k line made) l.0)
+    by_read : (m : Meaning) → meaning c.descriptors (mnemonic_name c.mnemonic) ≡ m → LineFor job c.token_list c.descriptors c.numbers.place.position m known read
+        → emit_outcome job c ≡ read_outcome known read
+    by_read (Table p) e l = by_meaning pass e ∙ located _ l.1 ∙ sym (ap (λ (k : Bool). read_outcome k read) l.0)
+    by_read (Builtin p) e l = by_meaning pass e ∙ located _ l.1 ∙ sym (ap (λ (k : Bool). read_outcome k read) l.0)
     by_read Neither e l =
-        by_meaning pass e ∙ ap (λ (x : Location). call_refused c (UnknownInstruction x)) (sym read.location_is) ∙ sym (ap (λ (k : Bool). read_outcome k line made) l)
+        by_meaning pass e ∙ ap (λ (x : Location). call_refused c (UnknownInstruction x)) (sym is.location_is) ∙ sym (ap (λ (k : Bool). read_outcome k read) l)
 
-    pub read_outcome_lem : emit_outcome job c ≡ read_outcome known line made
-    read_outcome_lem = by_read (meaning c.descriptors (mnemonic_name c.mnemonic)) refl read.line_is
+    pub read_outcome_lem : emit_outcome job c ≡ read_outcome known read
+    read_outcome_lem = by_read (meaning c.descriptors (mnemonic_name c.mnemonic)) refl is.line_is
 
   pub unread_outcome : (r : Refusal) → stop ≡ Ok tt → (meaning c.descriptors (mnemonic_name c.mnemonic) ≡ Neither) × (r ≡ UnknownInstruction (mnemonic_location c.mnemonic)) → emit_outcome job c ≡ call_refused c r
   unread_outcome r pass m = by_meaning pass m.0 ∙ sym (ap (call_refused c) m.1)

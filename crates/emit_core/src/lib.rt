@@ -2,8 +2,7 @@
 #![tactic(auto)]
 
 ghost use Rattle.std.specs.Prelude.{◌≡◌, ◌+◌, ◌≤◌, length};
-ghost use Rattle.lexer.specs.Tokens.{token_layout, tokens as tokens_of};
-ghost use Rattle.cursor.specs.Reads.{Placed};
+ghost use Rattle.lexer.specs.Tokens.{token_layout, tokens};
 ghost use Rattle.descriptors.specs.Mnemonics.{mnemonic_layout};
 ghost use Rattle.descriptors.specs.Descriptors.{descriptor_layout};
 ghost use Rattle.emit_dispatch.specs.Contract.{LineAs};
@@ -15,30 +14,25 @@ ghost use Rattle.emit_outcome.specs.Contract.{EmittedBy};
 ghost use Rattle.emit_checks.specs.Made.{left_by};
 ghost use Rattle.emit_core.specs.Read.{ReadBy};
 
-use cursor::Cursor;
-use descriptors::{Descriptor, Descriptors};
-use emit_dispatch::LineEmit;
+use cursor::LexerCursor;
+use descriptors::Descriptors;
+use emit_checks::LineRead;
+use emit_dispatch::Unmade;
 use emit_outcome::{
     Appended, Emitted, FillCounts, LineNumbers, LinePlace, Lists, Meaning, RefusedLine,
 };
+use emit_pairs::EmitInstruction;
 use jobs::Job;
 use record::Location;
 use refusal::Refusal;
 
-// A line that was read: where its mnemonic stands, and what was made of the operands.
-#[derive(Clone, Copy)]
-pub struct LineRead {
-    pub line: Location,
-    pub made: LineEmit,
-}
-
 // A descriptor goes before a pseudo-instruction of its name.
 // kept: Meaning has the three cases of the definition that the whole outcome is written from; an Option of the first two is no plainer.
-fn find_meaning(descriptors: &[u8], name: &[u8]) -> Meaning
-    requires { descriptor_layout descriptors.now ≡ None }
+#[tactic(auto, unfolding(emit_outcome::specs::Dispatch::meaning))]
+fn find_meaning(descriptors: &Descriptors<'_>, name: &[u8]) -> Meaning
     ensures { result ≡ meaning descriptors.now name.now }
 {
-    match Descriptors::new(descriptors).find(name) {
+    match descriptors.find(name) {
         Some(place) => Meaning::Table(place),
         None => match pseudo_names::pseudo_of(name) {
             Some(pseudo) => Meaning::Builtin(pseudo),
@@ -50,18 +44,33 @@ fn find_meaning(descriptors: &[u8], name: &[u8]) -> Meaning
 // The line of the descriptor at a place.
 fn dispatch_instruction(
     job: Job,
-    descriptors: &[u8],
-    tokens: &[u8],
+    descriptors: &Descriptors<'_>,
     place: usize,
-    at: Cursor,
-) -> LineEmit
-    requires place_in_bounds { place + 12 ≤ length descriptors.now }
-    requires placed { Placed tokens.now at }
-    ensures { LineAs tokens.now (table_line job descriptors.now place (tokens_of tokens.now) at.index)
-        result.answer result.cursor }
+    cursor: &mut LexerCursor<'_>,
+) -> Result<EmitInstruction, Unmade>
+    requires { place + 12 ≤ length descriptors.now }
+    ensures { LineAs cursor.old (table_line job descriptors.now place (tokens cursor.old.list) cursor.old.index)
+        result cursor.new }
 {
-    let instruction = Descriptor::new(descriptors, place).instruction();
-    emit_dispatch::dispatch_encoding(job, instruction.encoding, instruction.opcode, tokens, at)
+    let instruction = descriptors.instruction(place);
+    emit_dispatch::dispatch_encoding(job, instruction.encoding, instruction.opcode, cursor)
+}
+
+// A line whose operands end at the cursor.
+#[tactic(auto, using(crate::proofs::EmitLaws::index_most))]
+fn line_read(
+    line: Location,
+    answer: Result<EmitInstruction, Unmade>,
+    cursor: &LexerCursor<'_>,
+) -> LineRead
+    ensures value { result ≡ (record { line = line; answer = answer; position = cursor.now.index }) }
+    ensures within { result.position ≤ length (tokens cursor.now.list) }
+{
+    LineRead {
+        line,
+        answer,
+        position: cursor.position().index as u32,
+    }
 }
 
 // Refusal 3, or the line that is made of the operands from the position on.
@@ -69,20 +78,20 @@ pub fn read_line(job: Job, lists: Lists<'_>, position: u32) -> Result<LineRead, 
     requires { (token_layout lists.tokens.now ≡ None) × (mnemonic_layout lists.mnemonic.now ≡ None) × (descriptor_layout lists.descriptors.now ≡ None) }
     ensures { ReadBy job lists.entry.tokens.now lists.entry.mnemonic.now lists.entry.descriptors.now position result }
 {
-    let tokens = lists.tokens;
-    let descriptors = lists.descriptors;
+    let descriptors = Descriptors::new(lists.descriptors);
     let named = descriptors::read_mnemonic(lists.mnemonic);
     let line = named.location;
-    let start = cursor::start(tokens, position as usize);
-    match find_meaning(descriptors, &named.bytes[..named.len]) {
+    let start = cursor::start(lists.tokens, position as usize);
+    let mut cursor = LexerCursor::new(lists.tokens, start);
+    match find_meaning(&descriptors, &named.bytes[..named.len]) {
         Meaning::Neither => Err(Refusal::UnknownInstruction(line)),
         Meaning::Table(place) => {
-            let made = dispatch_instruction(job, descriptors, tokens, place, start);
-            Ok(LineRead { line, made })
+            let answer = dispatch_instruction(job, &descriptors, place, &mut cursor);
+            Ok(line_read(line, answer, &cursor))
         }
         Meaning::Builtin(pseudo) => {
-            let made = emit_dispatch::dispatch_pseudo(job, pseudo, tokens, start);
-            Ok(LineRead { line, made })
+            let answer = emit_dispatch::dispatch_pseudo(job, pseudo, &mut cursor);
+            Ok(line_read(line, answer, &cursor))
         }
     }
 }
@@ -104,15 +113,7 @@ fn emit_named(
 {
     let position = numbers.place.position;
     let read = emit_checks::at_position(position, read_line(job, lists, position))?;
-    emit_made::append_or_refuse(
-        lists.tokens,
-        data,
-        pending,
-        breakpoints,
-        numbers,
-        read.line,
-        read.made,
-    )
+    emit_made::append_or_refuse(lists.tokens, data, pending, breakpoints, numbers, read)
 }
 
 // Refusals 1 to 12, 19, 20 and 27, or the line appended.

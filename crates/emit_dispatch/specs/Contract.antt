@@ -1,15 +1,13 @@
 -- What the dispatch of a line promises: the answer, the words and the position are the definition's. Assumes nothing.
-use Rattle.std.specs.Prelude.{◌≡◌, List, ℕ, Result, Ok, Err}
-use Rattle.cursor.specs.declared.Cursor.{Cursor}
-use Rattle.cursor.specs.Cursors.{cursor_at}
-use Rattle.cursor.specs.Reads.{Placed}
+use Rattle.std.specs.Prelude.{◌≡◌, Result, Ok, Err}
+use Rattle.cursor.specs.Reads.{CursorIn}
 use Rattle.operand.specs.declared.Miss.{Miss}
 use Rattle.operand.specs.Answers.{Answer, Got, Missed}
 use Rattle.operand_list.specs.declared.Wants.{Wants}
 use Rattle.operand_list.specs.declared.Operands.{Operands}
 use Rattle.operand_list.specs.OperandLists.{AskedAll}
 use Rattle.operand_list.specs.HeldOperands.{held_values}
-use Rattle.emit_pairs.specs.declared.EmitInstruction.{EmitInstruction}
+use Rattle.emit_pairs.specs.declared.emit_instruction.EmitInstruction.{EmitInstruction}
 use Rattle.emit_pairs.specs.Pairs.{EmitIs}
 use Rattle.emit_dispatch.specs.declared.Unmade.{Unmade}
 use Rattle.emit_dispatch.specs.LineAnswers.{Made, unmade_answer}
@@ -25,7 +23,7 @@ abbrev pub MadeAs : Line → Result EmitInstruction Unmade → Type 0
 MadeAs line (Ok emit) = (line.answer ≡ Made) × EmitIs emit line.pairs line.form
 MadeAs line (Err unmade) = line.answer ≡ unmade_answer unmade
 
-pub record LineAs (s : List ℕ) (line : Line) (answer : Result EmitInstruction Unmade) (cursor : Cursor) : Type 0 where
+-- the answer is the line's, and the cursor then stands in the same list behind the line's operands
+pub record LineAs (before : CursorIn) (line : Line) (answer : Result EmitInstruction Unmade) (after : CursorIn) : Type 0 where
   pub made_as : MadeAs line answer
-  pub cursor_is : cursor ≡ cursor_at s line.index
-  pub placed : Placed s cursor
+  pub after_is : after ≡ record { list = before.list; index = line.index }

@@ -1,6 +1,6 @@
 -- A line: its operands read, and the words of its encoding or pseudo-instruction made of them. What words take is what is asked for, by their
 -- types: words for other operands than `Wants` has are no definition. Assumes nothing.
-use Rattle.std.specs.Prelude.{ℕ, List, [], Bool, true, false, Err, Ok, Result, Option, None, Some}
+use Rattle.std.specs.Prelude.{ℕ, List, [], Bool, true, false, Err, Ok, Option, None, Some}
 use Rattle.registers.specs.Numbers.{register_number, fp_register_number}
 use Rattle.instructions.specs.declared.Opcode.{Opcode}
 use Rattle.instructions.specs.declared.Opcode.TheVariants.{Op, Func}
@@ -20,7 +20,7 @@ use Rattle.emit_pairs.specs.declared.Fault.TheVariants.{ShiftAmount, ConditionCo
 use Rattle.loading.specs.declared.LoadForm.{LoadForm}
 use Rattle.loading.specs.declared.LoadForm.TheVariants.{Nothing as Unloaded}
 use Rattle.loading.specs.Load.{form_of}
-use Rattle.emit_pairs.specs.Pairs.{label_form, immediate_range, immediate_form}
+use Rattle.emit_pairs.specs.Pairs.{label_form, immediate_range, immediate_form, Range}
 use Rattle.emit_pairs.specs.Values.{value_form, maybe_form, offset_form}
 use Rattle.emit_integer.specs.IntegerWords.{register_pairs, register_shift_pairs, source_pairs, destination_pairs, inputs_pairs, sham_pairs, branch_zero_pairs, immediate_line_pairs, load_immediate_pairs, jump_pairs, branch_pairs, parameterless_pairs, offset_line_pairs}
 use Rattle.emit_float.specs.FloatWords.{fp3_pairs, fp2_pairs, fp_move_pairs, fp_cond_pairs, fp_cross_move_pairs, fp_branch_pairs}
@@ -76,11 +76,11 @@ pseudo_pairs job Subiu x = subi_pairs (Op 9) (Func 33) x.0 x.1 x.2
 -- ---- what a job takes: "9. An immediate without alternative lies outside -32,768 to 32,767"; document 02, P5: "19, a shift amount outside 0 to
 -- 31; 20, a condition code outside 0 to 7 .. tested .. after the line's last operand is read, before 9"; P9: "27 .. tested straight after 20"
 
-abbrev pub within_or : Fault → Bool → Result (Unit {0}) Fault
+abbrev pub within_or : Fault → Bool → Range
 within_or fault b = elim b [ true ↦ Ok tt | false ↦ Err fault ]
 
 -- the first that lies outside decides
-abbrev pub range_then : Result (Unit {0}) Fault → Result (Unit {0}) Fault → Result (Unit {0}) Fault
+abbrev pub range_then : Range → Range → Range
 range_then (Ok tt) next = next
 range_then (Err fault) next = Err fault
 
@@ -90,10 +90,10 @@ is_given None = false
 is_given (Some value) = true
 
 -- 27
-abbrev pub kept_range : Job → (third : Bool) → Opcode → Result (Unit {0}) Fault
+abbrev pub kept_range : Job → (third : Bool) → Opcode → Range
 kept_range job third op = elim (is_dropped job third op) [ true ↦ Err Dropped | false ↦ Ok tt ]
 
-abbrev pub encoding_range : Job → (e : Encoding) → Opcode → AskedAll (encoding_wants e) → Result (Unit {0}) Fault
+abbrev pub encoding_range : Job → (e : Encoding) → Opcode → AskedAll (encoding_wants e) → Range
 encoding_range job Register op x = kept_range job false op
 encoding_range job RegisterShift op x = kept_range job false op
 encoding_range job Source op x = kept_range job false op
@@ -170,12 +170,12 @@ pub record Line : Type 0 where
   pub form : LoadForm
   pub index : ℕ
 
-abbrev pub range_answer : Result (Unit {0}) Fault → LineAnswer
+abbrev pub range_answer : Range → LineAnswer
 range_answer (Ok tt) = Made
 range_answer (Err fault) = OutOfRange fault
 
 -- operands that were read make the words; where one was missed there are none
-abbrev pub line_by : {A : Type 0} → Answer A → ℕ → (A → Result (Unit {0}) Fault) → (A → List InstructionPair) → (A → LoadForm) → Line
+abbrev pub line_by : {A : Type 0} → Answer A → ℕ → (A → Range) → (A → List InstructionPair) → (A → LoadForm) → Line
 line_by (Got x) i range pairs form = record { answer = range_answer (range x); pairs = pairs x; form = form x; index = i }
 line_by (Missed m) i range pairs form = record { answer = MissedOperand m; pairs = []; form = Unloaded; index = i }
 

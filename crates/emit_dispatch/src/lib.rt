@@ -3,7 +3,6 @@
 
 ghost use Rattle.std.specs.Prelude.{◌≡◌};
 ghost use Rattle.lexer.specs.Tokens.{tokens};
-ghost use Rattle.cursor.specs.Reads.{Placed};
 ghost use Rattle.jobs.specs.Jobs.{shift_within, code_within};
 ghost use Rattle.operand.specs.Held.{constant_in, code_in, maybe_value_in};
 ghost use Rattle.operand_list.specs.HeldOperands.{held_values};
@@ -12,7 +11,7 @@ ghost use Rattle.emit_dispatch.specs.Wants.{encoding_wants, pseudo_wants};
 ghost use Rattle.emit_dispatch.specs.Lines.{within_or, is_given, kept_range, encoding_range, encoding_pairs, encoding_form, pseudo_pairs, pseudo_form, line_by, encoding_line, pseudo_line};
 ghost use Rattle.emit_dispatch.specs.Contract.{held_answer, MadeAs, LineAs};
 
-use cursor::{Cursor, LexerCursor};
+use cursor::LexerCursor;
 use emit_float::MoveForm;
 use emit_pairs::{EmitInstruction, Fault};
 use emit_pseudo::{Comparison, ImmediateOpcodes};
@@ -47,13 +46,6 @@ impl From<Fault> for Unmade {
     fn from(fault: Fault) -> Unmade {
         Unmade::OutOfRange(fault)
     }
-}
-
-// A line's words or why there are none, and the position behind its operands.
-#[derive(Clone, Copy)]
-pub struct LineEmit {
-    pub answer: Result<EmitInstruction, Unmade>,
-    pub cursor: Cursor,
 }
 
 // kept: a constructor, for the table below to be read; it has the shape of others and not their meaning.
@@ -300,6 +292,7 @@ fn subi_opcodes(op: u8, alternative: u8) -> ImmediateOpcodes
 }
 
 // The words of what was read for an instruction of the table.
+#[tactic(auto, using(std::proofs::lemmas::Result::err_from_is_err_and))]
 fn encoding_words(
     job: Job,
     encoding: Encoding,
@@ -318,21 +311,16 @@ pub fn dispatch_encoding(
     job: Job,
     encoding: Encoding,
     op: Opcode,
-    list: &[u8],
-    from: Cursor,
-) -> LineEmit
-    requires { Placed list.now from }
-    ensures { LineAs list.now (encoding_line job encoding op (tokens list.now) from.index) result.answer result.cursor }
+    cursor: &mut LexerCursor<'_>,
+) -> Result<EmitInstruction, Unmade>
+    ensures { LineAs cursor.old (encoding_line job encoding op (tokens cursor.old.list) cursor.old.index) result cursor.new }
 {
-    let mut cursor = LexerCursor::new(list, from);
-    let given = operand_list::read_operands(encoding_wants(encoding), &mut cursor);
-    LineEmit {
-        answer: encoding_words(job, encoding, op, given),
-        cursor: cursor.position(),
-    }
+    let read = operand_list::read_operands(encoding_wants(encoding), cursor);
+    encoding_words(job, encoding, op, read)
 }
 
 // The words of what was read for a pseudo-instruction.
+#[tactic(auto, using(std::proofs::lemmas::Result::err_from_is_err_and))]
 fn pseudo_words(
     job: Job,
     pseudo: Pseudo,
@@ -344,14 +332,13 @@ fn pseudo_words(
 }
 
 // The line of a pseudo-instruction.
-pub fn dispatch_pseudo(job: Job, pseudo: Pseudo, list: &[u8], from: Cursor) -> LineEmit
-    requires { Placed list.now from }
-    ensures { LineAs list.now (pseudo_line job pseudo (tokens list.now) from.index) result.answer result.cursor }
+pub fn dispatch_pseudo(
+    job: Job,
+    pseudo: Pseudo,
+    cursor: &mut LexerCursor<'_>,
+) -> Result<EmitInstruction, Unmade>
+    ensures { LineAs cursor.old (pseudo_line job pseudo (tokens cursor.old.list) cursor.old.index) result cursor.new }
 {
-    let mut cursor = LexerCursor::new(list, from);
-    let given = operand_list::read_operands(pseudo_wants(pseudo), &mut cursor);
-    LineEmit {
-        answer: pseudo_words(job, pseudo, given),
-        cursor: cursor.position(),
-    }
+    let read = operand_list::read_operands(pseudo_wants(pseudo), cursor);
+    pseudo_words(job, pseudo, read)
 }

@@ -25,6 +25,7 @@ pub struct MoveForm {
 }
 
 // kept beside emit_integer's do_offset_instruction: the two words are made by the builder's methods for the two files of registers.
+#[tactic(auto, using(emit_pairs::proofs::ValuesLaws::offset_length))]
 pub fn do_fp_offset_instruction(op: Opcode, operands: Operands) -> EmitInstruction
     ensures { EmitIs result (offset_line_pairs op (fp_register_number (fp_slot_in operands.first)) (offset_in operands.second))
         (offset_form (offset_in operands.second)) }

@@ -17,6 +17,7 @@ use operand_list::Operands;
 use pending::InstructionLabelKind;
 use registers::RegisterSlot;
 
+#[tactic(auto, using(emit_pairs::proofs::ValuesLaws::value_length))]
 pub fn do_register_instruction(op: Opcode, operands: Operands) -> EmitInstruction
     ensures { EmitIs result (register_pairs op (slot_in operands.first) (slot_in operands.second) (value_in operands.third))
         (value_form (value_in operands.third)) }
@@ -58,6 +59,7 @@ pub fn do_destination_instruction(op: Opcode, operands: Operands) -> EmitInstruc
 }
 
 // The operation on the last two operands, and mflo into the first.
+#[tactic(auto, using(emit_pairs::proofs::ValuesLaws::value_length, emit_pairs::proofs::ValuesLaws::count_one))]
 fn inputs_into(op: Opcode, operands: Operands, value: InstructionValue) -> EmitInstruction
     ensures { EmitIs result (inputs_pairs op (slot_in operands.first) (slot_in operands.second) (Some value)) (value_form value) }
 {
@@ -131,6 +133,7 @@ pub fn do_jump_instruction(op: Opcode, operands: Operands) -> EmitInstruction
     emit_pairs::with_label(emit_words::base_word(op), InstructionLabelKind::Jump, label)
 }
 
+#[tactic(auto, using(emit_pairs::proofs::ValuesLaws::value_length))]
 pub fn do_branch_instruction(op: Opcode, operands: Operands) -> EmitInstruction
     ensures { EmitIs result (branch_pairs op (slot_in operands.first) (value_in operands.second) (label_in operands.third))
         (value_form (value_in operands.second)) }
@@ -147,6 +150,7 @@ pub fn do_parameterless_instruction(op: Opcode) -> EmitInstruction
     emit_pairs::with(emit_words::base_word(op))
 }
 
+#[tactic(auto, using(emit_pairs::proofs::ValuesLaws::offset_length))]
 pub fn do_offset_instruction(op: Opcode, operands: Operands) -> EmitInstruction
     ensures { EmitIs result (offset_line_pairs op (register_number (slot_in operands.first)) (offset_in operands.second))
         (offset_form (offset_in operands.second)) }

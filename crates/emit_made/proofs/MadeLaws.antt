@@ -1,19 +1,17 @@
 -- Laws of a made line: its index, its pcs, and its outcome by what its checks say. Assumes nothing.
-use Rattle.std.specs.Prelude.{◌≡◌, ℕ, zero, suc, ◌+◌, ◌*◌, ◌^◌, ◌<◌, ◌≤◌, List, length, refl, Err, Ok, Result}
+use Rattle.std.specs.Prelude.{◌≡◌, ℕ, zero, suc, ◌+◌, ◌*◌, ◌^◌, ◌<◌, ◌≤◌, List, refl, Err, Ok, Result}
 use Rattle.std.proofs.Common.{subst, ◌∙◌, arith}
 use Rattle.std.proofs.Math.Path.{ap}
 use Rattle.record.specs.declared.Location.{Location}
 use Rattle.refusal.specs.declared.Refusal.{Refusal}
-use Rattle.cursor.specs.declared.Cursor.{Cursor}
-use Rattle.cursor.proofs.CursorsLaws.{place_least, place_end}
-use Rattle.cursor.specs.Reads.{Placed}
-use Rattle.lexer.specs.Tokens.{tokens}
 use Rattle.emit_dispatch.specs.Lines.{Line}
 use Rattle.emit_dispatch.specs.declared.Unmade.{Unmade}
-use Rattle.emit_pairs.specs.declared.EmitInstruction.{EmitInstruction}
+use Rattle.emit_pairs.specs.declared.emit_instruction.EmitInstruction.{EmitInstruction}
 use Rattle.emit_outcome.specs.declared.RefusedLine.{RefusedLine}
-use Rattle.emit_dispatch.specs.declared.LineEmit.{LineEmit}
-use Rattle.emit_checks.specs.Made.{pairs_of, words_line, answer_line, made_line, Counted, MadeGood, PassedBy, stopped_at}
+use Rattle.emit_pairs.specs.Pairs.{pairs_of}
+use Rattle.emit_checks.specs.Made.{words_line, answer_line, made_line, PassedBy, stopped_at}
+use Rattle.emit_checks.specs.declared.LineRead.{LineRead}
+use Rattle.refusal.specs.Verdicts.{Verdict}
 use Rattle.emit_checks.proofs.RoomLaws.{line_room}
 use Rattle.emit_outcome.specs.Room.{room_stop}
 use Rattle.breakpoints.specs.BreakpointBytes.{pcs_bytes, breakpoint_bytes}
@@ -22,12 +20,6 @@ use Rattle.loading.specs.declared.LoadForm.{LoadForm}
 use Rattle.emit_outcome.specs.Answer.{done_at}
 use Rattle.emit_outcome.specs.Call.{Lent, lent_of, outcome_of}
 use Rattle.emit_outcome.specs.Emit.{refuse, accept, line_stop, accept_or, line_outcome}
-
--- an index fits 32 bits
-pub index_most : (s : List ℕ) (c : Cursor) → Placed s c → length s ≤ 65536 → c.index ≤ 65536
-index_most s c p h =
-    let n = length (tokens s) in
-    omega (arith, p.index_within, place_least s p.layout_good n (omega arith), place_end s n (omega arith))
 
 -- the pc of a line without words is no part of its record
 pub same_pcs : (line : Location) (pc at n : ℕ) → (0 < n → pc ≡ at) → breakpoint_bytes line pc n ≡ breakpoint_bytes line at n
@@ -70,30 +62,30 @@ answer_index (Ok words) i = refl
 answer_index (Err unmade) i = refl
 
 -- what the checks of a line give, and what is known of it
-module _ (token_list : List ℕ) (line : Location) (numbers : LineNumbers) (lent : Lent) (made : LineEmit) where
-  pub record WordsPass (words : EmitInstruction) : Type 0 where
-    pub stop_is : line_stop token_list line numbers lent (words_line words made.cursor.index) ≡ Ok tt
-    pub answer_is : made.answer ≡ Ok words
-    pub few : words.count ≤ 5
-    pub room : room_stop token_list line numbers lent (pairs_of words) ≡ Ok tt
-    pub outcome_is : line_outcome token_list line numbers lent (made_line made) ≡ accept token_list line numbers lent (words_line words made.cursor.index)
+module _ (token_list : List ℕ) (numbers : LineNumbers) (lent : Lent) (read : LineRead) where
+  abbrev stop : Line → Verdict
+  stop = line_stop token_list read.line numbers lent
 
-  pub words_pass : {given : Result EmitInstruction Refusal} → PassedBy (line_stop token_list line numbers lent (made_line made)) made given → MadeGood token_list made → (words : EmitInstruction) → given ≡ Ok words
-      → WordsPass words
-  words_pass by good words e =
-      let b = subst (PassedBy (line_stop token_list line numbers lent (made_line made)) made) e by in
+  pub record WordsPass (words : EmitInstruction) : Type 0 where
+    pub stop_is : stop (words_line words read.position) ≡ Ok tt
+    pub answer_is : read.answer ≡ Ok words
+    pub room : room_stop token_list read.line numbers lent (pairs_of words) ≡ Ok tt
+    pub outcome_is : line_outcome token_list read.line numbers lent (made_line read) ≡ accept token_list read.line numbers lent (words_line words read.position)
+
+  pub words_pass : {given : Result EmitInstruction Refusal} → PassedBy (stop (made_line read)) read given → (words : EmitInstruction) → given ≡ Ok words → WordsPass words
+  words_pass by words e =
+      let b = subst (PassedBy (stop (made_line read)) read) e by in
       record {
-        stop_is = subst (λ (a : Result EmitInstruction Unmade). line_stop token_list line numbers lent (answer_line a made.cursor.index) ≡ Ok tt) b.1 b.0;
+        stop_is = subst (λ (a : Result EmitInstruction Unmade). stop (answer_line a read.position) ≡ Ok tt) b.1 b.0;
         answer_is = b.1;
-        few = subst Counted b.1 good.counted;
-        room = subst (λ (a : Result EmitInstruction Unmade). room_stop token_list line numbers lent (answer_line a made.cursor.index).pairs ≡ Ok tt) b.1 (line_room token_list line numbers lent (made_line made) b.0);
-        outcome_is = line_passed token_list line numbers lent (made_line made) b.0 ∙ ap (λ (a : Result EmitInstruction Unmade). accept token_list line numbers lent (answer_line a made.cursor.index)) b.1;
+        room = subst (λ (a : Result EmitInstruction Unmade). room_stop token_list read.line numbers lent (answer_line a read.position).pairs ≡ Ok tt) b.1 (line_room token_list read.line numbers lent (made_line read) b.0);
+        outcome_is = line_passed token_list read.line numbers lent (made_line read) b.0 ∙ ap (λ (a : Result EmitInstruction Unmade). accept token_list read.line numbers lent (answer_line a read.position)) b.1;
       }
 
-  pub words_refused : {given : Result EmitInstruction Refusal} → PassedBy (line_stop token_list line numbers lent (made_line made)) made given → (r : Refusal) → given ≡ Err r → line_stop token_list line numbers lent (made_line made) ≡ Err r
-  words_refused by r e = subst (PassedBy (line_stop token_list line numbers lent (made_line made)) made) e by
+  pub words_refused : {given : Result EmitInstruction Refusal} → PassedBy (stop (made_line read)) read given → (r : Refusal) → given ≡ Err r → stop (made_line read) ≡ Err r
+  words_refused by r e = subst (PassedBy (stop (made_line read)) read) e by
 
-  pub refused_outcome : {given : Result EmitInstruction Refusal} → PassedBy (line_stop token_list line numbers lent (made_line made)) made given → (r : Refusal) → given ≡ Err r
-      → line_outcome token_list line numbers lent (made_line made) ≡ refuse numbers.counts lent made.cursor.index r
+  pub refused_outcome : {given : Result EmitInstruction Refusal} → PassedBy (stop (made_line read)) read given → (r : Refusal) → given ≡ Err r
+      → line_outcome token_list read.line numbers lent (made_line read) ≡ refuse numbers.counts lent read.position r
   refused_outcome by r e =
-      line_stopped token_list line numbers lent (made_line made) (words_refused by r e) ∙ ap (λ (i : ℕ). refuse numbers.counts lent i r) (answer_index made.answer made.cursor.index)
+      line_stopped token_list read.line numbers lent (made_line read) (words_refused by r e) ∙ ap (λ (i : ℕ). refuse numbers.counts lent i r) (answer_index read.answer read.position)

@@ -1,14 +1,16 @@
 // What becomes of a line that was made: refused, or appended to the region data, the pending list and the breakpoints (emit.rs).
 #![tactic(auto)]
 
-ghost use Rattle.std.specs.Prelude.{◌≡◌, ◌≤◌};
+ghost use Rattle.std.specs.Prelude.{◌≡◌};
 ghost use Rattle.emit_outcome.specs.Call.{lent_of, outcome_of};
 ghost use Rattle.emit_outcome.specs.Room.{room_stop};
 ghost use Rattle.emit_outcome.specs.Emit.{accept, line_outcome};
-ghost use Rattle.emit_checks.specs.Made.{pairs_of, words_line, made_line, Filled, MadeGood, emitted_by, left_by};
+ghost use Rattle.emit_pairs.specs.Pairs.{pairs_of};
+ghost use Rattle.emit_checks.specs.Made.{words_line, made_line, Filled, emitted_by, left_by};
 
 use breakpoints::Pcs;
-use emit_dispatch::LineEmit;
+use emit_bytes::LinePendings;
+use emit_checks::LineRead;
 use emit_outcome::{Appended, DoneLine, Emitted, FillCounts, LineNumbers, RefusedLine};
 use emit_pairs::EmitInstruction;
 use pending::Origin;
@@ -41,7 +43,7 @@ pub fn append_line(
     words: EmitInstruction,
     position: u32,
 ) -> Appended
-    requires filled { Filled tokens.now (lent_of «data».old pending.old breakpoints.old) numbers.counts × (words.count ≤ 5) }
+    requires filled { Filled tokens.now (lent_of «data».old pending.old breakpoints.old) numbers.counts }
     requires emit_value { room_stop tokens.now line numbers (lent_of «data».old pending.old breakpoints.old) (pairs_of words) ≡ Ok tt }
     ensures { accept tokens.now line numbers
         (lent_of «data».old pending.old breakpoints.old) (words_line words position)
@@ -49,7 +51,8 @@ pub fn append_line(
 {
     let counts = numbers.counts;
     let n = emit_bytes::count_of(words);
-    let size = emit_bytes::pendings_size(tokens, words) as u32;
+    let waits = LinePendings::new(tokens, words);
+    let size = waits.size() as u32;
     let pc = numbers.place.address.wrapping_add(counts.data_len);
     let bytes = 4 * n as u32;
     emit_bytes::put_words(data, counts.data_len as usize, words);
@@ -58,7 +61,7 @@ pub fn append_line(
         offset: counts.data_len,
         location: line,
     };
-    emit_bytes::put_pendings(pending, tokens, counts.pending as usize, origin, words);
+    waits.put(pending, counts.pending as usize, origin);
     let pcs = Pcs {
         first: pc,
         count: n,
@@ -78,40 +81,30 @@ pub fn append_line(
     }
 }
 
-// Refusals 4 to 12, 19, 20 and 27 of a line that was made, or the line appended.
+// Refusals 4 to 12, 19, 20 and 27 of a line that was read, or the line appended.
 pub fn append_or_refuse(
     tokens: &[u8],
     data: &mut [u8],
     pending: &mut [u8],
     breakpoints: &mut [u8],
     numbers: LineNumbers,
-    line: Location,
-    made: LineEmit,
+    read: LineRead,
 ) -> Result<Appended, RefusedLine>
-    requires { Filled tokens.now (lent_of «data».old pending.old breakpoints.old) numbers.counts × MadeGood tokens.now made }
-    ensures { line_outcome tokens.now line numbers
-        (lent_of «data».old pending.old breakpoints.old) (made_line made)
+    requires { Filled tokens.now (lent_of «data».old pending.old breakpoints.old) numbers.counts }
+    ensures { line_outcome tokens.now read.line numbers
+        (lent_of «data».old pending.old breakpoints.old) (made_line read)
         ≡ left_by numbers.counts result (lent_of «data».new pending.new breakpoints.new) }
 {
-    let position = made.cursor.index as u32;
-    let passed = emit_checks::check_line(
-        tokens,
-        &*data,
-        &*pending,
-        &*breakpoints,
-        numbers,
-        line,
-        made,
-    );
-    let words = emit_checks::at_position(position, passed)?;
+    let passed = emit_checks::check_line(tokens, &*data, &*pending, &*breakpoints, numbers, read);
+    let words = emit_checks::at_position(read.position, passed)?;
     Ok(append_line(
         tokens,
         data,
         pending,
         breakpoints,
         numbers,
-        line,
+        read.line,
         words,
-        position,
+        read.position,
     ))
 }

@@ -17,10 +17,10 @@ use Rattle.address_label.specs.declared.AddressLabel.TheVariants.{Constant, Labe
 use Rattle.address_label.specs.declared.NamedLabel.{NamedLabel}
 use Rattle.pending.specs.declared.InstructionLabelKind.TheVariants.{Lower, Upper}
 use Rattle.emit_pairs.specs.declared.InstructionPair.{InstructionPair}
-use Rattle.emit_pairs.specs.declared.EmitInstruction.{EmitInstruction}
+use Rattle.emit_pairs.specs.declared.emit_instruction.EmitInstruction.{EmitInstruction}
 use Rattle.emit_pairs.specs.declared.Fault.TheVariants.{Immediate}
 use Rattle.emit_words.specs.Words.{register_word, immediate_word}
-use Rattle.emit_pairs.specs.Pairs.{plain, waiting, EmitIs, at_number, load_pairs, label_pairs, label_form, is_immediate, immediate_range, immediate_pairs, immediate_form}
+use Rattle.emit_pairs.specs.Pairs.{plain, waiting, pairs_of, EmitIs, at_number, load_pairs, label_pairs, label_form, is_immediate, immediate_range, immediate_pairs, immediate_form}
 
 -- ---- the array and its count
 
@@ -32,9 +32,9 @@ pub emit_as : {e : EmitInstruction} {ps qs : List InstructionPair} {f : LoadForm
 emit_as i q = emit_by i q refl
 
 -- a pair put at the end of those counted
-pub stored : (l : List InstructionPair) (n : ℕ) (f : LoadForm) (p : InstructionPair) → n < length l
-    → EmitIs (record { instructions = set l n p; count = n + 1; loaded = f }) (take n l ++ p ∷ []) f
-stored l n f p h = record {
+pub stored : (l : List InstructionPair) (n : ℕ) (f : LoadForm) (p : InstructionPair) → n < length l → (few : n + 1 ≤ 5)
+    → EmitIs (record { instructions = set l n p; count = n + 1; loaded = f; few = few }) (take n l ++ p ∷ []) f
+stored l n f p h few = record {
   pairs_are = ap (λ (k : ℕ). take k (set l n p)) (add-one n) ∙ take-suc-set l n p h;
   count_is = simp length-append (omega (arith, length-take-le n l (omega arith)));
   form_is = refl;
@@ -42,7 +42,7 @@ stored l n f p h = record {
 
 -- what `push` ensures, said of the pairs that there were
 pub emit_push : {e r : EmitInstruction} {ps : List InstructionPair} {f : LoadForm} (p : InstructionPair)
-    → EmitIs e ps f → EmitIs r (take e.count e.instructions ++ p ∷ []) e.loaded → EmitIs r (ps ++ p ∷ []) f
+    → EmitIs e ps f → EmitIs r (pairs_of e ++ p ∷ []) e.loaded → EmitIs r (ps ++ p ∷ []) f
 emit_push p i j = emit_by j (ap (λ (l : List InstructionPair). l ++ p ∷ []) i.pairs_are) i.form_is
 
 -- ---- the words that load a constant: one or two

@@ -1,6 +1,6 @@
 -- Laws of operands that take words of their own: how many words they take, one or two more pushed after them, and what an offset comes to.
 -- Assumes nothing.
-use Rattle.std.specs.Prelude.{◌≡◌, refl, List, [], ◌∷◌, ◌++◌, Bool, true, false, ℕ, ◌+◌, ◌%◌, ◌≤◌, length, take}
+use Rattle.std.specs.Prelude.{◌≡◌, refl, List, [], ◌∷◌, ◌++◌, Bool, true, false, ℕ, ◌+◌, ◌%◌, ◌≤◌, length}
 use Rattle.std.proofs.Common.{◌∙◌, append_assoc, arith, length-append}
 use Rattle.registers.specs.Numbers.{register_number}
 use Rattle.registers.specs.declared.RegisterSlot.{RegisterSlot}
@@ -15,8 +15,8 @@ use Rattle.loading.specs.declared.LoadForm.{LoadForm}
 use Rattle.loading.specs.declared.LoadForm.TheVariants.{Nothing as Unloaded}
 use Rattle.loading.specs.Load.{form_of}
 use Rattle.emit_pairs.specs.declared.InstructionPair.{InstructionPair}
-use Rattle.emit_pairs.specs.declared.EmitInstruction.{EmitInstruction}
-use Rattle.emit_pairs.specs.Pairs.{EmitIs, at_number, label_pairs, label_form, is_immediate}
+use Rattle.emit_pairs.specs.declared.emit_instruction.EmitInstruction.{EmitInstruction}
+use Rattle.emit_pairs.specs.Pairs.{pairs_of, EmitIs, at_number, label_pairs, label_form, is_immediate}
 use Rattle.emit_pairs.proofs.PairsLaws.{emit_as, emit_push, load_pairs_length}
 use Rattle.emit_pairs.specs.Values.{value_pairs, added_pairs, constant_pairs, offset_pairs, base_number, offset_number, base_immediate, offset_immediate, base_form, offset_form}
 
@@ -46,11 +46,11 @@ offset_length (LabelAlone label) = omega (arith, label_length label at_number)
 -- ---- one word pushed, and a second
 
 module _ {e f : EmitInstruction} {ps : List InstructionPair} {form : LoadForm} (p : InstructionPair) (i : EmitIs e ps form)
-    (j : EmitIs f (take e.count e.instructions ++ p ∷ []) e.loaded) where
+    (j : EmitIs f (pairs_of e ++ p ∷ []) e.loaded) where
   pub count_one : f.count ≡ length ps + 1
   count_one = (emit_push p i j).count_is ∙ simp length-append
 
-  pub emit_two : {r : EmitInstruction} (q : InstructionPair) → EmitIs r (take f.count f.instructions ++ q ∷ []) f.loaded → EmitIs r (ps ++ p ∷ q ∷ []) form
+  pub emit_two : {r : EmitInstruction} (q : InstructionPair) → EmitIs r (pairs_of f ++ q ∷ []) f.loaded → EmitIs r (ps ++ p ∷ q ∷ []) form
   emit_two q k = emit_as (emit_push q (emit_push p i j) k) (append_assoc ps (p ∷ []) (q ∷ []))
 
 -- ---- an offset: the immediate, the base register's number, the words before and the form

@@ -10,7 +10,7 @@ use Rattle.address_label.specs.declared.AddressLabel.TheVariants.{Constant, Labe
 use Rattle.pending.specs.declared.InstructionLabelKind.{InstructionLabelKind}
 use Rattle.pending.specs.declared.InstructionLabelKind.TheVariants.{Lower, Upper}
 use Rattle.emit_pairs.specs.declared.InstructionPair.{InstructionPair}
-use Rattle.emit_pairs.specs.declared.EmitInstruction.{EmitInstruction}
+use Rattle.emit_pairs.specs.declared.emit_instruction.EmitInstruction.{EmitInstruction}
 use Rattle.emit_pairs.specs.declared.Fault.TheVariants.{Immediate}
 use Rattle.emit_words.specs.Words.{register_word, immediate_word}
 use Rattle.emit_pairs.specs.declared.Fault.{Fault}
@@ -22,9 +22,13 @@ plain w = record { word = w; label = None }
 abbrev pub waiting : ℕ → InstructionLabelKind → AddressLabel → InstructionPair
 waiting w kind label = record { word = w; label = Some (record { kind = kind; label = label }) }
 
+-- the words that count
+abbrev pub pairs_of : EmitInstruction → List InstructionPair
+pairs_of e = take e.count e.instructions
+
 -- the pairs that an array with a count holds, and how the line's constant is loaded
 pub record EmitIs (e : EmitInstruction) (ps : List InstructionPair) (form : LoadForm) : Type 0 where
-  pub pairs_are : take e.count e.instructions ≡ ps
+  pub pairs_are : pairs_of e ≡ ps
   pub count_is : e.count ≡ length ps
   pub form_is : e.loaded ≡ form
 
@@ -52,8 +56,12 @@ label_form (Label name) = Unloaded
 unfoldable pub is_immediate : ℕ → Bool
 is_immediate c = ltb c 32768 || leb (2 ^ 64 - 32768) c
 
+-- what a line's operands come to beside what its job takes: within it, or outside
+abbrev pub Range : Type 0
+Range = Result (Unit {0}) Fault
+
 -- "9. An immediate without alternative lies outside -32,768 to 32,767"
-abbrev pub immediate_range : Option Opcode → ℕ → Result (Unit {0}) Fault
+abbrev pub immediate_range : Option Opcode → ℕ → Range
 immediate_range None c = elim (is_immediate c) [ true ↦ Ok tt | false ↦ Err Immediate ]
 immediate_range (Some alt) c = Ok tt
 

@@ -1,13 +1,16 @@
 // The words of a line, each with the label it waits for, and what several emitters share (emit.rs).
 #![tactic(auto)]
 
-ghost use Rattle.std.specs.Prelude.{◌≡◌, [], ◌∷◌, ◌++◌, ◌<◌, take};
+ghost use Rattle.std.specs.Prelude.{◌≡◌, [], ◌∷◌};
 ghost use Rattle.registers.specs.Numbers.{register_number};
 ghost use Rattle.loading.specs.Load.{form_of};
 ghost use Rattle.emit_pairs.specs.Values.{branch_to, value_form, offset_form, value_pairs, value_number, added_pairs, offset_pairs, offset_number, offset_immediate};
 ghost use Rattle.emit_pairs.specs.Pairs.{EmitIs, plain, waiting, at_number, load_pairs, label_pairs, label_form, is_immediate, immediate_range, immediate_pairs, immediate_form};
 
+mod emit_instruction;
+
 use address_label::AddressLabel;
+pub use emit_instruction::EmitInstruction;
 use emit_words::{ImmediateFields, RegisterFields};
 use instructions::Opcode;
 use loading::LoadForm;
@@ -19,14 +22,6 @@ use registers::RegisterSlot;
 pub struct InstructionPair {
     pub word: u32,
     pub label: Option<InstructionLabel>,
-}
-
-// At most five words: the first `count`; and how the line's constant is loaded.
-#[derive(Clone, Copy)]
-pub struct EmitInstruction {
-    pub instructions: [InstructionPair; 5],
-    pub count: usize,
-    pub loaded: LoadForm,
 }
 
 // What a line has outside what its job takes: refusals 9, 19, 20 and 27.
@@ -83,19 +78,6 @@ pub fn none() -> EmitInstruction
     starting(LoadForm::Nothing)
 }
 
-impl EmitInstruction {
-    // One word more.
-    pub fn push(self, word: u32, label: Option<InstructionLabel>) -> EmitInstruction
-        requires { self.count < 5 }
-        ensures { EmitIs result (take self.count self.instructions ++ (record { word = word; label = label }) ∷ []) self.loaded }
-    {
-        let mut out = self;
-        out.instructions[self.count] = InstructionPair { word, label };
-        out.count += 1;
-        out
-    }
-}
-
 // One word alone.
 pub fn with(word: u32) -> EmitInstruction
     ensures { EmitIs result (plain word ∷ []) LoadForm.Nothing }
@@ -124,6 +106,7 @@ pub fn load_pairs(constant: u64, into: RegisterSlot) -> EmitInstruction
 }
 
 // A constant's words, or lui and ori that wait for a name's halves.
+#[tactic(auto, unfolding(crate::specs::Pairs::label_pairs))]
 pub fn make_label(label: AddressLabel, dest: RegisterSlot) -> EmitInstruction
     ensures { EmitIs result (label_pairs label (register_number dest)) (label_form label) }
 {
@@ -156,6 +139,7 @@ pub fn make_label(label: AddressLabel, dest: RegisterSlot) -> EmitInstruction
 }
 
 // Whether a constant is -32,768 to 32,767, read signed at 64 bits.
+#[tactic(auto, unfolding(crate::specs::Pairs::is_immediate))]
 pub fn is_immediate(constant: u64) -> bool
     ensures { result ≡ is_immediate constant }
 {
@@ -174,6 +158,7 @@ pub fn immediate_range(alt: Option<Opcode>, constant: u64) -> Result<(), Fault>
 }
 
 // One word, or the alternative with the constant in $at; no word where neither serves.
+#[tactic(auto, using(crate::proofs::PairsLaws::load_pairs_length), unfolding(crate::specs::Pairs::immediate_pairs))]
 pub fn emit_immediate_instruction(
     op: Opcode,
     alt: Option<Opcode>,
@@ -222,6 +207,7 @@ pub fn unpack_value(value: InstructionValue) -> Unpacked
 }
 
 // The label into $at, then the register added to it.
+#[tactic(auto, using(crate::proofs::ValuesLaws::label_length))]
 fn added(label: AddressLabel, register: RegisterSlot) -> OffsetParts
     ensures { (result.immediate ≡ 0) × (register_number result.register ≡ at_number) × EmitIs result.emit (added_pairs label register) (label_form label) }
 {

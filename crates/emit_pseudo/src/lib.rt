@@ -83,6 +83,7 @@ fn branch_opcode(result_true: bool) -> Opcode
     Opcode::Op(if result_true { 5 } else { 4 })
 }
 
+#[tactic(auto, using(emit_pairs::proofs::ValuesLaws::value_length, emit_pairs::proofs::ValuesLaws::count_one))]
 pub fn do_branch_custom_instruction(how: Comparison, operands: Operands) -> EmitInstruction
     ensures { EmitIs result (branch_custom_pairs how.greater_than how.result_true how.unsigned
         (slot_in operands.first) (value_in operands.second) (label_in operands.third)) (value_form (value_in operands.second)) }
@@ -113,6 +114,7 @@ fn turn_word(dest: RegisterSlot) -> u32
     emit_words::immediate_word(Opcode::Op(14), fields)
 }
 
+#[tactic(auto, using(emit_pairs::proofs::ValuesLaws::value_length, emit_pairs::proofs::ValuesLaws::count_one))]
 pub fn do_set_custom_instruction(how: Comparison, operands: Operands) -> EmitInstruction
     ensures { EmitIs result (set_custom_pairs how.greater_than how.result_true how.unsigned
         (slot_in operands.first) (slot_in operands.second) (value_in operands.third)) (value_form (value_in operands.third)) }
@@ -134,6 +136,7 @@ pub fn do_set_custom_instruction(how: Comparison, operands: Operands) -> EmitIns
 }
 
 // The difference, and whether it is not zero.
+#[tactic(auto, using(emit_pairs::proofs::ValuesLaws::value_length, emit_pairs::proofs::ValuesLaws::count_one))]
 pub fn do_sne_instruction(operands: Operands) -> EmitInstruction
     ensures { EmitIs result (sne_pairs (slot_in operands.first) (slot_in operands.second) (value_in operands.third))
         (value_form (value_in operands.third)) }
@@ -155,6 +158,7 @@ pub fn do_sne_instruction(operands: Operands) -> EmitInstruction
     unpacked.emit.push(subu, None).push(sltu, None)
 }
 
+#[tactic(auto, using(crate::proofs::PseudoWordsLaws::sne_length))]
 pub fn do_seq_instruction(operands: Operands) -> EmitInstruction
     ensures { EmitIs result (seq_pairs (slot_in operands.first) (slot_in operands.second) (value_in operands.third))
         (value_form (value_in operands.third)) }

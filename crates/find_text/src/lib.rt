@@ -1,16 +1,16 @@
 // What `find_label_cases` prints of a lookup (document 02, P13), from the bytes that it reads to those that it prints.
 #![tactic(auto)]
 
-ghost use Rattle.std.specs.Prelude.{◌≡◌, []};
+ghost use Rattle.std.specs.Prelude.{◌≡◌, ◌++◌, ◌+◌, ◌≤◌, length};
 ghost use Rattle.find_text.specs.FindText.{address_line, found_lines, find_text};
 
 use labels::Found;
 use program::Program;
-use text::Printed;
+use text::{MOST, Printed};
 
 fn put_address(out: &mut Printed, address: Option<u32>)
-    requires { out.old ≡ [] }
-    ensures { out.new ≡ address_line address }
+    requires { length out.old + length (address_line address) ≤ MOST }
+    ensures { out.new ≡ out.old ++ address_line address }
 {
     match address {
         Some(value) => {
@@ -22,17 +22,17 @@ fn put_address(out: &mut Printed, address: Option<u32>)
     }
 }
 
-#[tactic(auto, using(text::proofs::TextLaws::last_most, crate::proofs::FindTextLaws::address_most))]
+#[tactic(auto, using(std::proofs::lemmas::Grind::common_steps))]
 fn put_found(out: &mut Printed, found: Found)
-    requires { out.old ≡ [] }
-    ensures { out.new ≡ found_lines found }
+    requires { length out.old + length (found_lines found) ≤ MOST }
+    ensures { out.new ≡ out.old ++ found_lines found }
 {
     put_address(&mut *out, found.address);
     out.push_number_line(b"compared", found.compared as u64);
 }
 
 // The text that is printed for an input: the labels and the name, each after its count, and the source.
-#[tactic(auto, using(text::proofs::TextLaws::refused_most), unfolding(crate::specs::FindText::find_text))]
+#[tactic(auto, using(text::proofs::TextLaws::refused_most, text::proofs::TextLaws::last_most, crate::proofs::FindTextLaws::address_most, std::proofs::lemmas::Grind::common_steps), unfolding(crate::specs::FindText::find_text))]
 pub fn find_label(input: &[u8], out: &mut Printed)
     ensures { out.new ≡ find_text input.now }
 {

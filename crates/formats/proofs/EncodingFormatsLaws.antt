@@ -1,5 +1,5 @@
 -- The words of each encoding load its constant, and then have its formats. Assumes nothing.
-use Rattle.std.specs.Prelude.{ℕ, ◌%◌, ◌<◌, ◌≡◌, Bool, [], ◌∷◌, ◌++◌, Err, None, Ok, Result, Some, Option}
+use Rattle.std.specs.Prelude.{ℕ, ◌%◌, ◌<◌, ◌≡◌, Bool, [], ◌∷◌, ◌++◌, Err, None, Ok, Some, Option}
 use Rattle.std.proofs.Math.Bool.{true, false}
 use Rattle.std.proofs.Common.{append_assoc, arith, lit<}
 use Rattle.jobs.specs.declared.Job.{Job}
@@ -19,9 +19,8 @@ use Rattle.operand.specs.declared.OffsetOrLabel.{OffsetOrLabel}
 use Rattle.operand.specs.declared.OffsetOrLabel.TheVariants.{Label as Address, Offset as Based}
 use Rattle.operand_list.specs.OperandLists.{AskedAll}
 use Rattle.emit_words.specs.Words.{destination_word, inputs_word, register_word, immediate_word}
-use Rattle.emit_pairs.specs.declared.Fault.{Fault}
 use Rattle.emit_pairs.specs.declared.Fault.TheVariants.{Immediate as ImmediateFault}
-use Rattle.emit_pairs.specs.Pairs.{plain, waiting, load_pairs, label_pairs, is_immediate, immediate_range, immediate_pairs}
+use Rattle.emit_pairs.specs.Pairs.{plain, waiting, load_pairs, label_pairs, is_immediate, immediate_range, immediate_pairs, Range}
 use Rattle.emit_pairs.specs.Values.{constant_pairs}
 use Rattle.emit_integer.specs.IntegerWords.{inputs_pairs, offset_line_pairs}
 use Rattle.emit_dispatch.specs.Wants.{encoding_wants}
@@ -56,7 +55,7 @@ module _ (op : Opcode) where
     taken_or_loaded alt true = alone (one taken)
     taken_or_loaded alt false = loaded_then c AssemblerTemporary (plain (register_word alt rt rs $at) ∷ []) (one (register_register alt rs $at hs (lit< tt) rt ht))
 
-    taken_alone : (b : Bool) → ◌≡◌ {A = Result (Unit {0}) Fault} (elim b [ true ↦ Ok tt | false ↦ Err ImmediateFault ]) (Ok tt)
+    taken_alone : (b : Bool) → ◌≡◌ {A = Range} (elim b [ true ↦ Ok tt | false ↦ Err ImmediateFault ]) (Ok tt)
         → LoadThen (elim b [ true ↦ None | false ↦ into_at c ]) (in_immediate op rs rt (c % 65536) ∷ [])
         (words_of (elim b [ true ↦ plain (immediate_word op rs rt (c % 65536)) ∷ [] | false ↦ [] ]))
     taken_alone true e = alone (one taken)

@@ -1,6 +1,6 @@
 -- Every emitted word: "proved against the MIPS32 field layouts". Each word of an accepted line has the manual's format with the numbers of the
 -- operands that were read, whatever the encoding, its opcode, the pseudo-instruction and the operands. Assumes nothing.
-use Rattle.std.specs.Prelude.{ℕ, ◌≡◌, refl, List, [], ◌∷◌, Ok, Result, Some}
+use Rattle.std.specs.Prelude.{ℕ, ◌≡◌, refl, List, [], ◌∷◌, Ok, Some}
 use Rattle.std.proofs.Common.{subst, arith}
 use Rattle.jobs.specs.declared.Job.{Job}
 use Rattle.jobs.specs.declared.Job.TheVariants.{Commit}
@@ -14,7 +14,7 @@ use Rattle.lexer.specs.declared.TokenKind.TheVariants.{Register as RegisterToken
 use Rattle.operand.specs.Answers.{Answer, Got, Missed}
 use Rattle.operand_list.specs.OperandLists.{AskedAll, read_operands}
 use Rattle.emit_pairs.specs.declared.InstructionPair.{InstructionPair}
-use Rattle.emit_pairs.specs.Pairs.{is_immediate}
+use Rattle.emit_pairs.specs.Pairs.{is_immediate, Range}
 use Rattle.emit_dispatch.specs.LineAnswers.{Made}
 use Rattle.emit_dispatch.specs.Wants.{encoding_wants, pseudo_wants}
 use Rattle.loading.specs.declared.LoadForm.{LoadForm}
@@ -26,9 +26,8 @@ use Rattle.formats.proofs.LineFormats.{own_formats, line_formats, LoadThen, Line
 use Rattle.formats.proofs.LineFormatsLaws.{all_have}
 use Rattle.formats.proofs.EncodingFormatsLaws.{encoding_words}
 use Rattle.formats.proofs.PseudoFormatsLaws.{pseudo_words}
-use Rattle.emit_pairs.specs.declared.Fault.{Fault}
 
-module _ (job : Job) (o : Operation) (i : ℕ) (range : AskedAll (wants_of o) → Result (Unit {0}) Fault) (pairs : AskedAll (wants_of o) → List InstructionPair)
+module _ (job : Job) (o : Operation) (i : ℕ) (range : AskedAll (wants_of o) → Range) (pairs : AskedAll (wants_of o) → List InstructionPair)
     (form : AskedAll (wants_of o) → LoadForm) (words : (x : AskedAll (wants_of o)) → range x ≡ Ok tt → LoadThen (loads_of o x) (own_formats job o x) (words_of (pairs x))) where
   made_words : (read : Answer (AskedAll (wants_of o))) → (line_by read i range pairs form).answer ≡ Made → LineWords job o read (words_of (line_by read i range pairs form).pairs)
   made_words (Got x) h =

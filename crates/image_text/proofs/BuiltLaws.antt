@@ -1,21 +1,24 @@
--- The region list that an accepted build leaves keeps its layout, and one over the limit is refused whatever it holds. Assumes nothing.
-use Rattle.std.specs.Prelude.{◌≡◌, ℕ, ◌<◌, Bool, true, false, List, length, take, nat_le, refl, Err, None, Ok}
-use Rattle.std.proofs.Common.{arith, ap, length-take, take_all, leb-true, leb-false}
+-- The region list that an accepted build leaves keeps its layout, one over the limit is refused whatever it holds, and so what is printed of an
+-- input's build. Assumes nothing.
+use Rattle.std.specs.Prelude.{◌≡◌, ℕ, ◌<◌, Bool, true, false, List, length, take, nat_le, refl, Err, None, Ok, Result}
+use Rattle.std.proofs.Common.{arith, ap, ap₂, sym, ◌∙◌, length-take, take_all, leb-true, leb-false}
 use Rattle.jobs.specs.declared.Job.{Job}
 use Rattle.record.specs.Records.{limit}
 use Rattle.refusal.specs.Verdicts.{and_then, layout_verdict, Verdict}
 use Rattle.refusal.specs.declared.Refusal.{Refusal}
-use Rattle.labels.specs.Labels.{label_layout, Table}
+use Rattle.labels.specs.Labels.{label_layout, table_of, Table}
 use Rattle.address_label.specs.Entries.{entry_layout}
 use Rattle.regions.specs.Regions.{region_layout}
 use Rattle.regions.proofs.RegionsLaws.{layout_long}
 use Rattle.build_outcome.specs.Build.{layout_verdicts, build_verdict, outcome_by, build_outcome}
 use Rattle.build_outcome.proofs.BuildLaws.{outcome_accepted, outcome_refused}
 use Rattle.finished_words.proofs.AcceptedLaws.{finished_kept}
-use Rattle.image_text.specs.Image.{outcome_text, build_text}
+use Rattle.binary_builder.specs.Contract.{BuildBy}
+use Rattle.input.specs.Input.{list_of, held}
+use Rattle.image_text.specs.Image.{outcome_text, build_text, finish_text_by}
 
 module _ (job : Job) (labels : Table) (entry regions pending : List ℕ) where
-  pub accepted_layout : (address : ℕ) → (build_outcome job labels entry regions pending).answer ≡ Ok address → region_layout (build_outcome job labels entry regions pending).regions ≡ None
+  accepted_layout : (address : ℕ) → (build_outcome job labels entry regions pending).answer ≡ Ok address → region_layout (build_outcome job labels entry regions pending).regions ≡ None
   accepted_layout address h = go (build_verdict job labels entry regions pending) refl
     where
       go : (v : Verdict) → build_verdict job labels entry regions pending ≡ v → region_layout (build_outcome job labels entry regions pending).regions ≡ None
@@ -35,7 +38,7 @@ module _ (job : Job) (labels entry pending : List ℕ) where
   long_text r s h k = rw (layout_long r h, layout_long s k) (stopped (layout_verdict 0 (label_layout labels)) (layout_verdict 1 (entry_layout entry)) _ _ _ _ _ _ _ _)
 
   -- one byte more than the limit is as good as the whole list
-  pub held_text : (r : List ℕ) → build_text job labels entry (take 65537 r) pending ≡ build_text job labels entry r pending
+  held_text : (r : List ℕ) → build_text job labels entry (take 65537 r) pending ≡ build_text job labels entry r pending
   held_text r = go (nat_le (length r) 65537) refl
     where
       go : (b : Bool) → nat_le (length r) 65537 ≡ b → build_text job labels entry (take 65537 r) pending ≡ build_text job labels entry r pending
@@ -43,3 +46,14 @@ module _ (job : Job) (labels entry pending : List ℕ) where
       go false e =
           let h = leb-false (length r) 65537 e in
           long_text (take 65537 r) r (simp length-take (omega arith)) (omega arith)
+
+-- ---- a build that was made
+module _ (job : Job) (labels entry regions pending : List ℕ) {built : Result ℕ Refusal} {exit : List ℕ} (b : BuildBy job labels entry regions pending built exit) where
+  pub built_layout : (address : ℕ) → built ≡ Ok address → region_layout exit ≡ None
+  built_layout address e = rw b.bytes_are (accepted_layout job (table_of labels) entry regions pending address (sym b.answer_is ∙ e))
+
+  pub built_text : (input : List ℕ) → labels ≡ list_of 0 input → entry ≡ list_of 1 input → regions ≡ held (list_of 2 input) → pending ≡ list_of 3 input
+      → outcome_text built exit ≡ finish_text_by job input
+  unfolding finish_text_by
+  built_text input l e r p =
+      ap₂ outcome_text b.answer_is b.bytes_are ∙ rw (l, e, r, p) (held_text job (list_of 0 input) (list_of 1 input) (list_of 3 input) (list_of 2 input))

@@ -1,5 +1,5 @@
 -- The lengths of an image's lines, and the lines of data and of regions one after the other. Assumes nothing.
-use Rattle.std.specs.Prelude.{◌≡◌, ℕ, zero, suc, ◌+◌, ◌<◌, ◌≤◌, min, List, [], ◌∷◌, ◌++◌, length, take, drop, refl}
+use Rattle.std.specs.Prelude.{◌≡◌, ℕ, ◌+◌, ◌<◌, ◌≤◌, min, List, [], ◌++◌, length, drop, refl}
 use Rattle.std.proofs.Common.{arith, ap, ◌∙◌, length-append}
 use mathlib.Core.List.{append-nil, flatten}
 use Rattle.record.specs.Bytes.{le32}
@@ -8,8 +8,8 @@ use Rattle.pseudo_names.specs.PseudoNames.{bytes_of}
 use Rattle.patch.specs.Patches.{wrap32}
 use Rattle.reading.specs.Reading.{image_region, image_of}
 use Rattle.reading.proofs.ImageLaws.{image_next, image_end}
-use Rattle.reading.specs.Rows.{row, rows}
-use Rattle.reading.proofs.RowsLaws.{rows_none, rows_word, rows_part}
+use Rattle.reading.specs.Rows.{row}
+use Rattle.reading.proofs.RowsLaws.{rows_none, rows_word, rows_part, rows_next, rows_end}
 use Rattle.text.specs.Text.{field, hex_bytes, word_text}
 use Rattle.text.proofs.TextLaws.{text_part}
 use Rattle.image_text.specs.Image.{eight, entry_line, region_line, word_line, row_line, data_lines, region_text, regions_text}
@@ -45,34 +45,14 @@ unfolding data_lines flatten
 data_part address i bytes g h = rw (rows_part address i bytes g h) (append-nil (row_line (row address i bytes)) ∙ ap (word_line (wrap32 (address + i))) (text_part bytes (λ e. omega arith)))
 
 -- the next four bytes, or the last part word, and then the others
-data_take : (address i : ℕ) (rest : List ℕ) → 0 < length rest
-    → data_lines address i rest ≡ word_line (wrap32 (address + i)) (word_text (take 4 rest)) ++ data_lines address (i + 4) (drop 4 rest)
-unfolding data_lines flatten rows
-data_take address i [] h = absurd (omega arith)
-data_take address i (a ∷ []) h = refl
-data_take address i (a ∷ b ∷ []) h = refl
-data_take address i (a ∷ b ∷ c ∷ []) h = refl
-data_take address i (a ∷ b ∷ c ∷ d ∷ rest) h = refl
-
-chunk_is : (n : ℕ) (bytes after : List ℕ) → length bytes ≡ min n (length (bytes ++ after)) → (take n (bytes ++ after) ≡ bytes) × (drop n (bytes ++ after) ≡ after)
-chunk_is zero [] after h = (refl, refl)
-chunk_is zero (x ∷ bytes) after h = absurd (omega arith)
-chunk_is (suc n) [] [] h = (refl, refl)
-chunk_is (suc n) [] (y ∷ after) h = absurd (omega arith)
-chunk_is (suc n) (x ∷ bytes) after h =
-    let e = chunk_is n bytes after (omega arith) in
-    (ap (λ (l : List ℕ). x ∷ l) e.0, e.1)
-
 pub data_next : (address i : ℕ) (rest bytes after : List ℕ) → rest ≡ bytes ++ after → length bytes ≡ min 4 (length rest) → 0 < length rest
     → data_lines address i rest ≡ word_line (wrap32 (address + i)) (word_text bytes) ++ data_lines address (i + 4) after
-data_next address i rest bytes after e l h =
-    let c = chunk_is 4 bytes after (rw e at l) in
-    rw (data_take address i rest h, e, c.0, c.1)
+unfolding data_lines flatten
+data_next address i rest bytes after e l h = rw (rows_next address i rest bytes after e l h)
 
 pub data_end : (address i : ℕ) (rest : List ℕ) → length rest ≡ 0 → data_lines address i rest ≡ []
-unfolding data_lines flatten rows
-data_end address i [] h = refl
-data_end address i (x ∷ rest) h = absurd (omega arith)
+unfolding data_lines flatten
+data_end address i rest h = rw (rows_end address i rest h)
 
 -- ---- region after region
 pub regions_next : (s : List ℕ) (n : ℕ) → n < region_count s

@@ -3,3 +3,4 @@ pub mod CountingLaws
 pub mod NumbersLaws
 pub mod PlacesLaws
 pub mod RecordLaws
+pub mod StandingLaws

@@ -1,46 +1,39 @@
 // What `make_index` does (document 02, P1), from the bytes that it reads to those that it prints.
 #![tactic(auto)]
 
-ghost use Rattle.std.specs.Prelude.{◌≡◌, [], ◌≤◌, length};
-ghost use Rattle.indexed_outcome.specs.Make.{make_outcome};
-ghost use Rattle.index_text.specs.IndexText.{made_text, outcome_text, make_index_text};
+ghost use Rattle.std.specs.Prelude.{◌≡◌, ◌++◌, ◌+◌, ◌≤◌, length};
+ghost use Rattle.index_text.specs.IndexText.{made_text, make_index_text};
 
 use program::Program;
-use text::Printed;
+use text::{MOST, Printed};
 
 // The fill count and the whole buffer.
-#[tactic(auto, using(text::proofs::TextLaws::last_most, bytes_line::proofs::BytesLineLaws::bytes_length, std::proofs::lemmas::Grind::common_steps))]
+#[tactic(auto, using(std::proofs::lemmas::Grind::common_steps))]
 fn put_made(out: &mut Printed, fill: u32, index: &[u8])
-    requires { (out.old ≡ []) × (length index.now ≤ 65537) }
-    ensures { out.new ≡ made_text fill index.now }
+    requires { length out.old + length (made_text fill index.now) ≤ MOST }
+    ensures { out.new ≡ out.old ++ made_text fill index.now }
 {
     out.push_number_line(b"fill", fill as u64);
     bytes_line::push_bytes(out, b"index ", index);
 }
 
-// The index, or the refusal alone.
-#[tactic(auto, using(text::proofs::TextLaws::refused_most))]
-fn put_outcome(out: &mut Printed, pending: &[u8], fill: u32, labels: &[u8], index: &mut [u8])
-    requires { (out.old ≡ []) × (length index.old ≤ 65537) }
-    ensures { out.new ≡ outcome_text (make_outcome fill pending.now labels.now index.old) }
-{
-    match index_maker::make_index(pending, fill, labels, &mut *index) {
-        Ok(count) => put_made(out, count, &*index),
-        Err(refusal) => out.push_refusal(refusal::numbers(refusal)),
-    }
-}
-
-// The text that `make_index` prints for an input. Of an index buffer over its limit one byte more than the limit is held.
+// The text that `make_index` prints for an input: the index, or the refusal alone. Of an index buffer over its limit one byte
+// more than the limit is held.
+#[tactic(auto, using(text::proofs::TextLaws::refused_most, text::proofs::TextLaws::last_most, bytes_line::proofs::BytesLineLaws::bytes_length, std::proofs::lemmas::Grind::common_steps))]
 pub fn make_index(input: &[u8], out: &mut Printed)
     ensures { out.new ≡ make_index_text input.now }
 {
-    let mut index = [0u8; record::LIMIT + 1];
-    let kept = input::hold(&mut index, input::list_of(input, 2));
+    let mut space = [0u8; record::LIMIT + 1];
+    let kept = input::hold(&mut space, input::list_of(input, 2));
+    let index = &mut space[..kept];
     let fill = input::word_or_zero(input::behind_lists(input, 3), 0);
     let pending = input::list_of(input, 0);
     let labels = input::list_of(input, 1);
     out.clear();
-    put_outcome(out, pending, fill, labels, &mut index[..kept]);
+    match index_maker::make_index(pending, fill, labels, &mut *index) {
+        Ok(count) => put_made(out, count, &*index),
+        Err(refusal) => out.push_refusal(refusal::numbers(refusal)),
+    }
 }
 
 // `make_index` as a program.

@@ -1,31 +1,36 @@
 -- The uses of the pending list that an accepted line leaves are those of the list before, and then the line's. Assumes nothing.
-use Rattle.std.specs.Prelude.{ℕ, zero, suc, ◌+◌, ◌*◌, ◌^◌, ◌≤◌, ◌<◌, Bool, true, false, ◌≡◌, length, take, get_or, ltb, None, Option, Some}
+use Rattle.std.specs.Prelude.{ℕ, zero, suc, ◌+◌, ◌*◌, ◌^◌, ◌≤◌, ◌<◌, Bool, true, false, ◌≡◌, length, take, get_or, ltb, None, Option, Some, Ok, Err}
 use Rattle.std.proofs.Common.{arith, sym, ◌∙◌, subst, length-append, length-take, get_or-take, ltb-true, ltb-false}
 use mathlib.Core.List.{List, [], ◌∷◌, ◌++◌, append_assoc, append-nil}
 use Rattle.std.proofs.Math.Path.{refl, ap, ap₂}
 use Rattle.jobs.specs.declared.Job.{Job}
 use Rattle.record.specs.Records.{places, first_bad}
-use Rattle.descriptors.specs.Mnemonics.{mnemonic_name}
+use Rattle.record.specs.declared.Location.{Location}
+use Rattle.refusal.specs.Verdicts.{Verdict}
+use Rattle.descriptors.specs.Mnemonics.{mnemonic_name, mnemonic_location}
 use Rattle.pending.specs.Pendings.{pending_ok}
 use Rattle.pending.specs.PendingBytes.{pending_bytes}
 use Rattle.pending.proofs.Written.{written_behind}
 use Rattle.pending.specs.declared.Origin.{Origin}
 use Rattle.emit_pairs.specs.declared.InstructionPair.{InstructionPair}
+use Rattle.emit_pairs.specs.declared.emit_instruction.EmitInstruction.{EmitInstruction}
+use Rattle.emit_pairs.specs.Pairs.{pairs_of}
+use Rattle.emit_dispatch.specs.Contract.{MadeAs}
 use Rattle.emit_bytes.specs.Appended.{onward, pair_bytes, pendings_bytes}
-use Rattle.emit_dispatch.specs.declared.LineEmit.{LineEmit}
+use Rattle.emit_checks.specs.declared.LineRead.{LineRead}
 use Rattle.emit_outcome.specs.Call.{Call, EmitOutcome}
 use Rattle.lexer.specs.Tokens.{tokens}
 use Rattle.cursor.specs.Cursors.{start_index}
-use Rattle.emit_dispatch.specs.Lines.{pseudo_line}
+use Rattle.emit_dispatch.specs.Lines.{Line, pseudo_line}
+use Rattle.emit_outcome.specs.Checks.{list_stop}
 use Rattle.emit_outcome.specs.Dispatch.{meaning, table_line}
-use Rattle.record.specs.declared.Location.{Location}
 use Rattle.emit_outcome.specs.Emit.{line_outcome, emit_outcome}
 use Rattle.emit_outcome.specs.Answer.{done_at}
 use Rattle.emit_outcome.specs.declared.Meaning.{Meaning}
 use Rattle.emit_outcome.specs.declared.Meaning.TheVariants.{Table, Builtin, Neither}
 use Rattle.emit_checks.specs.Made.{made_line}
-use Rattle.emit_core.proofs.EmitLaws.{made_pairs}
-use Rattle.emit_core.specs.Read.{LineFor}
+use Rattle.emit_core.proofs.EmitLaws.{by_lists, by_meaning, made_outcome, made_pairs}
+use Rattle.emit_core.specs.Read.{LineMade, LineFor}
 use Rattle.loading.specs.declared.LoadForm.{LoadForm}
 use Rattle.finished_words.specs.Listed.{Bytes}
 use Rattle.routine.proofs.WordLaws.{PairFits, PairsFit}
@@ -79,25 +84,56 @@ module _ (labels names : List ℕ) where
       ∙ uses_line (old ++ b) (onward origin) ps a.keeps (record { region_ok = fits.region_ok; region_fits = fits.region_fits; location_fits = fits.location_fits }) (omega arith) h.1
       ∙ ap₂ (λ (n : ℕ) (us : List Use). line_uses labels names n ps us) a.number_is a.uses_are
 
--- ---- an accepted call
-module _ (job : Job) (c : Call) (line : Location) (made : LineEmit) (position : ℕ) (loaded : LoadForm) (done : (line_outcome c.token_list line c.numbers c.lent (made_line made)).answer ≡ done_at position loaded) where
-  -- the words of the line that was read are the call's
-  pairs_read : (m : Meaning) → meaning c.descriptors (mnemonic_name c.mnemonic) ≡ m → LineFor job c.token_list c.descriptors c.numbers.place.position m true made → call_pairs job c ≡ (made_line made).pairs
+-- ---- a call whose line was made
+module _ (job : Job) (c : Call) (read : LineRead) (words : EmitInstruction) (made : read.answer ≡ Ok words) where
+  words_made : (line : Line) → LineMade line read → line.pairs ≡ pairs_of words
+  words_made line l = sym (subst (MadeAs line) made l.0).1.pairs_are
+
+  -- its words are the call's
+  pub pairs_read : (m : Meaning) → meaning c.descriptors (mnemonic_name c.mnemonic) ≡ m → LineFor job c.token_list c.descriptors c.numbers.place.position m true read → call_pairs job c ≡ pairs_of words
   unfolding call_pairs
-  pairs_read (Table p) e l = ap (meaning_pairs job c) e ∙ made_pairs c.token_list line c.numbers c.lent (table_line job c.descriptors p (tokens c.token_list) (start_index (tokens c.token_list) c.numbers.place.position)) made.answer made.cursor.index l.1.0 done
-  pairs_read (Builtin p) e l = ap (meaning_pairs job c) e ∙ made_pairs c.token_list line c.numbers c.lent (pseudo_line job p (tokens c.token_list) (start_index (tokens c.token_list) c.numbers.place.position)) made.answer made.cursor.index l.1.0 done
+  pairs_read (Table p) e l = ap (meaning_pairs job c) e ∙ words_made (table_line job c.descriptors p (tokens c.token_list) (start_index (tokens c.token_list) c.numbers.place.position)) l.1
+  pairs_read (Builtin p) e l = ap (meaning_pairs job c) e ∙ words_made (pseudo_line job p (tokens c.token_list) (start_index (tokens c.token_list) c.numbers.place.position)) l.1
   pairs_read Neither e l = never (cc)
 
+-- ---- an accepted call
+module _ (job : Job) (c : Call) (read : LineRead) (position : ℕ) (loaded : LoadForm) (done : (emit_outcome job c).answer ≡ done_at position loaded) where
+  abbrev at : Location
+  at = mnemonic_location c.mnemonic
+
+  abbrev stop : Verdict
+  stop = list_stop c.token_list c.mnemonic c.descriptors c.lent c.numbers.place.region c.numbers.counts
+
+  lists_pass : (v : Verdict) → stop ≡ v → stop ≡ Ok tt
+  lists_pass (Ok u) e = e
+  lists_pass (Err r) e =
+      let n = sym (ap (λ (o : EmitOutcome). o.answer) (by_lists job c e)) ∙ done in
+      let z : ◌≡◌ {A = ℕ} 0 1 = cc in
+      absurd (omega arith)
+
+  module _ (line : Line) (made : LineMade line read) (is : emit_outcome job c ≡ line_outcome c.token_list at c.numbers c.lent line) where
+    line_done : (line_outcome c.token_list at c.numbers c.lent (made_line read)).answer ≡ done_at position loaded
+    line_done = sym (ap (λ (o : EmitOutcome). o.answer) (is ∙ made_outcome c.token_list at c.numbers c.lent line read.answer read.position made.0 made.1)) ∙ done
+
+    words_are : line.pairs ≡ (made_line read).pairs
+    words_are = made_pairs c.token_list at c.numbers c.lent line read.answer read.position made.0 line_done
+
+  -- the words of the line that was read are the call's, since the line is accepted
+  accepted_read : (m : Meaning) → meaning c.descriptors (mnemonic_name c.mnemonic) ≡ m → LineFor job c.token_list c.descriptors c.numbers.place.position m true read → call_pairs job c ≡ (made_line read).pairs
+  unfolding call_pairs
+  accepted_read (Table p) e l = ap (meaning_pairs job c) e ∙ words_are (table_line job c.descriptors p (tokens c.token_list) (start_index (tokens c.token_list) c.numbers.place.position)) l.1 (by_meaning job c (lists_pass stop refl) e)
+  accepted_read (Builtin p) e l = ap (meaning_pairs job c) e ∙ words_are (pseudo_line job p (tokens c.token_list) (start_index (tokens c.token_list) c.numbers.place.position)) l.1 (by_meaning job c (lists_pass stop refl) e)
+  accepted_read Neither e l = never (cc)
+
   pub new_index_lem : (labels : List ℕ) → Bytes c.token_list → Bytes c.mnemonic
-      → LineFor job c.token_list c.descriptors c.numbers.place.position (meaning c.descriptors (mnemonic_name c.mnemonic)) true made
-      → (emit_outcome job c).answer ≡ done_at position loaded
-      → index_of labels (filled_pending (emit_outcome job c).lent (emit_outcome job c).counts) ≡ new_index labels c.token_list (filled_pending c.lent c.numbers.counts) (made_line made).pairs
+      → LineFor job c.token_list c.descriptors c.numbers.place.position (meaning c.descriptors (mnemonic_name c.mnemonic)) true read
+      → index_of labels (filled_pending (emit_outcome job c).lent (emit_outcome job c).counts) ≡ new_index labels c.token_list (filled_pending c.lent c.numbers.counts) (made_line read).pairs
   unfolding index_of
-  new_index_lem labels tb mb l e =
-      let a = accepted job c position loaded tb e in
+  new_index_lem labels tb mb l =
+      let a = accepted job c position loaded tb done in
       let old = filled_pending c.lent c.numbers.counts in
       let ps = a.made.pairs in
-      let same : ps ≡ (made_line made).pairs = a.pairs_are ∙ pairs_read (meaning c.descriptors (mnemonic_name c.mnemonic)) refl l in
+      let same : ps ≡ (made_line read).pairs = a.pairs_are ∙ accepted_read (meaning c.descriptors (mnemonic_name c.mnemonic)) refl l in
       ap uses_bytes (ap (λ (o : EmitOutcome). uses_of labels (filled_pending o.lent o.counts)) a.outcome_is
       ∙ ap (uses_of labels) (pending_is job c a mb)
       ∙ uses_line labels c.token_list old (call_origin c) ps (pending_kept job c a mb) (origin_fits job c a mb) (offsets_fit job c a mb) a.words.fit

@@ -8,12 +8,13 @@ use Rattle.record.specs.declared.Location.{Location}
 use Rattle.refusal.specs.declared.Refusal.TheVariants.{NoIndexSpace}
 use Rattle.refusal.specs.declared.Refusal.{Refusal}
 use Rattle.descriptors.specs.Mnemonics.{mnemonic_location}
-use Rattle.emit_pairs.specs.declared.EmitInstruction.{EmitInstruction}
+use Rattle.emit_pairs.specs.declared.emit_instruction.EmitInstruction.{EmitInstruction}
 use Rattle.emit_outcome.specs.Call.{Call, Lent, EmitOutcome}
 use Rattle.emit_outcome.specs.Emit.{refuse, accept, line_stop, line_outcome, call_refused, emit_outcome}
 use Rattle.emit_outcome.specs.Answer.{EmitAnswer, done_at}
 use Rattle.emit_outcome.specs.declared.LineNumbers.{LineNumbers}
-use Rattle.emit_checks.specs.Made.{pairs_of, words_line}
+use Rattle.emit_pairs.specs.Pairs.{pairs_of}
+use Rattle.emit_checks.specs.Made.{words_line}
 use Rattle.emit_made.proofs.MadeLaws.{line_passed}
 use Rattle.loading.specs.declared.LoadForm.{LoadForm}
 use Rattle.label_uses.specs.UseBytes.{index_of}

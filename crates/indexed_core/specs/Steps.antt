@@ -8,13 +8,14 @@ use Rattle.refusal.specs.declared.Refusal.{Refusal}
 use Rattle.labels.specs.Labels.{label_layout}
 use Rattle.pending.specs.Pendings.{pending_ok}
 use Rattle.emit_pairs.specs.declared.InstructionPair.{InstructionPair}
-use Rattle.emit_pairs.specs.declared.EmitInstruction.{EmitInstruction}
+use Rattle.emit_pairs.specs.declared.emit_instruction.EmitInstruction.{EmitInstruction}
 use Rattle.emit_outcome.specs.declared.RefusedLine.{RefusedLine}
 use Rattle.emit_outcome.specs.Call.{Lent, EmitOutcome, outcome_of}
 use Rattle.emit_outcome.specs.Emit.{accept}
 use Rattle.emit_outcome.specs.Answer.{EmitAnswer, refused_at}
 use Rattle.emit_outcome.specs.declared.LineNumbers.{LineNumbers}
-use Rattle.emit_checks.specs.Made.{pairs_of, words_line, Filled}
+use Rattle.emit_pairs.specs.Pairs.{pairs_of}
+use Rattle.emit_checks.specs.Made.{words_line, Filled}
 use Rattle.label_uses.specs.Uses.{uses_of}
 use Rattle.label_uses.specs.UseBytes.{uses_bytes, index_layout}
 use Rattle.line_uses.specs.LineUses.{line_uses}

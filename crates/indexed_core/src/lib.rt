@@ -6,13 +6,14 @@ ghost use Rattle.labels.specs.Labels.{label_layout};
 ghost use Rattle.emit_outcome.specs.Call.{lent_of, call_of};
 ghost use Rattle.emit_outcome.specs.Emit.{line_outcome};
 ghost use Rattle.emit_outcome.specs.Room.{room_stop};
-ghost use Rattle.emit_checks.specs.Made.{pairs_of, made_line, MadeGood};
+ghost use Rattle.emit_pairs.specs.Pairs.{pairs_of};
+ghost use Rattle.emit_checks.specs.Made.{made_line};
 ghost use Rattle.indexed_outcome.specs.Indexed.{indexed_stop, indexed_outcome, indexed_call_of, filled_pending};
 ghost use Rattle.indexed_outcome.specs.Contract.{IndexedBy};
 ghost use Rattle.indexed_core.specs.Steps.{new_index, Ready, with_index, Wrote, indexed_emitted_by, indexed_left_by};
 
 use descriptors::Descriptors;
-use emit_dispatch::LineEmit;
+use emit_checks::LineRead;
 use emit_outcome::{LineNumbers, LinePlace, Lists, RefusedLine};
 use emit_pairs::EmitInstruction;
 use indexed_outcome::{IndexedAppended, IndexedCounts, IndexedEmitted};
@@ -71,11 +72,10 @@ fn check_lists(
 
 // The words of a line that was made, by labels that are not refused.
 fn words_of<'a>(tokens: &'a [u8], labels: &'a [u8], words: &'a EmitInstruction) -> Line<'a>
-    requires { (label_layout labels.now ≡ None) × (words.now.count ≤ 5) }
+    requires { label_layout labels.now ≡ None }
     ensures { result ≡ (record { names = tokens.now; labels = labels.now; pairs = pairs_of words.now }) }
 {
-    let pairs = &words.instructions[..words.count];
-    Line::new(tokens, Named::new(labels), pairs)
+    Line::new(tokens, Named::new(labels), words.pairs())
 }
 
 // Appends a line that has room, and its uses to the index.
@@ -92,7 +92,7 @@ fn append_indexed(
     words: EmitInstruction,
     position: u32,
 ) -> IndexedAppended
-    requires ready { Ready tokens.now labels.now index.old (lent_of «data».old pending.old breakpoints.old) numbers fill × (words.count ≤ 5) }
+    requires ready { Ready tokens.now labels.now index.old (lent_of «data».old pending.old breakpoints.old) numbers fill }
     requires emit_value { room_stop tokens.now line numbers (lent_of «data».old pending.old breakpoints.old) (pairs_of words) ≡ Ok tt }
     requires emit_in_bounds { length (new_index labels.now tokens.now (filled_pending (lent_of «data».old pending.old breakpoints.old) numbers.counts) (pairs_of words)) ≤ length index.old }
     ensures { Wrote tokens.now labels.now index.old index.new line numbers
@@ -121,7 +121,7 @@ fn append_indexed(
     }
 }
 
-// Refusals 4 to 12 and 17 of a line that was made, or the line and its uses appended.
+// Refusals 4 to 12 and 17 of a line that was read, or the line and its uses appended.
 fn append_or_refuse(
     tokens: &[u8],
     data: &mut [u8],
@@ -131,26 +131,18 @@ fn append_or_refuse(
     index: &mut [u8],
     numbers: LineNumbers,
     fill: u32,
-    line: Location,
-    made: LineEmit,
+    read: LineRead,
 ) -> Result<IndexedAppended, RefusedLine>
-    requires { Ready tokens.now labels.now index.old (lent_of «data».old pending.old breakpoints.old) numbers fill × MadeGood tokens.now made }
-    ensures { with_index line numbers (lent_of «data».old pending.old breakpoints.old) fill index.old
-        (new_index labels.now tokens.now (filled_pending (lent_of «data».old pending.old breakpoints.old) numbers.counts) (made_line made).pairs)
-        (line_outcome tokens.now line numbers (lent_of «data».old pending.old breakpoints.old) (made_line made))
-        (line_outcome tokens.now line numbers (lent_of «data».old pending.old breakpoints.old) (made_line made)).answer
+    requires { Ready tokens.now labels.now index.old (lent_of «data».old pending.old breakpoints.old) numbers fill }
+    ensures { with_index read.line numbers (lent_of «data».old pending.old breakpoints.old) fill index.old
+        (new_index labels.now tokens.now (filled_pending (lent_of «data».old pending.old breakpoints.old) numbers.counts) (made_line read).pairs)
+        (line_outcome tokens.now read.line numbers (lent_of «data».old pending.old breakpoints.old) (made_line read))
+        (line_outcome tokens.now read.line numbers (lent_of «data».old pending.old breakpoints.old) (made_line read)).answer
         ≡ indexed_left_by (record { counts = numbers.counts; index = fill }) result (lent_of «data».new pending.new breakpoints.new) index.new }
 {
-    let position = made.cursor.index as u32;
-    let passed = emit_checks::check_line(
-        tokens,
-        &*data,
-        &*pending,
-        &*breakpoints,
-        numbers,
-        line,
-        made,
-    );
+    let line = read.line;
+    let position = read.position;
+    let passed = emit_checks::check_line(tokens, &*data, &*pending, &*breakpoints, numbers, read);
     let words = emit_checks::at_position(position, passed)?;
     let uses = Uses::new(&index[..fill as usize]);
     let size = words_of(tokens, labels, &words).size_with(&uses);
@@ -212,8 +204,7 @@ fn emit_named(
         index,
         numbers,
         fill,
-        read.line,
-        read.made,
+        read,
     )
 }
 

@@ -8,7 +8,10 @@ use Rattle.text.specs.Text.{field, last_field}
 use Rattle.text.proofs.TextLaws.{field_most, last_most}
 use Rattle.line_text.specs.Line.{answer_text, loaded_text}
 use Rattle.line_text.proofs.LineLaws.{answer_most, loaded_most}
-use Rattle.indexed_text.specs.IndexedText.{fills_line, head_text}
+use Rattle.bytes_line.specs.BytesLine.{bytes_line}
+use Rattle.bytes_line.proofs.BytesLineLaws.{bytes_length}
+use Rattle.indexed_outcome.specs.Indexed.{IndexedOutcome}
+use Rattle.indexed_text.specs.IndexedText.{fills_line, head_text, outcome_text}
 
 pub fills_length : (c : IndexedCounts) → length (fills_line c)
     ≡ 5 + length (field c.counts.data_len) + length (field c.counts.pending) + length (field c.counts.breakpoints) + length (last_field c.index)
@@ -27,3 +30,19 @@ head_length a c = omega (arith, length-append (answer_text a ++ fills_line c) (l
 
 pub head_most : (a : EmitAnswer) (c : IndexedCounts) → length (head_text a c) ≤ 247
 head_most a c = omega (arith, head_length a c, answer_most a, fills_most c, loaded_most a)
+
+pub outcome_length : (o : IndexedOutcome) → length (outcome_text o)
+    ≡ length (head_text o.answer o.counts) + length (bytes_line (bytes_of "data ") o.lent.region_data) + length (bytes_line (bytes_of "pending ") o.lent.pending)
+    + length (bytes_line (bytes_of "breakpoints ") o.lent.breakpoints) + length (bytes_line (bytes_of "index ") o.index)
+unfolding outcome_text
+outcome_length o =
+    let one = head_text o.answer o.counts ++ bytes_line (bytes_of "data ") o.lent.region_data in
+    let two = one ++ bytes_line (bytes_of "pending ") o.lent.pending in
+    let three = two ++ bytes_line (bytes_of "breakpoints ") o.lent.breakpoints in
+    omega (arith, length-append three (bytes_line (bytes_of "index ") o.index), length-append two (bytes_line (bytes_of "breakpoints ") o.lent.breakpoints), length-append one (bytes_line (bytes_of "pending ") o.lent.pending), length-append (head_text o.answer o.counts) (bytes_line (bytes_of "data ") o.lent.region_data))
+
+-- with buffers that are as long as they are held
+pub outcome_most : (o : IndexedOutcome) → length o.lent.region_data ≤ 65537 → length o.lent.pending ≤ 65537 → length o.lent.breakpoints ≤ 65537 → length o.index ≤ 65537
+    → length (outcome_text o) ≤ 525000
+outcome_most o d p b u =
+    omega (arith, outcome_length o, head_most o.answer o.counts, bytes_length (bytes_of "data ") o.lent.region_data, bytes_length (bytes_of "pending ") o.lent.pending, bytes_length (bytes_of "breakpoints ") o.lent.breakpoints, bytes_length (bytes_of "index ") o.index, d, p, b, u)

@@ -8,7 +8,7 @@ use Rattle.emit_outcome.specs.declared.LinePlace.{LinePlace}
 use Rattle.emit_outcome.specs.Answer.{EmitAnswer}
 use Rattle.emit_outcome.specs.Call.{Lent, lent_of, call_of}
 use Rattle.indexed_outcome.specs.declared.IndexedCounts.{IndexedCounts}
-use Rattle.indexed_outcome.specs.Indexed.{IndexedOutcome, indexed_call_of, indexed_outcome}
+use Rattle.indexed_outcome.specs.Indexed.{IndexedCall, IndexedOutcome, indexed_call_of, indexed_outcome}
 use Rattle.input.specs.Input.{word_or_zero, half_or_zero, behind_lists, list_of, held}
 use Rattle.text.specs.Text.{field, last_field}
 use Rattle.bytes_line.specs.BytesLine.{bytes_line}
@@ -41,11 +41,14 @@ counts_in s = record { counts = three_in s; index = word_or_zero s 12 }
 abbrev pub place_in : List ℕ → LinePlace
 place_in s = record { position = word_or_zero s 16; region = half_or_zero s 20; address = word_or_zero s 22 }
 
+abbrev pub call_in : List ℕ → Lent → (index : List ℕ) → IndexedCall
+call_in s lent index =
+    let rest = behind_lists 8 s in
+    indexed_call_of (call_of (list_of 0 s) (list_of 1 s) (list_of 2 s) lent (counts_in rest).counts (place_in rest)) (list_of 6 s) index (counts_in rest).index
+
 -- "it reads no job (the commit's)"
 abbrev pub call_text : List ℕ → Lent → (index : List ℕ) → List ℕ
-call_text s lent index =
-    let rest = behind_lists 8 s in
-    outcome_text (indexed_outcome Commit (indexed_call_of (call_of (list_of 0 s) (list_of 1 s) (list_of 2 s) lent (counts_in rest).counts (place_in rest)) (list_of 6 s) index (counts_in rest).index))
+call_text s lent index = outcome_text (indexed_outcome Commit (call_in s lent index))
 
 -- with the four buffers that the call may change as they are held
 unfoldable pub emit_indexed_text : List ℕ → List ℕ

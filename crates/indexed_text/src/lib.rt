@@ -2,13 +2,15 @@
 // has it, and what the call leaves.
 #![tactic(auto)]
 
-ghost use Rattle.std.specs.Prelude.{◌≡◌, [], ◌++◌, ◌+◌, ◌≤◌, length};
+ghost use Rattle.std.specs.Prelude.{◌≡◌, ◌++◌, ◌+◌, ◌≤◌, length};
+ghost use Rattle.jobs.specs.declared.Job.TheVariants.{Commit};
 ghost use Rattle.emit_outcome.specs.Call.{lent_of};
 ghost use Rattle.indexed_outcome.specs.Indexed.{indexed_outcome_of};
-ghost use Rattle.indexed_text.specs.IndexedText.{fills_line, head_text, outcome_text, counts_in, place_in, call_text, emit_indexed_text};
+ghost use Rattle.indexed_outcome.specs.Contract.{IndexedBy};
+ghost use Rattle.indexed_text.specs.IndexedText.{fills_line, head_text, outcome_text, counts_in, place_in, call_in, emit_indexed_text};
 
 use emit_outcome::{EmitAnswer, FillCounts, LinePlace};
-use indexed_outcome::IndexedCounts;
+use indexed_outcome::{IndexedCounts, IndexedEmitted};
 use jobs::Job;
 use program::Program;
 use text::{MOST, Printed};
@@ -61,65 +63,55 @@ fn put_head(out: &mut Printed, answer: EmitAnswer, counts: IndexedCounts)
     line_text::lines::put_loaded(out, answer);
 }
 
-// What a call answers and what the buffers hold after it.
-#[tactic(auto, using(crate::proofs::IndexedTextLaws::head_most, bytes_line::proofs::BytesLineLaws::bytes_length, std::proofs::lemmas::Grind::common_steps))]
-fn put_emitted(
-    out: &mut Printed,
-    answer: EmitAnswer,
-    counts: IndexedCounts,
-    data: &[u8],
-    pending: &[u8],
-    breakpoints: &[u8],
-    index: &[u8],
-)
-    requires { (out.old ≡ []) × (length «data».now ≤ 65537) × (length pending.now ≤ 65537) × (length breakpoints.now ≤ 65537) × (length index.now ≤ 65537) }
-    ensures { out.new ≡ outcome_text (indexed_outcome_of answer counts
-        (lent_of «data».now pending.now breakpoints.now) index.now) }
-{
-    put_head(&mut *out, answer, counts);
-    bytes_line::push_bytes(&mut *out, b"data ", data);
-    bytes_line::push_bytes(&mut *out, b"pending ", pending);
-    bytes_line::push_bytes(&mut *out, b"breakpoints ", breakpoints);
-    bytes_line::push_bytes(out, b"index ", index);
-}
-
 // Makes the call of an input whose buffers that it may change are these.
-fn put_call(
-    out: &mut Printed,
+fn make_call(
     input: &[u8],
     data: &mut [u8],
     pending: &mut [u8],
     breakpoints: &mut [u8],
     index: &mut [u8],
-)
-    requires { (out.old ≡ []) × (length «data».old ≤ 65537) × (length pending.old ≤ 65537) × (length breakpoints.old ≤ 65537) × (length index.old ≤ 65537) }
-    ensures { out.new ≡ call_text input.now (lent_of «data».old pending.old breakpoints.old) index.old }
+) -> IndexedEmitted
+    ensures { IndexedBy Commit (call_in input.now (lent_of «data».old pending.old breakpoints.old) index.old)
+        result.answer result.counts (lent_of «data».new pending.new breakpoints.new) index.new }
 {
     let rest = input::behind_lists(input, 8);
     let mut counts = counts_in(rest);
-    let place = place_in(rest);
     let answer = indexed::do_indexed(
         &mut counts,
         input::list_of(input, 0),
         input::list_of(input, 1),
         input::list_of(input, 2),
-        &mut *data,
-        &mut *pending,
-        &mut *breakpoints,
+        data,
+        pending,
+        breakpoints,
         input::list_of(input, 6),
-        &mut *index,
-        place,
+        index,
+        place_in(rest),
         Job::Commit,
     );
-    put_emitted(
-        out,
-        answer,
-        counts,
-        &*data,
-        &*pending,
-        &*breakpoints,
-        &*index,
-    );
+    IndexedEmitted { answer, counts }
+}
+
+// What a call answers and what the buffers hold after it.
+#[tactic(auto, using(crate::proofs::IndexedTextLaws::outcome_length, std::proofs::lemmas::Grind::common_steps), unfolding(crate::specs::IndexedText::outcome_text))]
+fn put_emitted(
+    out: &mut Printed,
+    emitted: IndexedEmitted,
+    data: &[u8],
+    pending: &[u8],
+    breakpoints: &[u8],
+    index: &[u8],
+)
+    requires { length out.old + length (outcome_text (indexed_outcome_of emitted.answer emitted.counts
+        (lent_of «data».now pending.now breakpoints.now) index.now)) ≤ MOST }
+    ensures { out.new ≡ out.old ++ outcome_text (indexed_outcome_of emitted.answer emitted.counts
+        (lent_of «data».now pending.now breakpoints.now) index.now) }
+{
+    put_head(&mut *out, emitted.answer, emitted.counts);
+    bytes_line::push_bytes(&mut *out, b"data ", data);
+    bytes_line::push_bytes(&mut *out, b"pending ", pending);
+    bytes_line::push_bytes(&mut *out, b"breakpoints ", breakpoints);
+    bytes_line::push_bytes(out, b"index ", index);
 }
 
 // The text that `emit_indexed` prints for an input.
@@ -134,15 +126,19 @@ pub fn emit_indexed(input: &[u8], out: &mut Printed)
     let p = input::hold(&mut pending, input::list_of(input, 4));
     let b = input::hold(&mut breakpoints, input::list_of(input, 5));
     let u = input::hold(&mut index, input::list_of(input, 7));
-    out.clear();
-    put_call(
-        out,
+    let data = &mut data[..d];
+    let pending = &mut pending[..p];
+    let breakpoints = &mut breakpoints[..b];
+    let index = &mut index[..u];
+    let emitted = make_call(
         input,
-        &mut data[..d],
-        &mut pending[..p],
-        &mut breakpoints[..b],
-        &mut index[..u],
+        &mut *data,
+        &mut *pending,
+        &mut *breakpoints,
+        &mut *index,
     );
+    out.clear();
+    put_emitted(out, emitted, data, pending, breakpoints, index);
 }
 
 // `emit_indexed` as a program.

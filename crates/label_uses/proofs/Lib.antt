@@ -15,6 +15,7 @@ pub mod OnlyLaws
 pub mod ReadUseLaws
 pub mod Renaming
 pub mod SaysLaws
+pub mod StandingLaws
 pub mod UseBytesLaws
 pub mod UseOrderLaws
 pub mod Worked

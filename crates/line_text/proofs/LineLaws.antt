@@ -7,9 +7,12 @@ use Rattle.loading.specs.declared.LoadForm.{LoadForm}
 use Rattle.loading.specs.declared.LoadForm.TheVariants.{Nothing, Addiu, Ori, Lui, BothHalves}
 use Rattle.emit_outcome.specs.declared.FillCounts.{FillCounts}
 use Rattle.emit_outcome.specs.Answer.{EmitAnswer}
+use Rattle.emit_outcome.specs.Call.{EmitOutcome}
 use Rattle.text.specs.Text.{field, last_field, refused_line}
 use Rattle.text.proofs.TextLaws.{field_most, last_most, refused_most}
-use Rattle.line_text.specs.Line.{position_line, answer_text, fills_line, loaded_line, loaded_text, head_text}
+use Rattle.bytes_line.specs.BytesLine.{bytes_line}
+use Rattle.bytes_line.proofs.BytesLineLaws.{bytes_length}
+use Rattle.line_text.specs.Line.{position_line, answer_text, fills_line, loaded_line, loaded_text, head_text, outcome_text}
 
 pub position_most : (position : ℕ) → length (position_line position) ≤ 30
 position_most position = omega (arith, last_most position)
@@ -44,3 +47,17 @@ head_length a c = omega (arith, length-append (answer_text a ++ fills_line c) (l
 
 pub head_most : (a : EmitAnswer) (c : FillCounts) → length (head_text a c) ≤ 226
 head_most a c = omega (arith, head_length a c, answer_most a, fills_most c, loaded_most a)
+
+pub outcome_length : (o : EmitOutcome) → length (outcome_text o)
+    ≡ length (head_text o.answer o.counts) + length (bytes_line (bytes_of "data ") o.lent.region_data) + length (bytes_line (bytes_of "pending ") o.lent.pending) + length (bytes_line (bytes_of "breakpoints ") o.lent.breakpoints)
+unfolding outcome_text
+outcome_length o =
+    let one = head_text o.answer o.counts ++ bytes_line (bytes_of "data ") o.lent.region_data in
+    let two = one ++ bytes_line (bytes_of "pending ") o.lent.pending in
+    omega (arith, length-append two (bytes_line (bytes_of "breakpoints ") o.lent.breakpoints), length-append one (bytes_line (bytes_of "pending ") o.lent.pending), length-append (head_text o.answer o.counts) (bytes_line (bytes_of "data ") o.lent.region_data))
+
+-- with buffers that are as long as they are held
+pub outcome_most : (o : EmitOutcome) → length o.lent.region_data ≤ 65537 → length o.lent.pending ≤ 65537 → length o.lent.breakpoints ≤ 65537
+    → length (outcome_text o) ≤ 400000
+outcome_most o d p b =
+    omega (arith, outcome_length o, head_most o.answer o.counts, bytes_length (bytes_of "data ") o.lent.region_data, bytes_length (bytes_of "pending ") o.lent.pending, bytes_length (bytes_of "breakpoints ") o.lent.breakpoints, d, p, b)

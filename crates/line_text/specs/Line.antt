@@ -12,7 +12,7 @@ use Rattle.emit_outcome.specs.declared.FillCounts.{FillCounts}
 use Rattle.emit_outcome.specs.declared.LinePlace.{LinePlace}
 use Rattle.emit_outcome.specs.declared.LineNumbers.{LineNumbers}
 use Rattle.emit_outcome.specs.Answer.{EmitAnswer}
-use Rattle.emit_outcome.specs.Call.{Lent, EmitOutcome, lent_of, call_of}
+use Rattle.emit_outcome.specs.Call.{Call, Lent, EmitOutcome, lent_of, call_of}
 use Rattle.emit_outcome.specs.Emit.{emit_outcome}
 use Rattle.input.specs.Input.{word_or_zero, half_or_zero, behind_lists, list_of, held}
 use Rattle.text.specs.Text.{field, last_field, refused_line}
@@ -62,10 +62,13 @@ place_in s = record { position = word_or_zero s 12; region = half_or_zero s 16; 
 abbrev pub numbers_in : List ℕ → LineNumbers
 numbers_in s = record { counts = counts_in s; place = place_in s }
 
-abbrev pub call_text : Job → List ℕ → Lent → List ℕ
-call_text job s lent =
+abbrev pub call_in : List ℕ → Lent → Call
+call_in s lent =
     let rest = behind_lists 6 s in
-    outcome_text (emit_outcome job (call_of (list_of 0 s) (list_of 1 s) (list_of 2 s) lent (counts_in rest) (place_in rest)))
+    call_of (list_of 0 s) (list_of 1 s) (list_of 2 s) lent (counts_in rest) (place_in rest)
+
+abbrev pub call_text : Job → List ℕ → Lent → List ℕ
+call_text job s lent = outcome_text (emit_outcome job (call_in s lent))
 
 -- with the three buffers that the call may change as they are held
 unfoldable pub job_text : Job → List ℕ → List ℕ

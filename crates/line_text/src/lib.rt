@@ -2,14 +2,15 @@
 // the call leaves.
 #![tactic(auto)]
 
-ghost use Rattle.std.specs.Prelude.{◌≡◌, [], ◌≤◌, length};
+ghost use Rattle.std.specs.Prelude.{◌≡◌, ◌++◌, ◌+◌, ◌≤◌, length};
 ghost use Rattle.emit_outcome.specs.Call.{lent_of, outcome_of};
-ghost use Rattle.line_text.specs.Line.{numbers_in, outcome_text, call_text, job_text, job_numbered, job_in, line_text};
+ghost use Rattle.emit_outcome.specs.Contract.{EmittedBy};
+ghost use Rattle.line_text.specs.Line.{numbers_in, outcome_text, call_in, job_text, job_numbered, job_in, line_text};
 
 use emit_outcome::{Emitted, FillCounts, LineNumbers, LinePlace};
 use jobs::Job;
 use program::Program;
-use text::Printed;
+use text::{MOST, Printed};
 
 pub mod lines;
 
@@ -30,11 +31,39 @@ fn numbers_in(input: &[u8]) -> LineNumbers
     LineNumbers { counts, place }
 }
 
+// Makes the call of an input whose last three buffers are these.
+fn make_call(
+    job: Job,
+    input: &[u8],
+    data: &mut [u8],
+    pending: &mut [u8],
+    breakpoints: &mut [u8],
+) -> Emitted
+    ensures { EmittedBy job (call_in input.now (lent_of «data».old pending.old breakpoints.old))
+        result.answer result.counts (lent_of «data».new pending.new breakpoints.new) }
+{
+    let numbers = numbers_in(input::behind_lists(input, 6));
+    let mut counts = numbers.counts;
+    let answer = emit::do_job(
+        job,
+        &mut counts,
+        input::list_of(input, 0),
+        input::list_of(input, 1),
+        input::list_of(input, 2),
+        data,
+        pending,
+        breakpoints,
+        numbers.place,
+    );
+    Emitted { answer, counts }
+}
+
 // What a call answers and what the buffers hold after it.
-#[tactic(auto, using(crate::proofs::LineLaws::head_most, bytes_line::proofs::BytesLineLaws::bytes_length, std::proofs::lemmas::Grind::common_steps), unfolding(crate::specs::Line::outcome_text))]
+#[tactic(auto, using(crate::proofs::LineLaws::outcome_length, std::proofs::lemmas::Grind::common_steps), unfolding(crate::specs::Line::outcome_text))]
 fn put_emitted(out: &mut Printed, emitted: Emitted, data: &[u8], pending: &[u8], breakpoints: &[u8])
-    requires { (out.old ≡ []) × (length «data».now ≤ 65537) × (length pending.now ≤ 65537) × (length breakpoints.now ≤ 65537) }
-    ensures { out.new ≡ outcome_text (outcome_of emitted.answer emitted.counts
+    requires { length out.old + length (outcome_text (outcome_of emitted.answer emitted.counts
+        (lent_of «data».now pending.now breakpoints.now))) ≤ MOST }
+    ensures { out.new ≡ out.old ++ outcome_text (outcome_of emitted.answer emitted.counts
         (lent_of «data».now pending.now breakpoints.now)) }
 {
     lines::put_head(&mut *out, emitted.answer, emitted.counts);
@@ -43,39 +72,8 @@ fn put_emitted(out: &mut Printed, emitted: Emitted, data: &[u8], pending: &[u8],
     bytes_line::push_bytes(out, b"breakpoints ", breakpoints);
 }
 
-// Makes the call of an input whose last three buffers are these.
-fn put_call(
-    job: Job,
-    out: &mut Printed,
-    input: &[u8],
-    data: &mut [u8],
-    pending: &mut [u8],
-    breakpoints: &mut [u8],
-)
-    requires { (out.old ≡ []) × (length «data».old ≤ 65537) × (length pending.old ≤ 65537) × (length breakpoints.old ≤ 65537) }
-    ensures { out.new ≡ call_text job input.now (lent_of «data».old pending.old breakpoints.old) }
-{
-    let numbers = numbers_in(input::behind_lists(input, 6));
-    let place = numbers.place;
-    let mut counts = numbers.counts;
-    let answer = emit::do_job(
-        job,
-        &mut counts,
-        input::list_of(input, 0),
-        input::list_of(input, 1),
-        input::list_of(input, 2),
-        &mut *data,
-        &mut *pending,
-        &mut *breakpoints,
-        place,
-    );
-    let emitted = Emitted { answer, counts };
-    put_emitted(out, emitted, &*data, &*pending, &*breakpoints);
-}
-
 // The text of an input's call in a job.
 fn put_job(job: Job, input: &[u8], out: &mut Printed)
-    requires { out.old ≡ [] }
     ensures { out.new ≡ job_text job input.now }
 {
     let mut data = [0u8; record::LIMIT + 1];
@@ -84,14 +82,12 @@ fn put_job(job: Job, input: &[u8], out: &mut Printed)
     let d = input::hold(&mut data, input::list_of(input, 3));
     let p = input::hold(&mut pending, input::list_of(input, 4));
     let b = input::hold(&mut breakpoints, input::list_of(input, 5));
-    put_call(
-        job,
-        out,
-        input,
-        &mut data[..d],
-        &mut pending[..p],
-        &mut breakpoints[..b],
-    );
+    let data = &mut data[..d];
+    let pending = &mut pending[..p];
+    let breakpoints = &mut breakpoints[..b];
+    let emitted = make_call(job, input, &mut *data, &mut *pending, &mut *breakpoints);
+    out.clear();
+    put_emitted(out, emitted, data, pending, breakpoints);
 }
 
 // The job of that number.
@@ -117,10 +113,12 @@ fn job_in(input: &[u8]) -> Option<Job>
 pub fn emit_line(input: &[u8], out: &mut Printed)
     ensures { out.new ≡ line_text input.now }
 {
-    out.clear();
     match job_in(input) {
         Some(job) => put_job(job, input, out),
-        None => out.push(b"no such job\n"),
+        None => {
+            out.clear();
+            out.push(b"no such job\n");
+        }
     }
 }
 

@@ -4,7 +4,10 @@ ghost use Rattle.line_text.specs.Line.{answer_text, fills_line, loaded_line, loa
 
 use emit_outcome::{EmitAnswer, FillCounts};
 use loading::LoadForm;
-use text::{MOST, Printed};
+use text::{MOST, Printed, Text};
+
+// Room for three counts of twenty digits.
+const MOST_FILLS: usize = 69;
 
 // The refusal where there is one, and the position.
 pub fn put_answer(out: &mut Printed, answer: EmitAnswer)
@@ -20,16 +23,25 @@ pub fn put_answer(out: &mut Printed, answer: EmitAnswer)
     }
 }
 
-#[tactic(auto, using(crate::proofs::LineLaws::fills_length), unfolding(crate::specs::Line::fills_line))]
-// The fill counts.
+// The line of the fill counts, in a text of its own: whatever the counts are, there is room.
+#[tactic(auto, using(text::proofs::TextLaws::field_most, text::proofs::TextLaws::last_most, std::proofs::lemmas::Grind::common_steps), unfolding(crate::specs::Line::fills_line))]
+fn fills_line(counts: FillCounts) -> Text<MOST_FILLS>
+    ensures { result ≡ fills_line counts }
+{
+    let mut line = Text::new();
+    line.push(b"fills");
+    line.push_field(counts.data_len as u64);
+    line.push_field(counts.pending as u64);
+    line.push_last_field(counts.breakpoints as u64);
+    line
+}
+
 pub fn put_fills(out: &mut Printed, counts: FillCounts)
     requires { length out.old + length (fills_line counts) ≤ MOST }
     ensures { out.new ≡ out.old ++ fills_line counts }
 {
-    out.push(b"fills");
-    out.push_field(counts.data_len as u64);
-    out.push_field(counts.pending as u64);
-    out.push_last_field(counts.breakpoints as u64);
+    let line = fills_line(counts);
+    out.push(line.as_bytes());
 }
 
 fn put_form(out: &mut Printed, form: LoadForm)

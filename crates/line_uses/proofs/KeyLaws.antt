@@ -3,18 +3,21 @@ use Rattle.std.specs.Prelude.{ℕ, ◌+◌, ◌≤◌, List, Bool, true, false, 
 use Rattle.std.specs.Result.{is_ok}
 use Rattle.std.proofs.Common.{arith, sym, ap, ap₂, ◌∙◌, length-take, length-drop}
 use Rattle.record.specs.Bytes.{part}
-use Rattle.name_order.specs.Order.{then_by, numbers, order}
+use Rattle.name_order.specs.Order.{then_by, order}
 use Rattle.name_order.proofs.OrderLaws.{same_is}
 use Rattle.address_label.specs.LabelBytes.{name_bytes}
 use Rattle.address_label.specs.declared.AddressLabel.{AddressLabel}
 use Rattle.address_label.specs.declared.AddressLabel.TheVariants.{Constant, Label}
 use Rattle.address_label.specs.declared.NamedLabel.{NamedLabel}
 use Rattle.emit_pairs.specs.declared.InstructionPair.{InstructionPair}
-use Rattle.label_uses.specs.Uses.{is_known, kept_of, UseKey, Use, known_order, use_order, key_for}
+use Rattle.label_uses.specs.Uses.{UseKey, Use, use_order, key_for}
+use Rattle.label_uses.specs.ReadUse.{key_with}
+use Rattle.label_uses.specs.declared.Standing.{Standing}
 use Rattle.label_uses.specs.Says.{KeysRise}
 use Rattle.label_uses.proofs.InsertLaws.{rise_all}
 use Rattle.label_uses.proofs.FitsLaws.{key_name}
-use Rattle.use_adding.specs.Adding.{IndexIn, FindsIn}
+use Rattle.label_uses.proofs.StandingLaws.{standing_order}
+use Rattle.use_adding.specs.Adding.{IndexIn, Finds, FindsIn}
 use Rattle.line_uses.specs.LineUses.{is_same, same_key, has_key, label_has, key_among, growth_of, label_growth}
 use Rattle.line_uses.specs.LineIndex.{held_by, LabelGrows}
 use Rattle.line_uses.proofs.HasLaws.{place_has}
@@ -37,6 +40,15 @@ is_same_order Less e = absurd cc
 is_same_order Equal e = refl
 is_same_order Greater e = absurd cc
 
+-- where a key stands, or else where it sorts
+abbrev pub place_of : Result ℕ ℕ → ℕ
+place_of (Ok at) = at
+place_of (Err at) = at
+
+pub found_in : (s : List ℕ) (k : UseKey) (r : Result ℕ ℕ) → FindsIn s k r → Finds s (length s) k (place_of r) (is_ok r)
+found_in s k (Ok at) f = f
+found_in s k (Err at) f = f
+
 -- ---- a label that is a name, of which `other` are the bytes
 module _ (labels names : List ℕ) (x : AddressLabel) (l : NamedLabel) (e : x ≡ Label l) (other : List ℕ) (m : other ≡ name_bytes names x) where
   abbrev key : UseKey
@@ -48,17 +60,28 @@ module _ (labels names : List ℕ) (x : AddressLabel) (l : NamedLabel) (e : x �
   has_key_lem : (k : UseKey) → label_has labels names k x ≡ same_key k key
   has_key_lem k = ap (label_has labels names k) e ∙ ap (λ (n : List ℕ). same_key k (key_for labels l.location.source n)) bytes_are
 
-  -- where the names differ, what the label stands for is not looked up
+  -- by the names, and where these are equal by what they stand for
   module _ (k : UseKey) where
+    by_name : (o : Ordering) → order k.name other ≡ o → use_order k key ≡ then_by o (standing_order k.standing key.standing)
+    by_name o f =
+        ap (λ (p : Ordering). then_by p (standing_order k.standing key.standing)) (ap (order k.name) (key_name labels l.location.source other) ∙ f)
+
+    -- where the names differ, what the label stands for is not looked up
+    pub has_less : order k.name other ≡ Less → false ≡ label_has labels names k x
+    has_less f = sym (has_key_lem k ∙ ap is_same (by_name Less f))
+
+    pub has_more : order k.name other ≡ Greater → false ≡ label_has labels names k x
+    has_more f = sym (has_key_lem k ∙ ap is_same (by_name Greater f))
+
     pub has_unlike : (o : Ordering) → order k.name other ≡ o → is_eq o ≡ false → false ≡ label_has labels names k x
-    has_unlike o f u =
-        let n : order k.name key.name ≡ o = ap (order k.name) (key_name labels l.location.source other) ∙ f in
-        sym (has_key_lem k ∙ go o n u)
-      where
-        go : (o : Ordering) → order k.name key.name ≡ o → is_eq o ≡ false → same_key k key ≡ false
-        go Less n u = ap (λ (p : Ordering). is_same (then_by p (then_by (known_order (is_known k.standing) (is_known key.standing)) (numbers (kept_of k.standing) (kept_of key.standing))))) n
-        go Greater n u = ap (λ (p : Ordering). is_same (then_by p (then_by (known_order (is_known k.standing) (is_known key.standing)) (numbers (kept_of k.standing) (kept_of key.standing))))) n
-        go Equal n u = absurd cc
+    has_unlike Less f u = has_less f
+    has_unlike Equal f u = absurd cc
+    has_unlike Greater f u = has_more f
+
+    -- where they are equal, what the label stands for decides
+    pub has_same : order k.name other ≡ Equal → (met : Standing) → key_with other met ≡ key → (o : Ordering) → standing_order k.standing met ≡ o → is_same o ≡ label_has labels names k x
+    has_same f met t o g =
+        sym (has_key_lem k ∙ ap is_same (by_name Equal f ∙ sym (ap (λ (q : UseKey). standing_order k.standing q.standing) t) ∙ g))
 
     pub has_alike : order k.name other ≡ Equal → is_eq (use_order k (key_for labels l.location.source k.name)) ≡ label_has labels names k x
     has_alike f =
@@ -66,7 +89,7 @@ module _ (labels names : List ℕ) (x : AddressLabel) (l : NamedLabel) (e : x �
         ∙ same_eq (use_order k key) ∙ sym (has_key_lem k)
 
   -- ---- how much longer an index is with it
-  module _ (k : UseKey) (t : k ≡ key) (s : List ℕ) (before : List InstructionPair) where
+  module _ (k : UseKey) (t : k ≡ key) (d : List ℕ) (fill : ℕ) (before : List InstructionPair) where
     grows_by : (us : List Use) (held : Bool) → held_by labels names us before k ≡ held → growth_of held other ≡ label_growth labels names (held_by labels names us before) x
     grows_by us held h =
         sym (ap (label_growth labels names (held_by labels names us before)) e
@@ -78,19 +101,15 @@ module _ (labels names : List ℕ) (x : AddressLabel) (l : NamedLabel) (e : x �
     or_right true = refl
     or_right false = refl
 
-    module _ (r : Result ℕ ℕ) (finds : FindsIn s k r) where
-      has : (us : List Use) → IndexIn s (length s) us → KeysRise us → has_key k us ≡ is_ok r
-      has us i h = go r finds
-        where
-          go : (r : Result ℕ ℕ) → FindsIn s k r → has_key k us ≡ is_ok r
-          go (Ok at) f = place_has us k at true (rise_all us h) (f us i)
-          go (Err at) f = place_has us k at false (rise_all us h) (f us i)
+    module _ (at : ℕ) (found : Bool) (finds : Finds d fill k at found) where
+      has : (us : List Use) → IndexIn d fill us → KeysRise us → has_key k us ≡ found
+      has us i r = place_has us k at found (rise_all us r) (finds us i)
 
-      pub grows_found : is_ok r ≡ true → LabelGrows labels names s (length s) before x 2
-      grows_found f us i h = grows_by us true (ap (λ (b : Bool). b || key_among labels names k before) (has us i h ∙ f))
+      pub grows_found : found ≡ true → LabelGrows labels names d fill before x 2
+      grows_found f us i r = grows_by us true (ap (λ (b : Bool). b || key_among labels names k before) (has us i r ∙ f))
 
-      pub grows_among : key_among labels names k before ≡ true → LabelGrows labels names s (length s) before x 2
-      grows_among g us i h = grows_by us true (ap (λ (b : Bool). has_key k us || b) g ∙ or_right (has_key k us))
+      pub grows_among : key_among labels names k before ≡ true → LabelGrows labels names d fill before x 2
+      grows_among g us i r = grows_by us true (ap (λ (b : Bool). has_key k us || b) g ∙ or_right (has_key k us))
 
-      pub grows_new : is_ok r ≡ false → key_among labels names k before ≡ false → LabelGrows labels names s (length s) before x (13 + length other)
-      grows_new f g us i h = grows_by us false (ap₂ ◌||◌ (has us i h ∙ f) g)
+      pub grows_new : found ≡ false → key_among labels names k before ≡ false → LabelGrows labels names d fill before x (13 + length other)
+      grows_new f g us i r = grows_by us false (ap₂ ◌||◌ (has us i r ∙ f) g)

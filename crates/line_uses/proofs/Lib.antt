@@ -1,3 +1,4 @@
+pub mod AddsLabelLaws
 pub mod HasLaws
 pub mod KeyLaws
 pub mod LineLaws

@@ -17,10 +17,11 @@ use Rattle.label_uses.proofs.UseBytesLaws.{insert_length}
 use Rattle.label_uses.proofs.IndexLaws.{written_first}
 use Rattle.label_uses.proofs.InsertLaws.{Rises}
 use Rattle.use_adding.specs.Adding.{IndexIn}
-use Rattle.use_adding.specs.Making.{AddsOneTo, KeepsOwners, RoomForOne}
+use Rattle.use_adding.specs.Making.{RoomForOne}
 use Rattle.use_adding.proofs.MakingLaws.{append_again, held_is}
 use Rattle.line_uses.specs.LineUses.{pair_use, next_number, line_uses, number_after, has_key, pair_growth}
 use Rattle.line_uses.specs.LineIndex.{held_by, OwnersFit, RoomForPair, AddsPair, AddsPairTo, AddsLine}
+use Rattle.line_uses.proofs.AddsLabelLaws.{AddsLabelTo}
 use Rattle.line_uses.proofs.HasLaws.{pair_grows, growth_alike, line_rises, line_has}
 
 module _ (labels names : List ℕ) where
@@ -161,11 +162,11 @@ module _ (labels names : List ℕ) (w : Option InstructionLabel) where
     pub some_room : (d : List ℕ) (fill n : ℕ) → RoomForPair labels names d fill w n → RoomForOne d labels names fill waits.label n
     some_room d fill n r = record { us = r.us; index_in = r.index_in; room = omega (arith, r.room, ap (λ (y : List Use). length (uses_bytes y)) (use_is n r.us)) }
 
-    pub some_adds : (d f : List ℕ) (fill n after : ℕ) → AddsOneTo d f labels names fill waits.label n after → KeepsOwners labels names waits.label n → AddsPairTo labels names d f fill w n after
-    some_adds d f fill n after h k us i =
+    pub some_adds : (d f : List ℕ) (fill n after : ℕ) → AddsLabelTo labels names d f fill waits.label n after → AddsPairTo labels names d f fill w n after
+    some_adds d f fill n after h us i =
         let a = h us i in
         record {
           bytes = a.bytes ∙ ap (λ (y : List Use). append d 0 (uses_bytes y)) (use_is n us);
           filled = a.filled ∙ ap (λ (y : List Use). length (uses_bytes y)) (use_is n us);
-          owners = subst OwnersFit (use_is n us) (k us i.owners);
+          owners = subst OwnersFit (use_is n us) a.owners;
         }

@@ -1,5 +1,5 @@
 -- The form of each line is that of the constant which its operands say that it loads. Assumes nothing.
-use Rattle.std.specs.Prelude.{ℕ, ◌≡◌, refl, Bool, true, false, List, ◌++◌, Err, None, Ok, Result, Some, Option}
+use Rattle.std.specs.Prelude.{ℕ, ◌≡◌, refl, Bool, true, false, List, ◌++◌, Err, None, Ok, Some, Option}
 use Rattle.std.proofs.Common.{arith, sym, ap, ◌∙◌}
 use Rattle.jobs.specs.declared.Job.{Job}
 use Rattle.registers.specs.declared.RegisterSlot.{RegisterSlot}
@@ -25,7 +25,7 @@ use Rattle.loading.specs.Load.{form_of, form_words, load_words}
 use Rattle.loading.proofs.LoadLaws.{words_by}
 use Rattle.emit_pairs.specs.declared.InstructionPair.{InstructionPair}
 use Rattle.emit_pairs.specs.declared.Fault.TheVariants.{Immediate as ImmediateFault}
-use Rattle.emit_pairs.specs.Pairs.{label_form, is_immediate, immediate_range, immediate_form}
+use Rattle.emit_pairs.specs.Pairs.{label_form, is_immediate, immediate_range, immediate_form, Range}
 use Rattle.emit_pairs.specs.Values.{value_form, maybe_form, offset_form}
 use Rattle.emit_dispatch.specs.LineAnswers.{Made}
 use Rattle.emit_dispatch.specs.Wants.{encoding_wants, pseudo_wants}
@@ -36,7 +36,6 @@ use Rattle.formats.specs.LineLoads.{LoadedConstant, into_at, value_loads, maybe_
 use Rattle.formats.specs.Operations.{Operation, encoded, pseudo, wants_of, line_of}
 use Rattle.loaded_lines.proofs.Loaded.{LoadedFirst, read_loads}
 use Rattle.loaded_lines.proofs.Forms.{form_from, Formed}
-use Rattle.emit_pairs.specs.declared.Fault.{Fault}
 
 -- ---- by operand
 
@@ -67,7 +66,7 @@ immediate_form_lem : (alt : Option Opcode) (c : ℕ) → immediate_range alt c �
 immediate_form_lem (Some alt) c h = tested (is_immediate c) c
 immediate_form_lem None c h = go (is_immediate c) h
   where
-    go : (b : Bool) → ◌≡◌ {A = Result (Unit {0}) Fault} (elim b [ true ↦ Ok tt | false ↦ Err ImmediateFault ]) (Ok tt) → elim b [ true ↦ Unloaded | false ↦ Unloaded ] ≡ form_from (elim b [ true ↦ None | false ↦ into_at c ])
+    go : (b : Bool) → ◌≡◌ {A = Range} (elim b [ true ↦ Ok tt | false ↦ Err ImmediateFault ]) (Ok tt) → elim b [ true ↦ Unloaded | false ↦ Unloaded ] ≡ form_from (elim b [ true ↦ None | false ↦ into_at c ])
     go true h = refl
     go false h = let z : ◌≡◌ {A = ℕ} 0 1 = cc in absurd (omega arith)
 
@@ -115,7 +114,7 @@ pseudo_form_lem B x = refl
 pseudo_form_lem Subi x = tested (is_immediate (with_sign true x.2)) (with_sign true x.2)
 pseudo_form_lem Subiu x = tested (is_immediate (with_sign true x.2)) (with_sign true x.2)
 
-module _ (o : Operation) (i : ℕ) (range : AskedAll (wants_of o) → Result (Unit {0}) Fault) (pairs : AskedAll (wants_of o) → List InstructionPair) (form : AskedAll (wants_of o) → LoadForm)
+module _ (o : Operation) (i : ℕ) (range : AskedAll (wants_of o) → Range) (pairs : AskedAll (wants_of o) → List InstructionPair) (form : AskedAll (wants_of o) → LoadForm)
     (forms : (x : AskedAll (wants_of o)) → range x ≡ Ok tt → form x ≡ form_from (read_loads o (Got x))) where
   made_form : (read : Answer (AskedAll (wants_of o))) → (line_by read i range pairs form).answer ≡ Made → (line_by read i range pairs form).form ≡ form_from (read_loads o read)
   made_form (Got x) h = forms x (within_made (range x) h)

@@ -4,7 +4,6 @@ use Rattle.std.proofs.Common.{arith, sym, ap₂, subst, ◌∙◌, length-take-l
 use Rattle.std.proofs.Math.Path.{ap}
 use Rattle.std.proofs.Math.ListN.{get_or-eq_default}
 use Rattle.std.proofs.lemmas.Bool.{eqb-false}
-use Rattle.record.specs.Bytes.{location_at}
 use Rattle.record.specs.Records.{body_len, kind_at, next}
 use Rattle.record.proofs.RecordsLaws.{good_ok, good_next, places_step, places_end}
 use Rattle.lexer.specs.Tokens.{payload_len, text_of, token_ok, TokenIs}
@@ -15,6 +14,7 @@ use Rattle.macros.specs.Macros.{index_of}
 use Rattle.written_out.specs.Written.{put_in}
 use Rattle.macro_tokens.specs.declared.Body.{Body}
 use Rattle.macro_tokens.specs.Places.{token_record, TokenIn, parameters_in, number_at, place_of, read_from, ReadableFrom}
+use Rattle.record.specs.Bytes.{location_at}
 
 -- ---- what is read at a place of either list
 module _ (text macros : List ℕ) (p : ℕ) where

@@ -1,9 +1,10 @@
 // The tokens that writing out reads, by their places: a body with its arguments put in, a call's arguments, and what is done with a token.
 #![tactic(auto)]
 
+ghost use Rattle.std.proofs.Props.{props};
 ghost use Rattle.std.specs.Prelude.{◌≡◌, None, ◌+◌, ◌*◌, ◌≤◌, length};
 ghost use Rattle.record.specs.Bytes.{location_at};
-ghost use Rattle.record.specs.Records.{kind_at, limit};
+ghost use Rattle.record.specs.Records.{kind_at, next, limit};
 ghost use Rattle.record.specs.Stores.{append};
 ghost use Rattle.lexer.specs.Tokens.{TokenIs, text_of};
 ghost use Rattle.line_heads.specs.Lines.{starts_colon};
@@ -18,6 +19,19 @@ ghost use Rattle.macro_tokens.specs.Meant.{ActIs};
 use macros::{Macros, Names};
 use record::Location;
 use written_out::Mode;
+
+// The kinds of tokens, as wide as a record has them.
+const COMMENT: usize = lexer::COMMENT as usize;
+
+const PARAMETER: usize = lexer::PARAMETER as usize;
+
+const SYMBOL: usize = lexer::SYMBOL as usize;
+
+const COMMA: usize = lexer::COMMA as usize;
+
+const COLON: usize = lexer::COLON as usize;
+
+const NEW_LINE: usize = lexer::NEW_LINE as usize;
 
 // A body that is read. Its tokens begin at `start` of its list, whose first byte has the place `base`; the names of its `count` parameters
 // stand from `names` on, and `args` has the places of the arguments. A place is one of the token list, or behind it one of the macro list.
@@ -38,11 +52,27 @@ pub struct Reading<'a> {
 }
 
 // The token list and the macro list, which a place is in.
-// kept: that the macro list keeps its layout is a clause of those that look a macro up; the others that take the two lists do not ask for it.
 #[derive(Clone, Copy)]
 pub struct Source<'a> {
     pub text: &'a [u8],
     pub macros: &'a [u8],
+}
+
+// The record of a token.
+#[derive(Clone, Copy)]
+pub struct Token<'a> {
+    pub bytes: &'a [u8],
+    ghost long: { 12 ≤ length bytes.now },
+    ghost whole: { length bytes.now ≡ next bytes.now 0 } by { Prim.hlevel props },
+}
+
+// The two lists with the place in the macro list before which macros may be called.
+#[derive(Clone, Copy)]
+pub struct Callable<'a> {
+    pub source: Source<'a>,
+    pub limit: usize,
+    pub ghost within: { limit ≤ length source.macros.now },
+    pub ghost macros_good: { macro_layout source.macros.now ≡ None } by { Prim.hlevel props },
 }
 
 // A call's arguments: how many, and the places of the first eight.
@@ -64,63 +94,58 @@ pub enum Act {
 
 // ---- the token at a place
 
-// The bytes of its record.
-fn token_bytes<'a>(source: &Source<'a>, place: usize) -> &'a [u8]
+impl<'a> Token<'a> {
+    fn kind(self) -> usize
+        ensures { result ≡ kind_at self.entry.bytes.now 0 }
+    {
+        record::half_at(self.bytes, 2)
+    }
+
+    pub fn location(self) -> Location
+        ensures { result ≡ location_at self.entry.bytes.now 4 }
+    {
+        record::location_at(self.bytes, 4)
+    }
+
+    // A copy from `fill` on, where that is `really` to be made.
+    pub fn put(self, really: bool, out: &mut [u8], fill: usize)
+        requires { fill + length self.bytes.now ≤ length out.old }
+        ensures { out.new ≡ append out.old fill (only really self.entry.bytes.now) }
+    {
+        if really {
+            record::put_all(out, fill, self.bytes);
+        }
+    }
+
+    fn text(self) -> &'a [u8]
+        ensures { result.now ≡ text_of self.entry.bytes.now 0 }
+    {
+        &self.bytes[12..]
+    }
+}
+
+pub fn token_at<'a>(source: &Source<'a>, place: usize) -> Token<'a>
     requires { TokenIn source.now.text.now source.now.macros.now place }
-    ensures { (result.now ≡ token_record source.now.text.now source.now.macros.now place) × (12 ≤ length result.now) }
+    ensures { result.bytes.now ≡ token_record source.now.text.now source.now.macros.now place }
 {
-    if place < source.text.len() {
-        let next = record::next(source.text, place);
-        &source.text[place..next]
+    let (list, at) = if place < source.text.len() {
+        (source.text, place)
     } else {
-        let at = place - source.text.len();
-        let next = record::next(source.macros, at);
-        &source.macros[at..next]
-    }
-}
-
-fn kind_of(source: &Source<'_>, place: usize) -> usize
-    requires { TokenIn source.now.text.now source.now.macros.now place }
-    ensures { result ≡ kind_at (token_record source.now.text.now source.now.macros.now place) 0 }
-{
-    record::half_at(token_bytes(source, place), 2)
-}
-
-// The length of its record.
-pub fn size_of(source: &Source<'_>, place: usize) -> usize
-    requires { TokenIn source.now.text.now source.now.macros.now place }
-    ensures { result ≡ length (token_record source.now.text.now source.now.macros.now place) }
-{
-    token_bytes(source, place).len()
-}
-
-pub fn location_of(source: &Source<'_>, place: usize) -> Location
-    requires { TokenIn source.now.text.now source.now.macros.now place }
-    ensures { result ≡ location_at (token_record source.now.text.now source.now.macros.now place) 4 }
-{
-    record::location_at(token_bytes(source, place), 4)
-}
-
-// The macro before `limit` that the token's text names, or `limit`.
-fn callee_of(source: &Source<'_>, limit: usize, place: usize) -> usize
-    requires { TokenIn source.now.text.now source.now.macros.now place × (limit ≤ length source.now.macros.now) × (macro_layout source.now.macros.now ≡ None) }
-    ensures { CalleeIs source.now.macros.now (text_of (token_record source.now.text.now source.now.macros.now place) 0) limit result }
-{
-    let bytes = token_bytes(source, place);
-    let macros = Macros {
-        bytes: source.macros,
+        (source.macros, place - source.text.len())
     };
-    macro_lookup::callee(&macros, limit, &bytes[12..])
+    Token {
+        bytes: &list[at..record::next(list, at)],
+    }
 }
 
-// A copy of its record from `fill` on, where that is `really` to be made.
-pub fn put_token(source: &Source<'_>, place: usize, really: bool, out: &mut [u8], fill: usize)
-    requires { TokenIn source.now.text.now source.now.macros.now place × (fill + length (token_record source.now.text.now source.now.macros.now place) ≤ length out.old) }
-    ensures { out.new ≡ append out.old fill (only really (token_record source.now.text.now source.now.macros.now place)) }
+// The macro before the limit that the token's text names, or the limit.
+fn callee_of(callable: &Callable<'_>, token: Token<'_>) -> usize
+    ensures { CalleeIs callable.now.source.macros.now (text_of token.entry.bytes.now 0) callable.now.limit result }
 {
-    if really {
-        record::put_all(out, fill, token_bytes(source, place));
-    }
+    let macros = Macros {
+        bytes: callable.source.macros,
+    };
+    macro_lookup::callee(&macros, callable.limit, token.text())
 }
 
 // ---- a body
@@ -151,7 +176,7 @@ pub fn place_at(reading: &Reading<'_>, at: usize) -> usize
     requires { Readable reading.now.list.now reading.now.body × TokenIs reading.now.list.now at }
     ensures { result ≡ place_of reading.now.list.now reading.now.body at }
 {
-    if record::half_at(reading.list, at + 2) == 2 {
+    if record::half_at(reading.list, at + 2) == PARAMETER {
         argument_at(reading, at)
     } else {
         reading.body.base + at
@@ -164,7 +189,7 @@ fn colon_at(source: &Source<'_>, reading: &Reading<'_>, at: usize) -> bool
     ensures { result ≡ starts_colon (read_from source.now.text.now source.now.macros.now reading.now.list.now reading.now.body at) }
 {
     if at < reading.list.len() {
-        kind_of(source, place_at(reading, at)) == 12
+        token_at(source, place_at(reading, at)).kind() == COLON
     } else {
         false
     }
@@ -175,7 +200,7 @@ fn take(taken: &mut Taken, kind: usize, place: usize)
     requires { (taken.old.count ≤ 2 * limit) × (length taken.old.args ≡ 8) }
     ensures { taken.new ≡ with_token taken.old kind place }
 {
-    if kind == 11 || kind == 0 {
+    if kind == COMMA || kind == COMMENT {
         return;
     }
     if taken.count < 8 {
@@ -193,16 +218,17 @@ pub fn arguments_from(source: &Source<'_>, reading: &Reading<'_>, from: usize) -
         count: 0,
         args: [0; 8],
     };
-    let mut at = from;
-    // kept: `record::places` begins at a list's first record, and this walk at `from`
-    while at < reading.list.len() {
+    let tokens = record::Iter {
+        list: reading.list,
+        at: from,
+    };
+    for at in tokens {
         let place = place_at(reading, at);
-        let kind = kind_of(source, place);
-        if kind == 13 {
+        let kind = token_at(source, place).kind();
+        if kind == NEW_LINE {
             return taken;
         }
         take(&mut taken, kind, place);
-        at = record::next(reading.list, at);
     }
     taken
 }
@@ -211,23 +237,22 @@ pub fn arguments_from(source: &Source<'_>, reading: &Reading<'_>, from: usize) -
 
 // Before a line's head.
 fn act_leading(
-    source: &Source<'_>,
-    limit: usize,
+    callable: &Callable<'_>,
     reading: &Reading<'_>,
-    place: usize,
+    token: Token<'_>,
     kind: usize,
     next: usize,
 ) -> Act
-    requires token_in { TokenIn source.now.text.now source.now.macros.now place × (limit ≤ length source.now.macros.now) × (kind ≡ kind_at (token_record source.now.text.now source.now.macros.now place) 0) × (macro_layout source.now.macros.now ≡ None) }
-    requires readable_from { ReadableFrom source.now.text.now source.now.macros.now reading.now.list.now reading.now.body next }
-    ensures { ActIs source.now.macros.now limit (leading_of (above source.now.macros.now limit) (token_record source.now.text.now source.now.macros.now place) (starts_colon (read_from source.now.text.now source.now.macros.now reading.now.list.now reading.now.body next))) result }
+    requires kind_is { kind ≡ kind_at token.bytes.now 0 }
+    requires readable_from { ReadableFrom callable.now.source.text.now callable.now.source.macros.now reading.now.list.now reading.now.body next }
+    ensures { ActIs callable.now.source.macros.now callable.now.limit (leading_of (above callable.now.source.macros.now callable.now.limit) token.entry.bytes.now (starts_colon (read_from callable.now.source.text.now callable.now.source.macros.now reading.now.list.now reading.now.body next))) result }
 {
     match kind {
-        13 | 0 => Act::Write(Mode::Leading),
-        8 if colon_at(source, reading, next) => Act::Write(Mode::Labelled),
-        8 => {
-            let k = callee_of(source, limit, place);
-            if k < limit {
+        NEW_LINE | COMMENT => Act::Write(Mode::Leading),
+        SYMBOL if colon_at(&callable.source, reading, next) => Act::Write(Mode::Labelled),
+        SYMBOL => {
+            let k = callee_of(callable, token);
+            if k < callable.limit {
                 Act::Call(k)
             } else {
                 Act::Write(Mode::Copied)
@@ -237,33 +262,31 @@ fn act_leading(
     }
 }
 
-// The token at `place`, behind which the body goes on from `next` on.
+// A token, behind which the body goes on from `next` on.
 pub fn act_at(
-    source: &Source<'_>,
-    limit: usize,
+    callable: &Callable<'_>,
     reading: &Reading<'_>,
     mode: Mode,
-    place: usize,
+    token: Token<'_>,
     next: usize,
 ) -> Act
-    requires token_in { TokenIn source.now.text.now source.now.macros.now place × (limit ≤ length source.now.macros.now) × (macro_layout source.now.macros.now ≡ None) }
-    requires readable_from { ReadableFrom source.now.text.now source.now.macros.now reading.now.list.now reading.now.body next }
-    ensures { ActIs source.now.macros.now limit (act_of (above source.now.macros.now limit) mode (token_record source.now.text.now source.now.macros.now place) (read_from source.now.text.now source.now.macros.now reading.now.list.now reading.now.body next)) result }
+    requires { ReadableFrom callable.now.source.text.now callable.now.source.macros.now reading.now.list.now reading.now.body next }
+    ensures { ActIs callable.now.source.macros.now callable.now.limit (act_of (above callable.now.source.macros.now callable.now.limit) mode token.entry.bytes.now (read_from callable.now.source.text.now callable.now.source.macros.now reading.now.list.now reading.now.body next)) result }
 {
-    let kind = kind_of(source, place);
-    // kept: an arm `Copied | LeftOut if kind == 13` is no plainer, since each arm behind it is then proved twice
+    let kind = token.kind();
+    // kept: an arm `Copied | LeftOut if kind == NEW_LINE` is no plainer, since each arm behind it is then proved twice
     match mode {
-        Mode::Leading => act_leading(source, limit, reading, place, kind, next),
+        Mode::Leading => act_leading(callable, reading, token, kind, next),
         Mode::Labelled => Act::Write(Mode::Leading),
         Mode::Copied => {
-            if kind == 13 {
+            if kind == NEW_LINE {
                 Act::Write(Mode::Leading)
             } else {
                 Act::Write(Mode::Copied)
             }
         }
         Mode::LeftOut => {
-            if kind == 13 {
+            if kind == NEW_LINE {
                 Act::Write(Mode::Leading)
             } else {
                 Act::Pass

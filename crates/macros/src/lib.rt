@@ -8,6 +8,9 @@ ghost use Rattle.lexer.specs.Tokens.{TokenIs, token_layout};
 ghost use Rattle.line_heads.specs.Lines.{record_at, records_of};
 ghost use Rattle.macros.specs.Macros.{name_at, behind_name, name_ok, name_places, behind_names, index_of, different, knows, known, macro_ok, macro_at_ok, macro_layout, head_of};
 
+// The kind of a Parameter, as wide as a record has it.
+const PARAMETER: usize = lexer::PARAMETER as usize;
+
 // "up to 8 different parameters"
 pub const MOST: usize = 8;
 
@@ -72,7 +75,7 @@ impl<'a> Names<'a> {
     }
 
     // The place behind them.
-    fn behind(&self) -> usize
+    pub fn behind(&self) -> usize
         requires { self.now.at ≤ length self.now.list.now }
         ensures { (result ≡ behind_names self.now.count self.now.list.now self.now.at) × (result ≤ length self.now.list.now) }
     {
@@ -108,7 +111,7 @@ impl<'a> Names<'a> {
         requires { TokenIs body.now at }
         ensures { result ≡ knows (map (name_at self.now.list.now) (name_places self.now.count self.now.list.now self.now.at)) (record_at body.now at) }
     {
-        record::half_at(body, at + 2) != 2
+        record::half_at(body, at + 2) != PARAMETER
             || self.index_of(&body[at + 12..record::next(body, at)]) < self.count
     }
 
@@ -154,6 +157,9 @@ fn macro_ok(list: &[u8]) -> bool
     lexer::first_bad_token(&list[end..]).is_none() && names.know_all(&list[end..])
 }
 
+// The record kind.
+const MACRO: usize = 40;
+
 // The records that are macros.
 struct EachMacro;
 
@@ -163,7 +169,7 @@ impl record::Layout for EachMacro {
     #[tactic(auto, using(crate::proofs::LayoutLaws::body_part), unfolding(crate::specs::Macros::macro_at_ok))]
     fn keeps(&self, list: &[u8], at: usize) -> bool {
         record::whole_at(list, at)
-            && record::half_at(list, at + 2) == 40
+            && record::half_at(list, at + 2) == MACRO
             && macro_ok(&list[at + 4..record::next(list, at)])
     }
 }

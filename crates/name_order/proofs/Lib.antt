@@ -1,1 +1,2 @@
+pub mod FromLaws
 pub mod OrderLaws

@@ -1,8 +1,8 @@
 -- Laws of the order of names with owners: it is irreflexive, transitive and total. Assumes nothing.
-use Rattle.std.specs.Prelude.{ℕ, ◌+◌, ◌*◌, ◌<◌, ◌≤◌, List, [], ◌∷◌, ◌⊎◌, Bool, true, false, ◌≡◌, refl, length, get_or, drop, ltb}
-use Rattle.std.proofs.Common.{arith, add-one, inl, inr, ⊎_elim, sym, ap, ap₂, ◌∙◌, lt-ltb, le-ltb, ltb-true, ltb-false}
+use Rattle.std.specs.Prelude.{ℕ, ◌+◌, ◌*◌, ◌<◌, ◌≤◌, List, [], ◌∷◌, ◌⊎◌, Bool, true, false, ◌≡◌, refl, length, get_or, take, drop, ltb}
+use Rattle.std.proofs.Common.{arith, add-one, inl, inr, ⊎_elim, sym, subst, ap, ap₂, ◌∙◌, lt-ltb, le-ltb, ltb-true, ltb-false}
 use Rattle.std.proofs.lemmas.Bool.Decides.{nat_tests}
-use Rattle.std.proofs.Math.ListN.{drop_of_length-le}
+use Rattle.std.proofs.lemmas.List.{get_or-take}
 use Rattle.std.proofs.Math.Seq.{drop-cons}
 use Rattle.std.specs.Cmp.Lexicographic.{slice_cmp}
 use Rattle.std.specs.Ordering.{nat_cmp, ordering_then, is_ne}
@@ -168,41 +168,13 @@ order_cmp (x ∷ xs) (y ∷ ys) = ap₂ ordering_then (numbers_cmp x y) (order_c
     then_by_lem Equal p = refl
     then_by_lem Greater p = refl
 
--- ---- names from a place on
-module _ (a b : List ℕ) (i : ℕ) where
-  pub order_ends : length a ≤ i → length b ≤ i → order (drop i a) (drop i b) ≡ Equal
-  unfolding order
-  order_ends h k = rw (drop_of_length-le a h, drop_of_length-le b k)
-
-  pub order_first_ends : length a ≤ i → i < length b → order (drop i a) (drop i b) ≡ Less
-  unfolding order
-  order_first_ends h k = rw (drop_of_length-le a h, drop-cons b i 0)
-
-  pub order_second_ends : i < length a → length b ≤ i → order (drop i a) (drop i b) ≡ Greater
-  unfolding order
-  order_second_ends h k = rw (drop_of_length-le b k, drop-cons a i 0)
-
-  module _ (h : i < length a) (k : i < length b) where
-    here : order (drop i a) (drop i b) ≡ then_by (numbers (get_or a i 0) (get_or b i 0)) (order (drop (i + 1) a) (drop (i + 1) b))
-    unfolding order
-    here = rw (add-one, drop-cons a i 0, drop-cons b i 0)
-
-    pub order_less : get_or a i 0 < get_or b i 0 → order (drop i a) (drop i b) ≡ Less
-    order_less l = here ∙ ap (λ (o : Ordering). then_by o (order (drop (i + 1) a) (drop (i + 1) b))) (numbers_less (get_or a i 0) (get_or b i 0) l)
-
-    pub order_more : get_or b i 0 < get_or a i 0 → order (drop i a) (drop i b) ≡ Greater
-    order_more l = here ∙ ap (λ (o : Ordering). then_by o (order (drop (i + 1) a) (drop (i + 1) b))) (numbers_more (get_or a i 0) (get_or b i 0) l)
-
-    pub order_next : get_or a i 0 ≡ get_or b i 0 → order (drop i a) (drop i b) ≡ order (drop (i + 1) a) (drop (i + 1) b)
-    order_next e = here ∙ ap (λ (o : Ordering). then_by o (order (drop (i + 1) a) (drop (i + 1) b))) (numbers_same (get_or a i 0) (get_or b i 0) e)
-
-then_then : (o p q : Ordering) → then_by o (then_by p q) ≡ then_by (then_by o p) q
+pub then_then : (o p q : Ordering) → then_by o (then_by p q) ≡ then_by (then_by o p) q
 then_then Less p q = refl
 then_then Equal p q = refl
 then_then Greater p q = refl
 
 -- one byte more
-joined : (x y u v : ℕ) → u < 256 → v < 256 → numbers (x * 256 + u) (y * 256 + v) ≡ then_by (numbers x y) (numbers u v)
+pub joined : (x y u v : ℕ) → u < 256 → v < 256 → numbers (x * 256 + u) (y * 256 + v) ≡ then_by (numbers x y) (numbers u v)
 joined x y u v a b =
     ⊎_elim
     (λ h. numbers_less (x * 256 + u) (y * 256 + v) (omega arith) ∙ sym (ap (λ (o : Ordering). then_by o (numbers u v)) (numbers_less x y h)))
@@ -220,48 +192,63 @@ joined x y u v a b =
         (λ k. numbers_same (x * 256 + u) (y * 256 + v) (omega arith) ∙ sym (numbers_same u v k)))
         (ways u v)
 
-module _ (a b : List ℕ) (i : ℕ) (h : i + 8 ≤ length a) (k : i + 8 ≤ length b) (ba : Bytes a i) (bb : Bytes b i) where
+-- ---- names of eight bytes at least
+module _ (a b : List ℕ) (h : 8 ≤ length a) (k : 8 ≤ length b) (ba : Bytes (take 8 a) 0) (bb : Bytes (take 8 b) 0) where
+  abbrev x : List ℕ
+  x = take 8 a
+
+  abbrev y : List ℕ
+  y = take 8 b
+
   abbrev rest : ℕ → Ordering
   rest j = order (drop j a) (drop j b)
 
+  here : (j : ℕ) → j < 8 → rest j ≡ then_by (numbers (get_or x j 0) (get_or y j 0)) (rest (j + 1))
+  unfolding order
+  here j l =
+      let u : j < length a = omega arith in
+      let v : j < length b = omega arith in
+      rw (get_or-take 8 a j 0 l, get_or-take 8 b j 0 l, add-one, drop-cons a j 0 u, drop-cons b j 0 v)
+
   -- a byte more is read
-  step : (x y j m : ℕ) → get_or a j 0 < 256 → get_or b j 0 < 256 → j + 1 ≡ m → m ≤ i + 8 → then_by (numbers x y) (rest j) ≡ then_by (numbers (more a x j) (more b y j)) (rest m)
-  step x y j m u v e l =
-      ap (then_by (numbers x y)) (here a b j (omega arith) (omega arith) ∙ ap (λ (m : ℕ). then_by (numbers (get_or a j 0) (get_or b j 0)) (rest m)) e)
-      ∙ then_then (numbers x y) (numbers (get_or a j 0) (get_or b j 0)) (rest m)
-      ∙ ap (λ (o : Ordering). then_by o (rest m)) (sym (joined x y (get_or a j 0) (get_or b j 0) u v))
+  step : (m n j : ℕ) → get_or x j 0 < 256 → get_or y j 0 < 256 → j < 8 → then_by (numbers m n) (rest j) ≡ then_by (numbers (more x m j) (more y n j)) (rest (j + 1))
+  step m n j u v l =
+      ap (then_by (numbers m n)) (here j l)
+      ∙ then_then (numbers m n) (numbers (get_or x j 0) (get_or y j 0)) (rest (j + 1))
+      ∙ ap (λ (o : Ordering). then_by o (rest (j + 1))) (sym (joined m n (get_or x j 0) (get_or y j 0) u v))
 
-  words : rest i ≡ then_by (numbers (high_first a i) (high_first b i)) (rest (i + 8))
-  words =
-      here a b i (omega arith) (omega arith)
-      ∙ step _ _ (i + 1) (i + 2) ba.second bb.second (omega arith) (omega arith)
-      ∙ step _ _ (i + 2) (i + 3) ba.third bb.third (omega arith) (omega arith)
-      ∙ step _ _ (i + 3) (i + 4) ba.fourth bb.fourth (omega arith) (omega arith)
-      ∙ step (four a i) (four b i) (i + 4) (i + 5) ba.fifth bb.fifth (omega arith) (omega arith)
-      ∙ step _ _ (i + 5) (i + 6) ba.sixth bb.sixth (omega arith) (omega arith)
-      ∙ step _ _ (i + 6) (i + 7) ba.seventh bb.seventh (omega arith) (omega arith)
-      ∙ step _ _ (i + 7) (i + 8) ba.eighth bb.eighth (omega arith) (omega arith)
+  eight : order a b ≡ then_by (numbers (high_first x 0) (high_first y 0)) (rest 8)
+  eight =
+      here 0 (omega arith)
+      ∙ step _ _ 1 ba.second bb.second (omega arith)
+      ∙ step _ _ 2 ba.third bb.third (omega arith)
+      ∙ step _ _ 3 ba.fourth bb.fourth (omega arith)
+      ∙ step (four x 0) (four y 0) 4 ba.fifth bb.fifth (omega arith)
+      ∙ step _ _ 5 ba.sixth bb.sixth (omega arith)
+      ∙ step _ _ 6 ba.seventh bb.seventh (omega arith)
+      ∙ step _ _ 7 ba.eighth bb.eighth (omega arith)
 
-  pub words_next : high_first a i ≡ high_first b i → rest i ≡ rest (i + 8)
-  words_next e = words ∙ ap (λ (o : Ordering). then_by o (rest (i + 8))) (numbers_same (high_first a i) (high_first b i) e)
+-- the first eight bytes of a name, and what is left
+abbrev pub IsSplit : (a x r : List ℕ) → Type 0
+IsSplit a x r = (x ≡ take 8 a) × (r ≡ drop 8 a) × (length r + 8 ≡ length a)
 
-  pub words_less : high_first a i < high_first b i → rest i ≡ Less
-  words_less e = words ∙ ap (λ (o : Ordering). then_by o (rest (i + 8))) (numbers_less (high_first a i) (high_first b i) e)
-
-  pub words_more : high_first b i < high_first a i → rest i ≡ Greater
-  words_more e = words ∙ ap (λ (o : Ordering). then_by o (rest (i + 8))) (numbers_more (high_first a i) (high_first b i) e)
+module _ (a b x y r s : List ℕ) (p : IsSplit a x r) (q : IsSplit b y s) (bx : Bytes x 0) (by : Bytes y 0) where
+  split : order a b ≡ then_by (numbers (high_first x 0) (high_first y 0)) (order r s)
+  split =
+      rw (p.0, p.1, q.0, q.1)
+      (eight a b (omega (arith, p.2)) (omega (arith, q.2)) (subst (λ (l : List ℕ). Bytes l 0) p.0 bx) (subst (λ (l : List ℕ). Bytes l 0) q.0 by))
 
   -- what `cmp` says of eight bytes decides, or what is left does
-  pub words_differ : (o : Ordering) → o ≡ nat_cmp (high_first a i) (high_first b i) → is_ne o ≡ true → o ≡ rest i
-  words_differ o e f = decides o (rest (i + 8)) f ∙ sym (words ∙ ap (λ (o : Ordering). then_by o (rest (i + 8))) (sym (e ∙ numbers_cmp (high_first a i) (high_first b i))))
+  pub eight_differ : (o : Ordering) → o ≡ nat_cmp (high_first x 0) (high_first y 0) → is_ne o ≡ true → o ≡ order a b
+  eight_differ o e f = decides o (order r s) f ∙ sym (split ∙ ap (λ (o : Ordering). then_by o (order r s)) (sym (e ∙ numbers_cmp (high_first x 0) (high_first y 0))))
     where
       decides : (o p : Ordering) → is_ne o ≡ true → o ≡ then_by o p
       decides Less p f = refl
       decides Equal p f = cc
       decides Greater p f = refl
 
-  pub words_same : (o : Ordering) → o ≡ nat_cmp (high_first a i) (high_first b i) → is_ne o ≡ false → rest i ≡ rest (i + 8)
-  words_same o e f = words ∙ ap (λ (o : Ordering). then_by o (rest (i + 8))) (sym (e ∙ numbers_cmp (high_first a i) (high_first b i))) ∙ passes o (rest (i + 8)) f
+  pub eight_same : (o : Ordering) → o ≡ nat_cmp (high_first x 0) (high_first y 0) → is_ne o ≡ false → order a b ≡ order r s
+  eight_same o e f = split ∙ ap (λ (o : Ordering). then_by o (order r s)) (sym (e ∙ numbers_cmp (high_first x 0) (high_first y 0))) ∙ passes o (order r s) f
     where
       passes : (o p : Ordering) → is_ne o ≡ false → then_by o p ≡ p
       passes Less p f = cc

@@ -1,41 +1,36 @@
 // The order of names by their bytes, and of owners as numbers.
 #![tactic(auto)]
 
-ghost use Rattle.std.specs.Prelude.{◌≡◌, ◌+◌, ◌≤◌, min, length};
+ghost use Rattle.std.specs.Prelude.{◌≡◌, min};
 ghost use Rattle.name_order.specs.Order.{numbers, order};
 ghost use Rattle.name_order.specs.EightBytes.{high_first, Bytes};
 
 use std::cmp::Ordering;
 
-// The eight bytes at `at` as a number, the first highest.
-fn high_first(s: &[u8], at: usize) -> u64
-    requires { at + 8 ≤ length s.now }
-    ensures { (result ≡ high_first s.now at) × Bytes s.now at }
+// Eight bytes as a number, the first highest.
+fn high_first(s: &[u8; 8]) -> u64
+    ensures { (result ≡ high_first s.now 0) × Bytes s.now 0 }
 {
-    u64::from_be_bytes([
-        s[at],
-        s[at + 1],
-        s[at + 2],
-        s[at + 3],
-        s[at + 4],
-        s[at + 5],
-        s[at + 6],
-        s[at + 7],
-    ])
+    u64::from_be_bytes(*s)
 }
 
 // Where two names first differ the smaller byte goes first; a name goes before one that it begins. Names often begin alike: they are read by eight bytes.
 pub fn compare(a: &[u8], b: &[u8]) -> Ordering
     ensures { result ≡ order a.now b.now }
 {
-    let eights = a.len().min(b.len()) / 8;
-    for i in 0..eights {
-        let found = high_first(a, 8 * i).cmp(&high_first(b, 8 * i));
+    let (mut a, mut b) = (a, b);
+    while let (Some((x, a_rest)), Some((y, b_rest))) = (
+        a.split_first_chunk(),
+        b.split_first_chunk(),
+    ) {
+        let found = high_first(x).cmp(&high_first(y));
         if found.is_ne() {
             return found;
         }
+        a = a_rest;
+        b = b_rest;
     }
-    a[8 * eights..].cmp(&b[8 * eights..])
+    a.cmp(b)
 }
 
 pub fn compare_numbers(x: u32, y: u32) -> Ordering

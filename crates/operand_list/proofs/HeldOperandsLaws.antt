@@ -31,14 +31,19 @@ all_missed : (w : Wants) (a : Answer (AskedAll w)) (m : Miss) → Err m ≡ oper
 all_missed w (Got x) m e = let z : ◌≡◌ {A = ℕ} 0 1 = cc in absurd (omega arith)
 all_missed w (Missed n) m e = cc
 
-module _ (w : Wants) {s : List ℕ} (x : At (Answer (AskedAll w))) {answer : (Result Operands Miss)} {cursor : Cursor} (r : ReadAs s (given_all w x) answer cursor) where
-  pub all_given : (o : Operands) → answer ≡ Ok o → x ≡ here (Got (held_values w o)) cursor.index
+module _ (w : Wants) {before after : CursorIn} (x : At (Answer (AskedAll w))) {answer : (Result Operands Miss)} (r : Reads before (given_all w x) answer after) where
+  pub all_given : (o : Operands) → answer ≡ Ok o → x ≡ here (Got (held_values w o)) after.index
   all_given o e =
-      ap (λ (a : Answer (AskedAll w)). here a x.index) (all_held w x.answer o (sym e ∙ r.answer_is)) ∙ ap (here (Got (held_values w o))) (sym (ap (λ (c : Cursor). c.index) r.cursor_is))
+      ap (λ (a : Answer (AskedAll w)). here a x.index) (all_held w x.answer o (sym e ∙ r.answer_is)) ∙ ap (here (Got (held_values w o))) (sym (ap (λ (c : CursorIn). c.index) r.after_is))
 
-  pub none_given : (m : Miss) → answer ≡ Err m → x ≡ here (Missed m) cursor.index
+  pub none_given : (m : Miss) → answer ≡ Err m → x ≡ here (Missed m) after.index
   none_given m e =
-      ap (λ (a : Answer (AskedAll w)). here a x.index) (all_missed w x.answer m (sym e ∙ r.answer_is)) ∙ ap (here (Missed m)) (sym (ap (λ (c : Cursor). c.index) r.cursor_is))
+      ap (λ (a : Answer (AskedAll w)). here a x.index) (all_missed w x.answer m (sym e ∙ r.answer_is)) ∙ ap (here (Missed m)) (sym (ap (λ (c : CursorIn). c.index) r.after_is))
+
+-- what is read is what was asked for
+pub asked_for : {w v : Wants} {before after : CursorIn} {answer : (Result Operands Miss)} → w ≡ v → Reads before (given_all w (read_operands w (tokens before.list) before.index)) answer after
+    → Reads before (given_all v (read_operands v (tokens before.list) before.index)) answer after
+asked_for {before = before} {after} {answer} e r = subst (λ (u : Wants). Reads before (given_all u (read_operands u (tokens before.list) before.index)) answer after) e r
 
 -- what is read from a position on is what was asked for
 pub asked_as : {s : List ℕ} {w v : Wants} {before after : CursorIn} {answer : (Result Operands Miss)} {position : Cursor} (i : ℕ) → w ≡ v → before ≡ record { list = s; index = i }

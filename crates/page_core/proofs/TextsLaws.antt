@@ -1,5 +1,5 @@
 -- Laws of the page as it is put. Assumes nothing.
-use Rattle.std.specs.Prelude.{◌≡◌, ℕ, ◌+◌, ◌*◌, ◌/◌, ◌%◌, ◌<◌, ◌≤◌, List, [], ◌∷◌, ◌++◌, map, length, drop, slice_index, refl}
+use Rattle.std.specs.Prelude.{◌≡◌, ℕ, ◌+◌, ◌*◌, ◌/◌, ◌%◌, ◌<◌, ◌≤◌, min, List, [], ◌∷◌, ◌++◌, map, length, drop, slice_index, refl}
 use Rattle.std.proofs.Common.{arith, sym, ◌∙◌}
 use Rattle.std.proofs.Math.Path.{ap}
 use mathlib.Core.List.{append-nil, append_assoc, flatten}
@@ -10,7 +10,7 @@ use Rattle.patch.specs.Patches.{wrap32}
 use Rattle.reading.specs.Reading.{ImageRegion, Image, image_region, image_of}
 use Rattle.reading.proofs.ImageLaws.{image_next, image_end}
 use Rattle.reading.specs.Rows.{row, rows}
-use Rattle.reading.proofs.RowsLaws.{rows_none, rows_word, rows_part}
+use Rattle.reading.proofs.RowsLaws.{rows_none, rows_word, rows_part, rows_next, rows_end}
 use Rattle.text.specs.Text.{hex_bytes, word_text}
 use Rattle.text.proofs.TextLaws.{text_part}
 use Rattle.page_outcome.specs.Page.{word_line, region_line, row_line, label_at, page_lines, page_of}
@@ -38,6 +38,16 @@ module _ (label : ℕ → List ℕ) (address i : ℕ) (bytes : List ℕ) where
   data_part g h =
       let pc = wrap32 (address + i) in
       rw (rows_part address i bytes g h) (append-nil (row_line label (row address i bytes)) ∙ ap (λ (word : List ℕ). word_line pc word (label pc)) (text_part bytes (λ e. omega arith)))
+
+-- the next four bytes, or the last part word, and then the others
+pub data_next : (label : ℕ → List ℕ) (address i : ℕ) (rest bytes after : List ℕ) → rest ≡ bytes ++ after → length bytes ≡ min 4 (length rest) → 0 < length rest
+    → let pc = wrap32 (address + i) in data_text label address i rest ≡ word_line pc (word_text bytes) (label pc) ++ data_text label address (i + 4) after
+unfolding data_text flatten
+data_next label address i rest bytes after e l h = rw (rows_next address i rest bytes after e l h)
+
+pub data_end : (label : ℕ → List ℕ) (address i : ℕ) (rest : List ℕ) → length rest ≡ 0 → data_text label address i rest ≡ []
+unfolding data_text flatten
+data_end label address i rest h = rw (rows_end address i rest h)
 
 -- the name in the slot of the word at an offset
 pub name_at : (labels : List ℕ) (address size : ℕ) (slots : List ℕ) → Shows labels address size slots → (i : ℕ) → i % 4 ≡ 0 → i < size

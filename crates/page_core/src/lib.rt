@@ -3,10 +3,10 @@
 
 ghost use Rattle.std.specs.Prelude.{◌≡◌, ◌+◌, ◌*◌, ◌<◌, ◌≤◌, length};
 ghost use Rattle.record.specs.Records.{places};
-ghost use Rattle.regions.specs.Regions.{region_layout, region_count, region_place};
+ghost use Rattle.regions.specs.Regions.{region_count, region_place};
 ghost use Rattle.reading.specs.Reading.{image_region, image_of};
-ghost use Rattle.text.specs.Text.{Put};
-ghost use Rattle.page_outcome.specs.Page.{label_at, page_of};
+ghost use Rattle.text.specs.Text.{Put, word_text};
+ghost use Rattle.page_outcome.specs.Page.{label_at, page_of, word_line};
 ghost use Rattle.page_outcome.specs.Page.{line_count};
 ghost use Rattle.page_outcome.specs.Outcome.{layout_verdicts, page_outcome};
 ghost use Rattle.page_labels.specs.Slots.{Shows};
@@ -24,6 +24,19 @@ pub const LIMIT: usize = 1_195_959;
 // Labels and regions of so many bytes together are short. A label has nine bytes at least.
 const SHORT: usize = 2304;
 
+// The line of a word, or of a last part word.
+#[tactic(auto, using(text::proofs::TextLaws::text_whole, text::proofs::TextLaws::text_part))]
+fn put_row(out: &mut [u8], at: usize, pc: u32, bytes: &[u8], name: &[u8]) -> usize
+    requires { (at + 73 ≤ length out.old) × (length bytes.now ≤ 4) }
+    ensures { Put out.old at (word_line pc (word_text bytes.now) name.now) out.new result }
+{
+    if bytes.len() == 4 {
+        page_lines::put_word(out, at, pc, record::word_at(bytes, 0), name)
+    } else {
+        page_lines::put_part(out, at, pc, bytes, name)
+    }
+}
+
 // A line for each four bytes, and one for what is left behind them.
 fn put_data(
     out: &mut [u8],
@@ -39,20 +52,12 @@ fn put_data(
     ensures { Put out.old at (data_text (label_at labels.now) address 0 «data».now) out.new result }
 {
     let mut end = at;
-    // kept: the part word goes on from where the loop has ended, which a loop over chunks would have to work out again
-    let mut i = 0;
-    while i + 4 <= data.len() {
-        let pc = address.wrapping_add(i as u32);
-        let name = page_labels::name_in(labels, slots[i / 4]);
-        end = page_lines::put_word(&mut *out, end, pc, record::word_at(data, i), name);
-        i += 4;
+    for (i, bytes) in data.chunks(4).enumerate() {
+        let pc = address.wrapping_add(4 * i as u32);
+        let name = page_labels::name_in(labels, slots[i]);
+        end = put_row(&mut *out, end, pc, bytes, name);
     }
-    if i == data.len() {
-        return end;
-    }
-    let pc = address.wrapping_add(i as u32);
-    let name = page_labels::name_in(labels, slots[i / 4]);
-    page_lines::put_part(out, end, pc, &data[i..], name)
+    end
 }
 
 // The region of that number, with the labels of its words in the lent slots.
@@ -60,17 +65,18 @@ fn put_region(
     out: &mut [u8],
     at: usize,
     labels: &LabelTable<'_>,
-    regions: &[u8],
+    regions: &Regions<'_>,
     number: usize,
     slots: &mut [u16],
 ) -> usize
-    requires regions_value { (region_layout regions.now ≡ None) × (length regions.now ≤ 4 * length slots.old) }
+    requires slots_in_bounds { length regions.now ≤ 4 * length slots.old }
     requires number_bound { number < region_count regions.now }
     requires number_in_bounds { at + length (region_text (label_at labels.now.list) number (image_region regions.now (region_place regions.now number))) ≤ length out.old }
     ensures { Put out.old at
         (region_text (label_at labels.now.list) number (image_region regions.now (region_place regions.now number))) out.new result }
 {
-    let region = Regions::new(regions).region(number);
+    let list = regions.bytes();
+    let region = regions.region(number);
     let address = region.address;
     let start = region.start;
     let size = region.size;
@@ -80,34 +86,38 @@ fn put_region(
         out,
         data_at,
         address,
-        &regions[start..start + size],
+        &list[start..start + size],
         labels.bytes(),
         slots,
     )
 }
 
 // All regions in turn.
-fn put_page(out: &mut [u8], labels: &LabelTable<'_>, regions: &[u8], slots: &mut [u16]) -> usize
-    requires regions_value { (region_layout regions.now ≡ None) × (length regions.now ≤ 4 * length slots.old) }
+fn put_page(
+    out: &mut [u8],
+    labels: &LabelTable<'_>,
+    regions: &Regions<'_>,
+    slots: &mut [u16],
+) -> usize
+    requires slots_in_bounds { length regions.now ≤ 4 * length slots.old }
     requires regions_in_bounds { length (page_of labels.now.list regions.now) ≤ length out.old }
     ensures { Put out.old 0 (page_of labels.now.list regions.now) out.new result }
 {
-    let count = Regions::new(regions).count();
     let mut end = 0;
-    for number in 0..count {
+    for number in 0..regions.count() {
         end = put_region(&mut *out, end, labels, regions, number, &mut *slots);
     }
     end
 }
 
 // How many lines a page has: one for each region, for which the four bytes of its address are counted, and one for each of its words.
-fn count_lines(regions: &[u8]) -> usize
-    requires { region_layout regions.now ≡ None }
+fn count_lines(regions: &Regions<'_>) -> usize
     ensures { (result ≡ line_count (image_of regions.now)) × (result < 16384) }
 {
+    let list = regions.bytes();
     let mut count: usize = 0;
-    for at in record::places(regions) {
-        count += (record::half_at(regions, at) + 3) / 4;
+    for at in regions.places() {
+        count += (record::half_at(list, at) + 3) / 4;
     }
     count
 }
@@ -136,13 +146,14 @@ fn lay_out_in(
     requires labels_in_bounds { (length (places labels.now) ≤ length order.old) × (length (places labels.now) ≤ length slots.old) × (length regions.now ≤ 4 * length slots.old) }
     ensures { page_outcome labels.now regions.now page.old ≡ (record { answer = result; page = page.new }) }
 {
+    let regions = Regions::new(regions);
     let index = NameIndex::make(Named::new(labels), order, &mut *slots);
     refusal::check_names(0, index.first_repeat())?;
-    if page.len() < 73 * count_lines(regions) {
+    if page.len() < 73 * count_lines(&regions) {
         return Err(Refusal::NoPageSpace);
     }
     let table = LabelTable::new(index);
-    Ok(put_page(page, &table, regions, slots) as u32)
+    Ok(put_page(page, &table, &regions, slots) as u32)
 }
 
 // Lays the image out and gives the page's length, or refuses and leaves every byte as it was. Short lists have small arrays.

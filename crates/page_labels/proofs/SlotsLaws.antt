@@ -1,6 +1,8 @@
 -- The slots on their way: the labels of an index are put in from the last to the first, so that the smallest name is the last. Assumes nothing.
-use Rattle.std.specs.Prelude.{◌≡◌, ℕ, zero, suc, ◌+◌, ◌-◌, ◌*◌, ◌<◌, ◌≤◌, Bool, true, false, List, [], ◌∷◌, length, ◌==◌, ◌≢◌, slice_index, slice_index_or, slice_set, refl, None}
-use Rattle.std.proofs.Common.{add-one, arith, ⊎_elim, sym, ap, ◌∙◌, subst, get_or-set_same, get_or-set_other, below_more, eqb-true}
+use Rattle.std.specs.Prelude.{◌≡◌, ℕ, zero, suc, ◌+◌, ◌-◌, ◌*◌, ◌<◌, ◌≤◌, Bool, true, false, List, [], ◌∷◌, length, ◌==◌, ◌≢◌, slice_index, slice_index_or, slice_set, refl, None, take}
+use Rattle.std.specs.List.{push}
+use Rattle.std.proofs.lemmas.List.{length_push, get_or_push, get_or-take, take-take}
+use Rattle.std.proofs.Common.{add-one, arith, ⊎_elim, sym, ap, ◌∙◌, subst, get_or-set_same, get_or-set_other, below_more, eqb-true, length-take, take_at}
 use mathlib.Core.List.Memᴰ
 use mathlib.Core.List.{Memᴰ}
 use Rattle.std.proofs.lemmas.Bool.{eqb-false}
@@ -165,3 +167,25 @@ module _ (labels l : List ℕ) (g : label_layout labels ≡ None) (ix : IndexOf 
               let d = eqb-false j k e in
               subst (Slot labels l (pc_of address j) (i - 1)) (sym (get_or-set_other slots k j new 0 d))
               (other (pc_of address j) (slice_index slots j) (λ a. d (w.only j h (sym a))) (s.each j h))
+
+-- the last of what is left of an index, and what is left then
+pub record Last (order left rest : List ℕ) (x : ℕ) : Type 0 where
+  pub some : 0 < length left
+  pub within : length left ≤ length order
+  pub is : x ≡ slice_index order (length left - 1)
+  pub fewer : length rest ≡ length left - 1
+  pub rest_left : rest ≡ take (length rest) order
+
+pub last_of : (order left rest : List ℕ) (x : ℕ) → left ≡ take (length left) order → left ≡ push rest x → Last order left rest x
+last_of order left rest x e p =
+    let n : length left ≡ length rest + 1 = ap length p ∙ length_push rest x in
+    let w : length left ≤ length order = omega (arith, ap length e, length-take (length left) order) in
+    let v : slice_index left (length rest) ≡ x = ap (λ (l : List ℕ). slice_index l (length rest)) p ∙ get_or_push rest x 0 (length rest) refl in
+    let m : length rest ≡ length left - 1 = omega arith in
+    record {
+      some = omega arith;
+      within = w;
+      is = rw (← m) (sym v ∙ ap (λ (l : List ℕ). slice_index l (length rest)) e ∙ get_or-take (length left) order (length rest) 0 (omega arith));
+      fewer = m;
+      rest_left = sym (take_at rest (x ∷ []) (length rest) refl) ∙ ap (take (length rest)) (sym p ∙ e) ∙ take-take (length rest) (length left) order (omega arith);
+    }

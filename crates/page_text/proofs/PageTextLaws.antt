@@ -41,6 +41,13 @@ unfolding append
 text_by_lem (Ok tt) text page = take-append_seam text _
 text_by_lem (Err r) text page = refl
 
+-- a text put into the first bytes of a space
+append_part : (space text : List ℕ) (room : ℕ) → length text ≤ length (take room space) → append (take room space) 0 text ++ drop room space ≡ append space 0 text
+unfolding append
+append_part space text room h =
+    append_assoc text (drop (0 + length text) (take room space)) (drop room space)
+    ∙ ap (λ (l : List ℕ). text ++ l) (sym (drop-append-le (0 + length text) (take room space) (drop room space) (omega arith)) ∙ ap (drop (0 + length text)) (take-append-drop room space))
+
 -- a refusal of the page, behind which nothing is looked at
 stopped : (a b : Verdict) (r : Refusal) (x y : Verdict) → and_then (and_then a (and_then b (Err r))) x ≡ and_then (and_then a (and_then b (Err r))) y
 stopped (Ok _) (Ok _) r x y = refl
@@ -108,3 +115,41 @@ module _ (labels regions : List ℕ) where
           let q = ap (λ (o : PageOutcome). o.answer) g in
           let z : ◌≡◌ {A = ℕ} 0 1 = cc q in
           absurd (omega arith)
+
+  -- ---- the whole space, of which the page buffer is the first part
+  -- a page that is laid out is put there
+  pub page_put : (space part : List ℕ) (room n : ℕ) → room ≤ length space → page_outcome labels regions (take room space) ≡ (record { answer = Ok n; page = part })
+      → Put space 0 (outcome_text (page_outcome labels regions (take room space))) (part ++ drop room space) n
+  unfolding page_outcome
+  page_put space part room n h e = go (page_verdict labels regions (length (take room space))) refl e
+    where
+      go : (v : Verdict) → page_verdict labels regions (length (take room space)) ≡ v → outcome_by v (page_of labels regions) (take room space) ≡ (record { answer = Ok n; page = part })
+          → Put space 0 (outcome_text (outcome_by v (page_of labels regions) (take room space))) (part ++ drop room space) n
+      go (Ok tt) f g =
+          let l = pass_room (length (take room space)) f in
+          let q = ap (λ (o : PageOutcome). o.answer) g in
+          let a : length (page_of labels regions) ≡ n = cc q in
+          let b = ap (λ (o : PageOutcome). o.page) g in
+          rw (text_by_lem (Ok tt) (page_of labels regions) (take room space))
+          (record {
+            fits = omega (arith, l, length-take room space);
+            ends = omega arith;
+            bytes = ap (λ (q : List ℕ). q ++ drop room space) (sym b) ∙ append_part space (page_of labels regions) room l;
+          })
+      go (Err r) f g =
+          let q = ap (λ (o : PageOutcome). o.answer) g in
+          let z : ◌≡◌ {A = ℕ} 0 1 = cc q in
+          absurd (omega arith)
+
+  -- a refusal leaves it, and is printed alone
+  pub page_refused : (space part : List ℕ) (room : ℕ) (r : Refusal) → page_outcome labels regions (take room space) ≡ (record { answer = Err r; page = part })
+      → (part ++ drop room space ≡ space) × (outcome_text (page_outcome labels regions (take room space)) ≡ refused_line (numbered r))
+  unfolding page_outcome
+  page_refused space part room r e = (go (page_verdict labels regions (length (take room space))) e, ap outcome_text e)
+    where
+      go : (v : Verdict) → outcome_by v (page_of labels regions) (take room space) ≡ (record { answer = Err r; page = part }) → part ++ drop room space ≡ space
+      go (Ok tt) g =
+          let q = ap (λ (o : PageOutcome). o.answer) g in
+          let z : ◌≡◌ {A = ℕ} 0 1 = cc q in
+          absurd (omega arith)
+      go (Err s) g = ap (λ (l : List ℕ). l ++ drop room space) (sym (ap (λ (o : PageOutcome). o.page) g)) ∙ take-append-drop room space

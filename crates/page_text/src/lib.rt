@@ -1,9 +1,8 @@
 // What `page` does (document 02, P3), from the bytes that it reads to those that it prints.
 #![tactic(auto)]
 
-ghost use Rattle.std.specs.Prelude.{◌≡◌, [], ◌≤◌, length, take};
-ghost use Rattle.page_outcome.specs.Outcome.{page_outcome};
-ghost use Rattle.page_text.specs.PageText.{length_in, outcome_text, page_text};
+ghost use Rattle.std.specs.Prelude.{◌≡◌};
+ghost use Rattle.page_text.specs.PageText.{length_in, page_text};
 
 use program::Program;
 use text::Printed;
@@ -21,32 +20,22 @@ fn length_in(rest: &[u8]) -> usize
     record::word_at(rest, 0) as usize
 }
 
-// The page, laid out in the first `room` bytes of a space, or the refusal alone.
-fn put_page(out: &mut Printed, room: usize, labels: &[u8], regions: &[u8], space: &mut [u8])
-    requires { (out.old ≡ []) × (room ≤ length space.old) × (length space.old ≤ MOST) }
-    ensures { out.new ≡ outcome_text (page_outcome labels.now regions.now (take room space.old)) }
-{
-    let page = &mut space[..room];
-    match page_core::lay_out(labels, regions, &mut *page) {
-        Ok(length) => out.push(&page[..length as usize]),
-        Err(refusal) => out.push_refusal(refusal::numbers(refusal)),
-    }
-}
-
-// The text that `page` prints for an input. Of a page buffer over its limit one byte more than the limit is held.
+// The text that `page` prints for an input: the page, or the refusal alone. Of a page buffer over its limit one byte more
+// than the limit is held.
+#[tactic(auto, using(text::proofs::TextLaws::refused_most))]
 pub fn page(input: &[u8], out: &mut Printed)
     ensures { out.new ≡ page_text input.now }
 {
     let room = length_in(input::behind_lists(input, 2)).min(MOST);
     let mut space = [0u8; MOST];
+    let page = &mut space[..room];
+    let labels = input::list_of(input, 0);
+    let regions = input::list_of(input, 1);
     out.clear();
-    put_page(
-        out,
-        room,
-        input::list_of(input, 0),
-        input::list_of(input, 1),
-        &mut space,
-    );
+    match page_core::lay_out(labels, regions, &mut *page) {
+        Ok(length) => out.push(&page[..length as usize]),
+        Err(refusal) => out.push_refusal(refusal::numbers(refusal)),
+    }
 }
 
 // `page` as a program.

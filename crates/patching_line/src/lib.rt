@@ -32,7 +32,7 @@ struct Line<'a> {
 fn number_ok(region: u16) -> bool
     ensures { result ≡ region_number_ok region }
 {
-    if region <= 15 { true } else { region == 65535 }
+    region <= 15 || region == emit_outcome::NO_REGION
 }
 
 // Whether a region list has that number, or no region is selected.
@@ -144,12 +144,9 @@ fn emit_nowhere(
 fn late_refusal(refusal: Refusal) -> Refusal
     ensures { result ≡ late_refusal refusal }
 {
-    let told = refusal::numbers(refusal);
-    if told.number == 10 {
-        let location = told.location;
-        Refusal::LateLine(location)
-    } else {
-        refusal
+    match refusal {
+        Refusal::MissingRegion(location) => Refusal::LateLine(location),
+        other => other,
     }
 }
 
@@ -166,7 +163,7 @@ fn late_answer(answer: EmitAnswer) -> EmitAnswer
 fn room_in(free: usize) -> usize
     ensures { result ≡ min most_words free }
 {
-    if free < 20 { free } else { 20 }
+    free.min(20)
 }
 
 // The emit call of a line in the region that was found.

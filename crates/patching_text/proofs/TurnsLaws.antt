@@ -1,6 +1,7 @@
 -- Laws of a script's turns: how long their texts are, and the text of a script from its next turn on. Assumes nothing.
 use Rattle.std.specs.Prelude.{ℕ, zero, suc, ◌+◌, ◌-◌, ◌*◌, ◌≤◌, ◌<◌, ◌≡◌, refl, Bool, true, false, ◌&&◌, List, [], ◌∷◌, ◌++◌, leb, ltb, eqb, length, drop, get_or, Err, Ok}
-use Rattle.std.proofs.Common.{arith, sym, ap, subst, ◌∙◌, append_assoc, length-append, ltb-true, ltb-false, lt-ltb, le-ltb, eq-eqb, ne_eqb}
+use Rattle.std.proofs.Common.{arith, sym, ap, subst, ◌∙◌, append_assoc, length-append, leb-true, le-leb, ltb-true, ltb-false, lt-ltb, le-ltb, eq-eqb, ne_eqb}
+use Rattle.std.proofs.lemmas.Bool.{lt-leb}
 use Rattle.std.proofs.Math.Bool.{and-eq-true_iff}
 use Rattle.io.specs.Digits.{last_digits}
 use Rattle.jobs.specs.declared.Job.{Job}
@@ -17,6 +18,8 @@ use Rattle.labels.specs.Labels.{table_of}
 use Rattle.input.specs.Input.{behind_lists, list_of, word_or_zero, half_or_zero}
 use Rattle.text.specs.Text.{last_field, refused_line}
 use Rattle.text.proofs.TextLaws.{digits_length, last_most, refused_most}
+use Rattle.bytes_line.specs.BytesLine.{bytes_line}
+use Rattle.bytes_line.proofs.BytesLineLaws.{bytes_length}
 use Rattle.line_text.specs.Line.{position_line, fills_line}
 use Rattle.line_text.proofs.LineLaws.{position_most, fills_most}
 use Rattle.patching_text.specs.Script.{step_text, line_text, state_text, fills_of, counts_text, end_text, Given, turn_byte, line_in, turned_by, step_turn, line_turn, turn_of, behind_turn, script_text, most_turns}
@@ -48,6 +51,20 @@ counts_length c =
 
 pub counts_most : (c : PatchCounts) → length (counts_text c) ≤ 112
 counts_most c = omega (arith, counts_length c, state_most c.state, fills_most (fills_of c), last_most c.patches)
+
+pub end_length : (c : PatchCounts) (regions pending breakpoints : List ℕ) → length (end_text c regions pending breakpoints)
+    ≡ length (counts_text c) + length (bytes_line (bytes_of "regions ") regions) + length (bytes_line (bytes_of "pending ") pending) + length (bytes_line (bytes_of "breakpoints ") breakpoints)
+unfolding end_text
+end_length c regions pending breakpoints =
+    let one = counts_text c ++ bytes_line (bytes_of "regions ") regions in
+    let two = one ++ bytes_line (bytes_of "pending ") pending in
+    omega (arith, length-append two (bytes_line (bytes_of "breakpoints ") breakpoints), length-append one (bytes_line (bytes_of "pending ") pending), length-append (counts_text c) (bytes_line (bytes_of "regions ") regions))
+
+-- with buffers that are as long as they are held
+pub end_most : (c : PatchCounts) (regions pending breakpoints : List ℕ) → length regions ≤ 65537 → length pending ≤ 65537 → length breakpoints ≤ 65537
+    → length (end_text c regions pending breakpoints) ≤ 400000
+end_most c regions pending breakpoints r p b =
+    omega (arith, end_length c regions pending breakpoints, counts_most c, bytes_length (bytes_of "regions ") regions, bytes_length (bytes_of "pending ") pending, bytes_length (bytes_of "breakpoints ") breakpoints, r, p, b)
 
 -- ---- the byte of a turn
 
@@ -167,23 +184,36 @@ module _ {whole : List ℕ} {g : Given} {p : Patching} {rest out : List ℕ} {tu
   pub here_turn : goes_on turns rest ≡ true → (turns < most_turns) × (leb (turn_byte rest) 1 ≡ true)
   here_turn e = let b = (and-eq-true_iff (ltb turns most_turns) (leb (turn_byte rest) 1)).0 e in (ltb-true turns most_turns b.0, b.1)
 
-  pub here_next : goes_on turns rest ≡ true → (out_after : List ℕ) (p_after : Patching) → Turns (turn_of g p rest) out out_after p_after
+  pub here_then : turns < most_turns → turn_byte rest ≤ 1 → (out_after : List ℕ) (p_after : Patching) → Turns (turn_of g p rest) out out_after p_after
       → Here whole g p_after (behind_turn rest) out_after (turns + 1)
-  here_next e out_after p_after t =
-      let b = here_turn e in
+  here_then few next out_after p_after t =
       let text = (turn_of g p rest).text in
       let then = script_text (most_turns - (turns + 1)) g p_after (behind_turn rest) in
-      let n : most_turns - turns ≡ suc (most_turns - (turns + 1)) = omega (arith, b.0) in
+      let n : most_turns - turns ≡ suc (most_turns - (turns + 1)) = omega (arith, few) in
       record {
-        few = omega (arith, b.0);
+        few = omega (arith, few);
         short = omega (arith, ap length t.pushed, length-append out text, t.short, h.short);
         left =
             h.left
             ∙ ap (λ (l : List ℕ). out ++ l)
-            (ap (λ (m : ℕ). script_text m g p rest) n ∙ script_next g p rest (most_turns - (turns + 1)) b.1 ∙ ap (λ (q : Patching). text ++ script_text (most_turns - (turns + 1)) g q (behind_turn rest)) t.left)
+            (ap (λ (m : ℕ). script_text m g p rest) n ∙ script_next g p rest (most_turns - (turns + 1)) (le-leb (turn_byte rest) 1 next) ∙ ap (λ (q : Patching). text ++ script_text (most_turns - (turns + 1)) g q (behind_turn rest)) t.left)
             ∙ sym (append_assoc out text then)
             ∙ ap (λ (l : List ℕ). l ++ then) (sym t.pushed);
       }
+
+  pub here_next : goes_on turns rest ≡ true → (out_after : List ℕ) (p_after : Patching) → Turns (turn_of g p rest) out out_after p_after
+      → Here whole g p_after (behind_turn rest) out_after (turns + 1)
+  here_next e = let b = here_turn e in here_then b.0 (leb-true (turn_byte rest) 1 b.1)
+
+  -- behind the last turn only the lines of the end are left: no turn is next, or there have been the most
+  pub here_over : 1 < turn_byte rest → whole ≡ out ++ end_text p.counts p.regions p.pending p.breakpoints
+  here_over e = h.left ∙ ap (λ (l : List ℕ). out ++ l) (script_over g p rest (most_turns - turns) (lt-leb (turn_byte rest) 1 e))
+
+  pub here_full : most_turns ≤ turns → whole ≡ out ++ end_text p.counts p.regions p.pending p.breakpoints
+  unfolding script_text
+  here_full e =
+      let z : most_turns - turns ≡ 0 = omega arith in
+      h.left ∙ ap (λ (l : List ℕ). out ++ l) (ap (λ (n : ℕ). script_text n g p rest) z)
 
   pub here_last : goes_on turns rest ≡ false → (out_after : List ℕ) → out_after ≡ out ++ end_text p.counts p.regions p.pending p.breakpoints → out_after ≡ whole
   here_last e out_after q =

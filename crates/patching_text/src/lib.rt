@@ -1,10 +1,11 @@
 // What `patch_steps` does (document 02, P12), from the bytes that it reads to those that it prints: a script of steps and lines.
 #![tactic(auto)]
 
-ghost use Rattle.std.specs.Prelude.{◌≡◌, [], ◌+◌, ◌≤◌, length};
+ghost use Rattle.std.specs.Prelude.{◌≡◌, ◌++◌, ◌+◌, ◌*◌, ◌≤◌, length};
 ghost use Rattle.patching_outcome.specs.Patching.{patching_of};
-ghost use Rattle.patching_text.specs.Script.{turn_byte, line_in, turn_of, behind_turn, script_given, most_turns, script_text, counts_in, lent_text, job_text, steps_text};
-ghost use Rattle.patching_text.specs.Turns.{Turns, StepTurns, LineTurns, goes_on};
+ghost use Rattle.patching_text.specs.Setup.{given_by};
+ghost use Rattle.patching_text.specs.Script.{turn_byte, line_in, turn_of, behind_turn, most_turns, script_text, end_text, counts_in, job_text, steps_text};
+ghost use Rattle.patching_text.specs.Turns.{Turns, StepTurns, LineTurns};
 
 use jobs::Job;
 use patching_outcome::PatchCounts;
@@ -19,14 +20,24 @@ const MOST_TURNS: usize = 4096;
 // Four bytes for each pending that a list may have.
 const KEPT: usize = 7_280;
 
+// What all turns have: the job, the labels, the entry record and the descriptors.
+#[derive(Clone, Copy)]
+struct Setup<'a> {
+    job: Job,
+    labels: &'a [u8],
+    entry: &'a [u8],
+    descriptors: &'a [u8],
+}
+
 // The byte that says what the next turn is; 2 where the input ends.
 fn turn_byte(script: &[u8]) -> u8
     ensures { result ≡ turn_byte script.now }
 {
-    if script.len() == 0 { 2 } else { script[0] }
+    script.first().copied().unwrap_or(2)
 }
 
 // The script behind its next turn.
+#[tactic(auto, using(input::proofs::InputLaws::rest_is), unfolding(crate::specs::Script::behind_turn))]
 fn behind_turn(script: &[u8]) -> &[u8]
     requires { 1 ≤ length script.now }
     ensures { result.now ≡ behind_turn script.now }
@@ -41,30 +52,37 @@ fn behind_turn(script: &[u8]) -> &[u8]
 }
 
 // A step's line, and the caller's record after it.
+#[tactic(auto, using(crate::proofs::TurnsLaws::step_most))]
 fn do_step(
     out: &mut Printed,
-    job: Job,
-    labels: &[u8],
-    entry: &[u8],
+    setup: Setup<'_>,
     counts: PatchCounts,
     regions: &mut [u8],
     pending: &[u8],
     kept: &mut [u8],
 ) -> PatchCounts
     requires { length out.old + 144 ≤ MOST }
-    ensures { StepTurns job labels.now entry.now regions.old pending.now kept.old counts
+    ensures { let g = given_by setup.entry in StepTurns g.job g.labels g.entry regions.old pending.now kept.old counts
         out.old out.new result regions.new kept.new }
 {
-    let stepped = patching_step::patch_step(job, labels, entry, counts, regions, pending, kept);
+    let stepped = patching_step::patch_step(
+        setup.job,
+        setup.labels,
+        setup.entry,
+        counts,
+        regions,
+        pending,
+        kept,
+    );
     lines::put_step(out, stepped.answer);
     stepped.counts
 }
 
 // The lines of a line, and the caller's record after it; `line` is the script behind the byte that says so.
+#[tactic(auto, using(crate::proofs::TurnsLaws::line_most))]
 fn do_line(
     out: &mut Printed,
-    job: Job,
-    descriptors: &[u8],
+    setup: Setup<'_>,
     line: &[u8],
     counts: PatchCounts,
     regions: &mut [u8],
@@ -72,16 +90,16 @@ fn do_line(
     breakpoints: &mut [u8],
 ) -> PatchCounts
     requires { length out.old + 144 ≤ MOST }
-    ensures { LineTurns job (line_in descriptors.now line.now) regions.old pending.old breakpoints.old counts
+    ensures { let g = given_by setup.entry in LineTurns g.job (line_in g.descriptors line.now) regions.old pending.old breakpoints.old counts
         out.old out.new result regions.new pending.new breakpoints.new }
 {
     let numbers = input::behind_lists(line, 2);
     let lined = patching_line::patch_line(
-        job,
+        setup.job,
         counts,
         input::list_of(line, 0),
         input::list_of(line, 1),
-        descriptors,
+        setup.descriptors,
         regions,
         pending,
         breakpoints,
@@ -95,10 +113,7 @@ fn do_line(
 // The next turn of a script.
 fn do_turn(
     out: &mut Printed,
-    job: Job,
-    labels: &[u8],
-    entry: &[u8],
-    descriptors: &[u8],
+    setup: Setup<'_>,
     script: &[u8],
     counts: PatchCounts,
     regions: &mut [u8],
@@ -107,17 +122,16 @@ fn do_turn(
     kept: &mut [u8],
 ) -> PatchCounts
     requires { (length out.old + 144 ≤ MOST) × (1 ≤ length script.now) }
-    ensures { Turns (turn_of (script_given job labels.now entry.now descriptors.now)
+    ensures { Turns (turn_of (given_by setup.entry)
         (patching_of regions.old pending.old breakpoints.old kept.old counts) script.now)
         out.old out.new (patching_of regions.new pending.new breakpoints.new kept.new result) }
 {
     if script[0] == 0 {
-        return do_step(out, job, labels, entry, counts, regions, &*pending, kept);
+        return do_step(out, setup, counts, regions, &*pending, kept);
     }
     do_line(
         out,
-        job,
-        descriptors,
+        setup,
         &script[1..],
         counts,
         regions,
@@ -126,45 +140,32 @@ fn do_turn(
     )
 }
 
-// Whether there is a next turn.
-fn goes_on(turns: usize, script: &[u8]) -> bool
-    ensures { result ≡ goes_on turns script.now }
-{
-    if turns < MOST_TURNS {
-        turn_byte(script) <= 1
-    } else {
-        false
-    }
-}
-
-// All turns of a script and its end.
-fn put_script(
+// The lines of all turns in the place of what was there, and the caller's record then. With the lines of the end this is the script's whole text.
+fn put_turns(
     out: &mut Printed,
-    job: Job,
-    labels: &[u8],
-    entry: &[u8],
-    descriptors: &[u8],
+    setup: Setup<'_>,
     script: &[u8],
     start: PatchCounts,
     regions: &mut [u8],
     pending: &mut [u8],
     breakpoints: &mut [u8],
     kept: &mut [u8],
-)
-    requires { (out.old ≡ []) × (length regions.old ≤ 65537) × (length pending.old ≤ 65537) × (length breakpoints.old ≤ 65537) }
-    ensures { out.new ≡ script_text most_turns (script_given job labels.now entry.now descriptors.now)
-        (patching_of regions.old pending.old breakpoints.old kept.old start) script.now }
+) -> PatchCounts
+    ensures text { script_text most_turns (given_by setup.entry)
+        (patching_of regions.old pending.old breakpoints.old kept.old start) script.now
+        ≡ out.new ++ end_text result regions.new pending.new breakpoints.new }
+    ensures short { length out.new ≤ 144 * most_turns }
 {
     let mut counts = start;
     let mut rest = script;
-    let mut turns = 0;
-    while goes_on(turns, rest) {
-        let turned = do_turn(
+    out.clear();
+    for _ in 0..MOST_TURNS {
+        if turn_byte(rest) > 1 {
+            break;
+        }
+        counts = do_turn(
             &mut *out,
-            job,
-            labels,
-            entry,
-            descriptors,
+            setup,
             rest,
             counts,
             &mut *regions,
@@ -172,12 +173,9 @@ fn put_script(
             &mut *breakpoints,
             &mut *kept,
         );
-        counts = turned;
-        let next = behind_turn(rest);
-        rest = next;
-        turns += 1;
+        rest = behind_turn(rest);
     }
-    lines::put_end(out, counts, &*regions, &*pending, &*breakpoints);
+    counts
 }
 
 // The caller's record at the start, of the numbers behind the lists.
@@ -193,66 +191,53 @@ fn counts_in(numbers: &[u8]) -> PatchCounts
     }
 }
 
-// The script of an input whose lent buffers are these.
-fn put_lent(
-    job: Job,
-    out: &mut Printed,
-    input: &[u8],
-    regions: &mut [u8],
-    pending: &mut [u8],
-    breakpoints: &mut [u8],
-)
-    requires { (out.old ≡ []) × (length regions.old ≤ 65537) × (length pending.old ≤ 65537) × (length breakpoints.old ≤ 65537) }
-    ensures { out.new ≡ lent_text job input.now regions.old pending.old breakpoints.old }
-{
-    let mut kept = [0u8; KEPT];
-    let numbers = input::behind_lists(input, 6);
-    let start = input::least(13, numbers.len());
-    put_script(
-        out,
-        job,
-        input::list_of(input, 0),
-        input::list_of(input, 1),
-        input::list_of(input, 2),
-        &numbers[start..],
-        counts_in(numbers),
-        regions,
-        pending,
-        breakpoints,
-        &mut kept,
-    );
-}
-
 // The text of an input's script in a job.
 fn put_job(job: Job, input: &[u8], out: &mut Printed)
-    requires { out.old ≡ [] }
     ensures { out.new ≡ job_text job input.now }
 {
     let mut regions = [0u8; record::LIMIT + 1];
     let mut pending = [0u8; record::LIMIT + 1];
     let mut breakpoints = [0u8; record::LIMIT + 1];
+    let mut kept = [0u8; KEPT];
     let r = input::hold(&mut regions, input::list_of(input, 3));
     let p = input::hold(&mut pending, input::list_of(input, 4));
     let b = input::hold(&mut breakpoints, input::list_of(input, 5));
-    put_lent(
+    let regions = &mut regions[..r];
+    let pending = &mut pending[..p];
+    let breakpoints = &mut breakpoints[..b];
+    let numbers = input::behind_lists(input, 6);
+    let start = input::least(13, numbers.len());
+    let setup = Setup {
         job,
-        out,
-        input,
-        &mut regions[..r],
-        &mut pending[..p],
-        &mut breakpoints[..b],
+        labels: input::list_of(input, 0),
+        entry: input::list_of(input, 1),
+        descriptors: input::list_of(input, 2),
+    };
+    let counts = put_turns(
+        &mut *out,
+        setup,
+        &numbers[start..],
+        counts_in(numbers),
+        &mut *regions,
+        &mut *pending,
+        &mut *breakpoints,
+        &mut kept,
     );
+    lines::put_end(out, counts, regions, pending, breakpoints);
 }
 
 // The text that `patch_steps` prints for an input.
+#[tactic(auto, unfolding(crate::specs::Script::steps_text))]
 pub fn patch_steps(input: &[u8], out: &mut Printed)
     ensures { out.new ≡ steps_text input.now }
 {
     let numbers = input::behind_lists(input, 6);
-    out.clear();
     match line_text::job_numbered(input::byte_or_zero(numbers, 12)) {
         Some(job) => put_job(job, input, out),
-        None => out.push(b"no such job\n"),
+        None => {
+            out.clear();
+            out.push(b"no such job\n");
+        }
     }
 }
 

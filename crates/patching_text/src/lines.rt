@@ -8,7 +8,7 @@ use text::{MOST, Printed};
 
 // The entry of patching that has ended.
 fn put_ended(out: &mut Printed, address: u32)
-    requires { length out.old + 144 ≤ MOST }
+    requires { length out.old + length (step_text (Ok (Progress.Ended address))) ≤ MOST }
     ensures { out.new ≡ out.old ++ step_text (Ok (Progress.Ended address)) }
 {
     out.push(b"ended ");
@@ -16,9 +16,8 @@ fn put_ended(out: &mut Printed, address: u32)
     out.push_byte(b'\n');
 }
 
-#[tactic(auto, using(text::proofs::TextLaws::last_most, text::proofs::TextLaws::refused_most, std::proofs::lemmas::Grind::common_steps))]
 pub(crate) fn put_step(out: &mut Printed, answer: StepAnswer)
-    requires { length out.old + 144 ≤ MOST }
+    requires { length out.old + length (step_text answer) ≤ MOST }
     ensures { out.new ≡ out.old ++ step_text answer }
 {
     match answer {
@@ -28,9 +27,8 @@ pub(crate) fn put_step(out: &mut Printed, answer: StepAnswer)
     }
 }
 
-#[tactic(auto, using(text::proofs::TextLaws::last_most, text::proofs::TextLaws::refused_most, std::proofs::lemmas::Grind::common_steps))]
 pub(crate) fn put_line(out: &mut Printed, answer: EmitAnswer)
-    requires { length out.old + 144 ≤ MOST }
+    requires { length out.old + length (line_text answer) ≤ MOST }
     ensures { out.new ≡ out.old ++ line_text answer }
 {
     match answer {
@@ -46,7 +44,7 @@ pub(crate) fn put_line(out: &mut Printed, answer: EmitAnswer)
 }
 
 fn put_state(out: &mut Printed, state: u32)
-    requires { length out.old + 14 ≤ MOST }
+    requires { length out.old + length (state_text state) ≤ MOST }
     ensures { out.new ≡ out.old ++ state_text state }
 {
     match state {
@@ -57,9 +55,9 @@ fn put_state(out: &mut Printed, state: u32)
 }
 
 // The caller's record.
-#[tactic(auto, using(crate::proofs::TurnsLaws::state_most, line_text::proofs::LineLaws::fills_most, text::proofs::TextLaws::last_most, std::proofs::lemmas::Grind::common_steps), unfolding(crate::specs::Script::counts_text))]
+#[tactic(auto, using(crate::proofs::TurnsLaws::counts_length, std::proofs::lemmas::Grind::common_steps), unfolding(crate::specs::Script::counts_text))]
 fn put_counts(out: &mut Printed, counts: PatchCounts)
-    requires { length out.old + 112 ≤ MOST }
+    requires { length out.old + length (counts_text counts) ≤ MOST }
     ensures { out.new ≡ out.old ++ counts_text counts }
 {
     let fills = FillCounts {
@@ -73,7 +71,7 @@ fn put_counts(out: &mut Printed, counts: PatchCounts)
 }
 
 // What is printed behind the turns.
-#[tactic(auto, using(crate::proofs::TurnsLaws::counts_most, bytes_line::proofs::BytesLineLaws::bytes_length, std::proofs::lemmas::Grind::common_steps), unfolding(crate::specs::Script::end_text))]
+#[tactic(auto, using(crate::proofs::TurnsLaws::end_length, std::proofs::lemmas::Grind::common_steps), unfolding(crate::specs::Script::end_text))]
 pub(crate) fn put_end(
     out: &mut Printed,
     counts: PatchCounts,
@@ -81,7 +79,7 @@ pub(crate) fn put_end(
     pending: &[u8],
     breakpoints: &[u8],
 )
-    requires { (length out.old + 400000 ≤ MOST) × (length regions.now ≤ 65537) × (length pending.now ≤ 65537) × (length breakpoints.now ≤ 65537) }
+    requires { length out.old + length (end_text counts regions.now pending.now breakpoints.now) ≤ MOST }
     ensures { out.new ≡ out.old ++ end_text counts regions.now pending.now breakpoints.now }
 {
     put_counts(&mut *out, counts);

@@ -1,5 +1,5 @@
 -- The words of data from an offset on; what each word is, how many there are, and the data from its words. Assumes nothing.
-use Rattle.std.specs.Prelude.{ℕ, zero, suc, ◌+◌, ◌/◌, ◌^◌, ◌≤◌, ◌<◌, ◌≡◌, refl, length, take, drop, get_or}
+use Rattle.std.specs.Prelude.{ℕ, zero, suc, ◌+◌, ◌/◌, ◌^◌, ◌≤◌, ◌<◌, ◌≡◌, refl, min, ◌++◌, length, take, drop, get_or}
 use Rattle.std.proofs.Common.{add-one, arith, ap, drop_of_length-le, drop-cons}
 use mathlib.Core.List.{List, [], ◌∷◌, flat_map}
 use Rattle.finished_words.specs.Listed.{Bytes}
@@ -29,6 +29,36 @@ rows_part address i (a ∷ []) g h = refl
 rows_part address i (a ∷ b ∷ []) g h = refl
 rows_part address i (a ∷ b ∷ c ∷ []) g h = refl
 rows_part address i (a ∷ b ∷ c ∷ d ∷ rest) g h = absurd (omega arith)
+
+-- ---- data from its front on
+chunk_is : (n : ℕ) (bytes after : List ℕ) → length bytes ≡ min n (length (bytes ++ after)) → (take n (bytes ++ after) ≡ bytes) × (drop n (bytes ++ after) ≡ after)
+chunk_is zero [] after h = (refl, refl)
+chunk_is zero (x ∷ bytes) after h = absurd (omega arith)
+chunk_is (suc n) [] [] h = (refl, refl)
+chunk_is (suc n) [] (y ∷ after) h = absurd (omega arith)
+chunk_is (suc n) (x ∷ bytes) after h =
+    let e = chunk_is n bytes after (omega arith) in
+    (ap (λ (l : List ℕ). x ∷ l) e.0, e.1)
+
+rows_take : (address i : ℕ) (rest : List ℕ) → 0 < length rest → rows address i rest ≡ row address i (take 4 rest) ∷ rows address (i + 4) (drop 4 rest)
+unfolding rows
+rows_take address i [] h = absurd (omega arith)
+rows_take address i (a ∷ []) h = refl
+rows_take address i (a ∷ b ∷ []) h = refl
+rows_take address i (a ∷ b ∷ c ∷ []) h = refl
+rows_take address i (a ∷ b ∷ c ∷ d ∷ rest) h = refl
+
+-- the next four bytes, or the last part word, and then the others
+pub rows_next : (address i : ℕ) (rest bytes after : List ℕ) → rest ≡ bytes ++ after → length bytes ≡ min 4 (length rest) → 0 < length rest
+    → rows address i rest ≡ row address i bytes ∷ rows address (i + 4) after
+rows_next address i rest bytes after e l h =
+    let c = chunk_is 4 bytes after (rw e at l) in
+    rw (rows_take address i rest h, e, c.0, c.1)
+
+pub rows_end : (address i : ℕ) (rest : List ℕ) → length rest ≡ 0 → rows address i rest ≡ []
+unfolding rows
+rows_end address i [] h = refl
+rows_end address i (x ∷ rest) h = absurd (omega arith)
 
 -- ---- every element of a list
 abbrev pub Each : {A : Type 0} → (A → Type 0) → List A → Type 0

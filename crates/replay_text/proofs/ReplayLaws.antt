@@ -1,4 +1,4 @@
--- A call is met where what it gives back is what is expected. Assumes nothing.
+-- A call is met where what it gives back is what is expected; what is held of a line's lists, and the tally of the first calls. Assumes nothing.
 use Rattle.std.specs.Prelude.{ℕ, ◌+◌, ◌≤◌, List, Bool, true, false, ◌&&◌, ltb, ◌≡◌, refl}
 use Rattle.std.proofs.Common.{arith, add-one, ◌∙◌}
 use Rattle.emit_outcome.specs.declared.LinePlace.{LinePlace}
@@ -45,12 +45,12 @@ counted_is : (builds n : ℕ) (s : List ℕ) → counted (call_met (ltb n builds
 unfolding tally_of
 counted_is builds n s = rw (add-one n)
 
-pub tally_next : (builds n : ℕ) (s call : List ℕ) (t u : Tally) (met : Bool) → Tallied builds n s t → call ≡ list_of (n + 1) s → met ≡ call_met (ltb n builds) call
-    → u ≡ counted met (n + 1) t → Tallied builds (n + 1) s u
-tally_next builds n s call t u met h e f g =
+pub tally_next : (builds n : ℕ) (s : List ℕ) (t : Tally) (met : Bool) → Tallied builds n s t → met ≡ call_met (ltb n builds) (list_of (n + 1) s)
+    → Tallied builds (n + 1) s (counted met (n + 1) t)
+tally_next builds n s t met h e =
     record {
-      most = rw g (counted_most met n t h.most);
-      is = g ∙ rw (h.is, f, e) (counted_is builds n s);
+      most = counted_most met n t h.most;
+      is = rw (h.is, e) (counted_is builds n s);
     }
 
 pub replay_is : (s head : List ℕ) (builds calls : ℕ) (t : Tally) → head ≡ list_of 0 s → builds ≡ word_or_zero head 0 → calls ≡ word_or_zero head 4

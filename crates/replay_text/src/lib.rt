@@ -2,11 +2,11 @@
 // give back is compared with what stands there. specs/Replay.antt says how the list of calls is made.
 #![tactic(auto)]
 
-ghost use Rattle.std.specs.Prelude.{◌≡◌, [], ◌&&◌, ◌^◌, ◌<◌};
+ghost use Rattle.std.specs.Prelude.{◌≡◌, ◌++◌, ◌+◌, ◌^◌, ◌<◌, ◌≤◌, length, ltb};
 ghost use Rattle.record.specs.Bytes.{same_bytes};
 ghost use Rattle.emit_outcome.specs.Call.{lent_of};
 ghost use Rattle.input.specs.Input.{list_of};
-ghost use Rattle.replay_text.specs.Replay.{built_met, build_met, emitted_met, line_met, call_met, counted, tally_of, tally_text, replay_text};
+ghost use Rattle.replay_text.specs.Replay.{built_met, build_met, emitted_met, line_met, call_met, tally_of, tally_text, replay_text};
 
 use jobs::Job;
 use text::Text;
@@ -22,12 +22,6 @@ pub const MOST_TEXT: usize = 128;
 pub struct Tally {
     pub differ: u64,
     pub last: u64,
-}
-
-fn both(a: bool, b: bool) -> bool
-    ensures { result ≡ (a && b) }
-{
-    if a { b } else { false }
 }
 
 // Whether the call's list of that number has these bytes.
@@ -50,7 +44,7 @@ fn is_built(call: &[u8], regions: &mut [u8]) -> bool
         input::list_of(call, 3),
         &mut answer,
     );
-    both(is_list(call, 4, &answer), is_list(call, 5, &*regions))
+    is_list(call, 4, &answer) && is_list(call, 5, &*regions)
 }
 
 fn is_build_met(call: &[u8]) -> bool
@@ -88,10 +82,11 @@ fn is_emitted(
         input::word_or_zero(place, 6),
         &mut answer,
     );
-    let is_answer_met = both(is_list(call, 8, &answer), is_list(call, 9, &*counts));
-    let is_data_met = both(is_list(call, 10, &*data), is_list(call, 11, &*pending));
-    let are_buffers_met = both(is_data_met, is_list(call, 12, &*breakpoints));
-    both(is_answer_met, are_buffers_met)
+    is_list(call, 8, &answer)
+        && is_list(call, 9, &*counts)
+        && is_list(call, 10, &*data)
+        && is_list(call, 11, &*pending)
+        && is_list(call, 12, &*breakpoints)
 }
 
 fn is_line_met(call: &[u8]) -> bool
@@ -114,27 +109,16 @@ fn is_line_met(call: &[u8]) -> bool
     )
 }
 
-fn is_met(call: &[u8], build: bool) -> bool
-    ensures { result ≡ call_met build call.now }
+// Whether the call of that number is met, counted from 0. The first calls are builds, and the others lines.
+fn is_met(input: &[u8], builds: usize, number: usize) -> bool
+    requires { number < 2 ^ 32 }
+    ensures { result ≡ call_met (ltb number builds) (list_of (number + 1) input.now) }
 {
-    if build {
+    let call = input::list_of(input, number + 1);
+    if number < builds {
         is_build_met(call)
     } else {
         is_line_met(call)
-    }
-}
-
-// The tally with the call of that number.
-fn with_call(tally: Tally, number: u64, met: bool) -> Tally
-    requires { tally.differ < 2 ^ 32 }
-    ensures { result ≡ counted met number tally }
-{
-    if met {
-        return tally;
-    }
-    Tally {
-        differ: tally.differ + 1,
-        last: number,
     }
 }
 
@@ -144,16 +128,20 @@ fn tally_of(input: &[u8], builds: usize, calls: usize) -> Tally
 {
     let mut tally = Tally { differ: 0, last: 0 };
     for i in 0..calls {
-        let met = is_met(input::list_of(input, i + 1), i < builds);
-        tally = with_call(tally, i as u64 + 1, met);
+        if !is_met(input, builds, i) {
+            tally = Tally {
+                differ: tally.differ + 1,
+                last: i as u64 + 1,
+            };
+        }
     }
     tally
 }
 
-#[tactic(auto, using(text::proofs::TextLaws::last_most, std::proofs::lemmas::Grind::common_steps))]
+#[tactic(auto, using(std::proofs::lemmas::Grind::common_steps))]
 fn put_tally(out: &mut Text<MOST_TEXT>, calls: u64, tally: Tally)
-    requires { out.old ≡ [] }
-    ensures { out.new ≡ tally_text calls tally }
+    requires { length out.old + length (tally_text calls tally) ≤ MOST_TEXT }
+    ensures { out.new ≡ out.old ++ tally_text calls tally }
 {
     out.push_number_line(b"calls", calls);
     out.push_number_line(b"differ", tally.differ);
@@ -161,6 +149,7 @@ fn put_tally(out: &mut Text<MOST_TEXT>, calls: u64, tally: Tally)
 }
 
 // The text that `replay` prints for an input.
+#[tactic(auto, using(text::proofs::TextLaws::last_most, std::proofs::lemmas::Grind::common_steps), unfolding(crate::specs::Replay::replay_text))]
 pub fn replay(input: &[u8], out: &mut Text<MOST_TEXT>)
     ensures { out.new ≡ replay_text input.now }
 {

@@ -1,5 +1,5 @@
 -- Lemmas on how many words of a line wait for a label: an address takes two, and no line more. Assumes nothing.
-use Rattle.std.specs.Prelude.{ℕ, ◌+◌, ◌*◌, ◌%◌, ◌≤◌, ◌≡◌, refl, List, [], ◌∷◌, ◌++◌, map, Bool, true, false, length, None, Ok, Result, Some, Option}
+use Rattle.std.specs.Prelude.{ℕ, ◌+◌, ◌*◌, ◌%◌, ◌≤◌, ◌≡◌, refl, List, [], ◌∷◌, ◌++◌, map, Bool, true, false, length, None, Ok, Some, Option}
 use native.Mathlib.Omega.{arith}
 use Rattle.jobs.specs.declared.Job.{Job}
 use Rattle.registers.specs.Numbers.{register_number}
@@ -27,7 +27,7 @@ use Rattle.operand.specs.declared.OffsetOrLabel.TheVariants.{Label as LabelAlone
 use Rattle.operand_list.specs.OperandLists.{AskedAll, read_operands}
 use Rattle.emit_words.specs.Words.{immediate_word}
 use Rattle.emit_pairs.specs.declared.InstructionPair.{InstructionPair}
-use Rattle.emit_pairs.specs.Pairs.{plain, at_number, load_pairs, label_pairs, is_immediate, fallback_pairs, immediate_pairs}
+use Rattle.emit_pairs.specs.Pairs.{plain, at_number, load_pairs, label_pairs, is_immediate, fallback_pairs, immediate_pairs, Range}
 use Rattle.emit_pairs.specs.Values.{value_pairs, added_pairs, constant_pairs, offset_pairs}
 use Rattle.emit_bytes.specs.Appended.{pair_len, pendings_len}
 use Rattle.emit_integer.specs.IntegerWords.{inputs_pairs}
@@ -41,7 +41,6 @@ use Rattle.emit_outcome.specs.declared.Meaning.{Meaning}
 use Rattle.emit_outcome.specs.declared.Meaning.TheVariants.{Table, Builtin, Neither}
 use Rattle.routine.specs.CallValues.{meaning_pairs, call_pairs}
 use Rattle.routine.proofs.WordLaws.{PairFits, PairsFit}
-use Rattle.emit_pairs.specs.declared.Fault.{Fault}
 use Rattle.pending.specs.declared.InstructionLabel.{InstructionLabel}
 
 abbrev waits_for : Option InstructionLabel → ℕ
@@ -188,7 +187,7 @@ pseudo_waits job B x = omega arith
 pseudo_waits job Subi x = omega (arith, immediate_waits (Op 8) (Some (Func 32)) (register_number x.0) (register_number x.1) (with_sign true x.2))
 pseudo_waits job Subiu x = omega (arith, immediate_waits (Op 9) (Some (Func 33)) (register_number x.0) (register_number x.1) (with_sign true x.2))
 
-line_waits : {A : Type 0} (a : Answer A) (i : ℕ) (range : A → Result (Unit {0}) Fault) (pairs : A → List InstructionPair) (form : A → LoadForm)
+line_waits : {A : Type 0} (a : Answer A) (i : ℕ) (range : A → Range) (pairs : A → List InstructionPair) (form : A → LoadForm)
     → ((x : A) → waits (pairs x) ≤ 2) → waits (line_by a i range pairs form).pairs ≤ 2
 unfolding waits
 line_waits (Got x) i range pairs form h = h x

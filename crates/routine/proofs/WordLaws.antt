@@ -1,5 +1,5 @@
 -- A line that was made has one to five words, and each label that one waits for fits a pending record. Assumes nothing.
-use Rattle.std.specs.Prelude.{ℕ, suc, ◌+◌, ◌≤◌, ◌≡◌, refl, List, [], ◌∷◌, ◌++◌, map, Bool, true, false, length, get_or, None, Ok, Result, Some, Option}
+use Rattle.std.specs.Prelude.{ℕ, suc, ◌+◌, ◌≤◌, ◌≡◌, refl, List, [], ◌∷◌, ◌++◌, map, Bool, true, false, length, get_or, None, Ok, Some, Option}
 use Rattle.std.proofs.Common.{arith, subst, length-append}
 use Rattle.jobs.specs.declared.Job.{Job}
 use Rattle.registers.specs.Numbers.{register_number}
@@ -24,7 +24,7 @@ use Rattle.operand.specs.declared.OffsetOrLabel.{OffsetOrLabel}
 use Rattle.operand.specs.declared.OffsetOrLabel.TheVariants.{Label as LabelAlone, Offset as Based}
 use Rattle.operand_list.specs.OperandLists.{AskedAll, read_operands}
 use Rattle.emit_pairs.specs.declared.InstructionPair.{InstructionPair}
-use Rattle.emit_pairs.specs.Pairs.{plain, at_number, load_pairs, label_pairs, is_immediate, immediate_range, immediate_pairs}
+use Rattle.emit_pairs.specs.Pairs.{plain, at_number, load_pairs, label_pairs, is_immediate, immediate_range, immediate_pairs, Range}
 use Rattle.emit_pairs.proofs.PairsLaws.{load_pairs_length, pairs_taken, pairs_alternative, range_refused}
 use Rattle.emit_pairs.specs.Values.{value_pairs, constant_pairs, base_pairs, offset_pairs}
 use Rattle.emit_integer.specs.IntegerWords.{inputs_pairs}
@@ -36,7 +36,6 @@ use Rattle.emit_dispatch.specs.Lines.{encoding_pairs, pseudo_pairs, encoding_for
 use Rattle.emit_dispatch.specs.LineAnswers.{Made}
 use Rattle.routine.proofs.TokenLaws.{TokenFits}
 use Rattle.routine.proofs.ReadLaws.{Of, OffsetFits, AllFit, operands_fit}
-use Rattle.emit_pairs.specs.declared.Fault.{Fault}
 use Rattle.pending.specs.declared.InstructionLabel.{InstructionLabel}
 
 module _ (names : List ℕ) where
@@ -180,7 +179,7 @@ module _ (names : List ℕ) where
 
   -- ---- what was read, made into words
 
-  line_words : {A : Type 0} (fits : A → Type 0) (range : A → Result (Unit {0}) Fault) (pairs : A → List InstructionPair) (form : A → LoadForm) → ((x : A) → fits x → range x ≡ Ok tt → Words 1 5 (pairs x))
+  line_words : {A : Type 0} (fits : A → Type 0) (range : A → Range) (pairs : A → List InstructionPair) (form : A → LoadForm) → ((x : A) → fits x → range x ≡ Ok tt → Words 1 5 (pairs x))
       → (a : Answer A) (i : ℕ) → Of fits a → (line_by a i range pairs form).answer ≡ Made → Words 1 5 (line_by a i range pairs form).pairs
   line_words fits range pairs form w (Got x) i h e = w x h (within_made (range x) e)
   line_words fits range pairs form w (Missed m) i h e =

@@ -1,6 +1,6 @@
 -- The words of a line: those that wait for a half of an address are a lui with the upper half and straight behind it an ori with the lower,
 -- both for one name; the others wait for a branch's or a jump's destination, or for nothing. Whatever the line. Assumes nothing.
-use Rattle.std.specs.Prelude.{ℕ, ◌%◌, ◌≡◌, refl, List, [], ◌∷◌, ◌++◌, map, Bool, true, false, None, Ok, Result, Some, Option}
+use Rattle.std.specs.Prelude.{ℕ, ◌%◌, ◌≡◌, refl, List, [], ◌∷◌, ◌++◌, map, Bool, true, false, None, Ok, Some, Option}
 use Rattle.jobs.specs.declared.Job.{Job}
 use Rattle.registers.specs.Numbers.{register_number}
 use Rattle.registers.specs.declared.RegisterSlot.{RegisterSlot}
@@ -29,7 +29,7 @@ use Rattle.operand.specs.declared.OffsetOrLabel.TheVariants.{Label as LabelAlone
 use Rattle.operand_list.specs.OperandLists.{AskedAll, read_operands}
 use Rattle.emit_words.specs.Words.{immediate_word}
 use Rattle.emit_pairs.specs.declared.InstructionPair.{InstructionPair}
-use Rattle.emit_pairs.specs.Pairs.{plain, at_number, load_pairs, label_pairs, is_immediate, fallback_pairs, immediate_pairs}
+use Rattle.emit_pairs.specs.Pairs.{plain, at_number, load_pairs, label_pairs, is_immediate, fallback_pairs, immediate_pairs, Range}
 use Rattle.emit_pairs.specs.Values.{value_pairs, added_pairs, constant_pairs, offset_pairs}
 use Rattle.emit_integer.specs.IntegerWords.{inputs_pairs}
 use Rattle.emit_pseudo.specs.PseudoWords.{turned, sne_pairs}
@@ -42,7 +42,6 @@ use Rattle.emit_outcome.specs.declared.Meaning.{Meaning}
 use Rattle.emit_outcome.specs.declared.Meaning.TheVariants.{Table, Builtin, Neither}
 use Rattle.reading.specs.OnTarget.{Going}
 use Rattle.routine.specs.CallValues.{meaning_pairs, call_pairs}
-use Rattle.emit_pairs.specs.declared.Fault.{Fault}
 use Rattle.pending.specs.declared.InstructionLabel.{InstructionLabel}
 
 -- a word that waits for no half, and for no whole address
@@ -168,7 +167,7 @@ pseudo_halves job B x = one tt
 pseudo_halves job Subi x = immediate_halves (Op 8) (Some (Func 32)) (register_number x.0) (register_number x.1) (with_sign true x.2)
 pseudo_halves job Subiu x = immediate_halves (Op 9) (Some (Func 33)) (register_number x.0) (register_number x.1) (with_sign true x.2)
 
-line_halves : {A : Type 0} (a : Answer A) (i : ℕ) (range : A → Result (Unit {0}) Fault) (pairs : A → List InstructionPair) (form : A → LoadForm)
+line_halves : {A : Type 0} (a : Answer A) (i : ℕ) (range : A → Range) (pairs : A → List InstructionPair) (form : A → LoadForm)
     → ((x : A) → Halves (pairs x)) → Halves (line_by a i range pairs form).pairs
 line_halves (Got x) i range pairs form h = h x
 line_halves (Missed m) i range pairs form h = done

@@ -44,9 +44,16 @@ pub index_has : (s order : List ℕ) → IndexOf 4 s order → (owner : ℕ) (na
 index_has s order ix owner name found e =
     ap (λ (x : Looked). is_some x.named) e ∙ sym (hit_is (lookup 4 s order owner name).named) ∙ lookup_hits 4 s order ix owner name ∙ hit_is (first_owned 4 s owner name)
 
-pub standing_found : (s : List ℕ) (source : ℕ) (name : List ℕ) (own shared : Bool) → is_some (first_owned 4 s source name) ≡ own → is_some (first_owned 4 s for_all name) ≡ shared
+pub standing_scanned : (s : List ℕ) (source : ℕ) (name : List ℕ) (own shared : Bool) → is_some (first_owned 4 s source name) ≡ own → is_some (first_owned 4 s for_all name) ≡ shared
     → key_with name (standing_hit source own shared) ≡ key_for s source name
 unfolding key_for
-standing_found s source name own shared e f =
+standing_scanned s source name own shared e f =
     ap (key_with name)
     (ap₂ (standing_hit source) (sym (hit_is (first_owned 4 s source name) ∙ e)) (sym (hit_is (first_owned 4 s for_all name) ∙ f)) ∙ sym (standing_by_hits s source name))
+
+-- the same by two lookups in an index of the labels
+pub standing_as : (s l : List ℕ) → IndexOf 4 s l → (source : ℕ) (name : List ℕ) (own shared : Bool) → is_some (lookup 4 s l source name).named ≡ own
+    → is_some (lookup 4 s l for_all name).named ≡ shared → key_with name (standing_hit source own shared) ≡ key_for s source name
+standing_as s l ix source name own shared e f =
+    standing_scanned s source name own shared (sym (index_has s l ix source name (lookup 4 s l source name) refl) ∙ e)
+    (sym (index_has s l ix for_all name (lookup 4 s l for_all name) refl) ∙ f)

@@ -1,3 +1,4 @@
 pub mod AddingLaws
 pub mod MakingLaws
 pub mod LabelsLaws
+pub mod OrderLaws

@@ -22,7 +22,9 @@ use Rattle.label_uses.proofs.InsertLaws.{Stood, before, new, grown, insert_stood
 use Rattle.label_uses.proofs.UseBytesLaws.{uses_none, insert_length}
 use Rattle.label_uses.proofs.IndexLaws.{written_first}
 use Rattle.label_uses.proofs.FitsLaws.{use_fits}
-use Rattle.use_adding.specs.Adding.{IndexIn}
+use Rattle.label_uses.proofs.OneMoreLaws.{AllBytes, key_in_fits}
+use Rattle.label_uses.specs.Says.{key_in}
+use Rattle.use_adding.specs.Adding.{IndexIn, AnIndexWithRoom, AddsTo}
 use Rattle.use_adding.specs.Making.{AddsOneTo, KeepsOwners, RoomForOne, Made}
 
 -- ---- one pending
@@ -40,19 +42,44 @@ constant_adds d labels pending fill n x value e us i =
     let u : us ≡ use_of labels pending x n us = sym (ap (λ (y : AddressLabel). use_of labels pending y n us) e) in
     record { bytes = h.0 ∙ ap (λ (y : List Use). append d 0 (uses_bytes y)) u; filled = h.1 ∙ ap (λ (y : List Use). length (uses_bytes y)) u }
 
+-- with one use more, owners and sources have four bytes if those of its key have
+pub owners_insert : (key : UseKey) (n : ℕ) (us : List Use) → kept_of key.standing < 2 ^ 32 → ((u : Use) → Memᴰ u us → kept_of u.key.standing < 2 ^ 32) → (u : Use)
+    → Memᴰ u (insert_use key n us) → kept_of u.key.standing < 2 ^ 32
+owners_insert key n us h o u m = go (insert_stood key n us u m)
+  where
+    go : Stood key n us u → kept_of u.key.standing < 2 ^ 32
+    go (before t) = o u t
+    go (new i) = subst (λ (w : Use). kept_of w.key.standing < 2 ^ 32) (sym i) h
+    go (grown w t j i) = subst (λ (w : Use). kept_of w.key.standing < 2 ^ 32) (sym i) (o w t)
+
+pub constant_owners : (labels pending : List ℕ) (x : AddressLabel) (value : ℕ) → x ≡ Constant value → (n : ℕ) → KeepsOwners labels pending x n
+constant_owners labels pending x value e n = subst (λ (y : AddressLabel). KeepsOwners labels pending y n) (sym e) (λ us o. o)
+
 module _ (labels pending : List ℕ) (x : AddressLabel) (l : NamedLabel) (e : x ≡ Label l) (name : List ℕ) (m : name ≡ name_bytes pending x) (key : UseKey) (k : key ≡ key_for labels l.location.source name) where
   use_is : (n : ℕ) (us : List Use) → insert_use key n us ≡ use_of labels pending x n us
   use_is n us =
       ap (λ (y : UseKey). insert_use y n us) (k ∙ ap (key_for labels l.location.source) (m ∙ ap (name_bytes pending) e))
       ∙ sym (ap (λ (y : AddressLabel). use_of labels pending y n us) e)
 
+  -- room for the label's use is room for its key's
+  pub named_room : (d : List ℕ) (fill n : ℕ) → RoomForOne d labels pending fill x n → AnIndexWithRoom d fill key n
+  named_room d fill n r = record { us = r.us; index_in = r.index_in; room = omega (arith, r.room, ap (λ (y : List Use). length (uses_bytes y)) (use_is n r.us)) }
+
+  -- and the index with its key's use is that with the label's
+  pub named_adds : (d f : List ℕ) (fill n after : ℕ) → AddsTo d f fill key n after → AddsOneTo d f labels pending fill x n after
+  named_adds d f fill n after h us i =
+      let a = h us i in
+      record { bytes = a.bytes ∙ ap (λ (y : List Use). append d 0 (uses_bytes y)) (use_is n us); filled = a.filled ∙ ap (λ (y : List Use). length (uses_bytes y)) (use_is n us) }
+
   pub named_owners : (n : ℕ) → kept_of key.standing < 2 ^ 32 → KeepsOwners labels pending x n
-  named_owners n h us o u t = go (insert_stood key n us u (subst (Memᴰ u) (sym (use_is n us)) t))
-    where
-      go : Stood key n us u → kept_of u.key.standing < 2 ^ 32
-      go (before t) = o u t
-      go (new i) = subst (λ (w : Use). kept_of w.key.standing < 2 ^ 32) (sym i) h
-      go (grown w t j i) = subst (λ (w : Use). kept_of w.key.standing < 2 ^ 32) (sym i) (o w t)
+  named_owners n h us o u t = owners_insert key n us h o u (subst (Memᴰ u) (sym (use_is n us)) t)
+
+-- owners and sources that are read from bytes have four bytes
+pub bytes_owners : (labels pending : List ℕ) → AllBytes labels → AllBytes pending → (at n : ℕ) (y : AddressLabel) → label_of pending at ≡ y → KeepsOwners labels pending y n
+bytes_owners labels pending lb pb at n (Constant value) e = constant_owners labels pending (Constant value) value refl n
+bytes_owners labels pending lb pb at n (Label l) e =
+    let key = key_for labels l.location.source (part pending l.name_at l.name_len) in
+    named_owners labels pending (Label l) l refl (part pending l.name_at l.name_len) refl key refl n (key_in_fits labels pending lb pb at key (ap (key_in labels pending) e))
 
 -- ---- the fold
 pub record Making (d₀ labels pending d : List ℕ) (at n fill : ℕ) : Type 0 where
@@ -118,6 +145,11 @@ module _ (d₀ labels pending : List ℕ) (room : length pending ≤ length d₀
     grows : (y : AddressLabel) → length (uses_bytes m.us) ≤ length (uses_bytes (use_of labels pending y n m.us))
     grows (Constant value) = omega arith
     grows (Label l) = omega (arith, (insert_length (key_for labels l.location.source (part pending l.name_at l.name_len)) n m.us).least)
+
+    -- where the lists are bytes, owners and sources still have four bytes with the next pending's use
+    owners_next : AllBytes labels → AllBytes pending → (y : AddressLabel) → label_of pending at ≡ y → (u : Use) → Memᴰ u (use_of labels pending y n m.us)
+        → kept_of u.key.standing < 2 ^ 32
+    owners_next lb pb y e = bytes_owners labels pending lb pb at n y e m.us m.owners
 
     pub making_next : (e : List ℕ) (after : ℕ) → at < length pending → length e ≡ length d → AddsOneTo d e labels pending fill x n after → KeepsOwners labels pending x n
         → Making d₀ labels pending e (next pending at) (n + 1) after

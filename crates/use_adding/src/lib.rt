@@ -47,7 +47,7 @@ impl<'a> Model for Key<'a> {
 }
 
 impl<'a> Key<'a> {
-    fn new(name: &'a [u8], standing: Standing) -> Self
+    pub fn new(name: &'a [u8], standing: Standing) -> Self
         ensures { result ≡ key_with name.now standing }
     {
         Key { name, standing }

@@ -17,7 +17,7 @@ ghost use Rattle.write_out.specs.Body.{steps_from, Ready, written_from};
 ghost use Rattle.write_out.specs.Calls.{call_verdict, CallIs, act_steps, mode_after, Acting};
 ghost use Rattle.write_out.specs.Entry.{stop_by};
 
-use macro_tokens::{Act, Body, Reading, Source};
+use macro_tokens::{Act, Body, Callable, Reading, Source, Token};
 use macros::Macros;
 use record::Location;
 use refusal::Refusal;
@@ -41,24 +41,33 @@ fn call_verdict(
     Ok(())
 }
 
-// The call of the macro at k by the token at `place`, behind which its line goes on from `next` on: the body that it is replaced by.
-fn call_at(
-    source: &Source<'_>,
+// A body that is written out. It may call the macros before the place `most`, on so many levels.
+#[derive(Clone, Copy)]
+struct Frame<'a> {
+    reading: Reading<'a>,
+    most: usize,
     levels: usize,
-    reading: &Reading<'_>,
+}
+
+// A token that is met: its place, where its body goes on behind it, and what is done with it.
+#[derive(Clone, Copy)]
+struct Met {
     place: usize,
     next: usize,
-    k: usize,
-) -> Result<Body, Refusal>
-    requires token_in { TokenIn source.now.text.now source.now.macros.now place × ReadableFrom source.now.text.now source.now.macros.now reading.now.list.now reading.now.body next }
+    act: Act,
+}
+
+// The call of the macro at k by the token that is met: the body that it is replaced by.
+fn call_at(source: &Source<'_>, frame: &Frame<'_>, met: &Met, k: usize) -> Result<Body, Refusal>
+    requires token_in { TokenIn source.now.text.now source.now.macros.now met.now.place × ReadableFrom source.now.text.now source.now.macros.now frame.now.reading.list.now frame.now.reading.body met.now.next }
     requires text_len_bound { (length source.now.text.now ≤ limit) × (macro_layout source.now.macros.now ≡ None) × (macro_at_ok source.now.macros.now k ≡ true) }
-    ensures { CallIs source.now.text.now source.now.macros.now levels k (replaced levels (location_at (token_record source.now.text.now source.now.macros.now place) 4) (macro_at source.now.macros.now k) (above source.now.macros.now k) (arguments_from source.now.text.now source.now.macros.now reading.now.list.now reading.now.body next)) result }
+    ensures { CallIs source.now.text.now source.now.macros.now frame.now.levels k (replaced frame.now.levels (location_at (token_record source.now.text.now source.now.macros.now met.now.place) 4) (macro_at source.now.macros.now k) (above source.now.macros.now k) (arguments_from source.now.text.now source.now.macros.now frame.now.reading.list.now frame.now.reading.body met.now.next)) result }
 {
     let end = record::next(source.macros, k);
     let head = macros::head_of(&source.macros[k + 4..end]);
-    let taken = macro_tokens::arguments_from(source, reading, next);
-    let location = macro_tokens::location_of(source, place);
-    call_verdict(location, taken.count, head.count, levels)?;
+    let taken = macro_tokens::arguments_from(source, &frame.reading, met.next);
+    let location = macro_tokens::token_at(source, met.place).location();
+    call_verdict(location, taken.count, head.count, frame.levels)?;
     let args = taken.args;
     Ok(Body {
         base: source.text.len() + k + 4,
@@ -71,55 +80,54 @@ fn call_at(
 
 // A token written at `fill`, where there is room for it: the new fill.
 fn write_token(
-    source: &Source<'_>,
-    place: usize,
+    token: Token<'_>,
     really: bool,
     out: &mut [u8],
     fill: usize,
-) -> Result<u32, Refusal>
-    requires { TokenIn source.now.text.now source.now.macros.now place × (fill ≤ length out.old) × (length out.old ≤ limit) }
-    ensures value { result ≡ answer_from (length out.old) fill (write (token_record source.now.text.now source.now.macros.now place) ∷ []) }
-    ensures out_after { out.new ≡ append out.old fill (only really (written_from (length out.old) fill (write (token_record source.now.text.now source.now.macros.now place) ∷ []))) }
+) -> Result<usize, Refusal>
+    requires { fill ≤ length out.old }
+    ensures value { result ≡ answer_from (length out.old) fill (write token.entry.bytes.now ∷ []) }
+    ensures out_after { out.new ≡ append out.old fill (only really (written_from (length out.old) fill (write token.entry.bytes.now ∷ []))) }
 {
-    let size = macro_tokens::size_of(source, place);
+    let size = token.bytes.len();
     if out.len() - fill < size {
-        let location = macro_tokens::location_of(source, place);
-        return Err(Refusal::NoWrittenSpace(location));
+        return Err(Refusal::NoWrittenSpace(token.location()));
     }
-    macro_tokens::put_token(source, place, really, out, fill);
-    Ok((fill + size) as u32)
+    token.put(really, out, fill);
+    Ok(fill + size)
 }
 
-// What is done with the token at `place`, behind which its body goes on from `next` on: the new fill, or the first refusal.
+// What is done with the token that is met: the new fill, or the first refusal.
 // kept: `out` and `fill` are two parameters, since a struct that holds a `&mut` needs a clause on its `ghost_name` in each contract.
 #[cycle(write_act_write_body)]
 fn write_act(
     source: &Source<'_>,
-    most: usize,
-    levels: usize,
-    reading: &Reading<'_>,
-    place: usize,
-    next: usize,
-    act: Act,
+    frame: &Frame<'_>,
+    met: &Met,
     really: bool,
     out: &mut [u8],
     fill: usize,
-) -> Result<u32, Refusal>
-    requires { Acting source.now.text.now source.now.macros.now most reading.now.list.now reading.now.body place next act × (fill ≤ length out.old) × (length out.old ≤ limit) }
-    ensures value { result ≡ answer_from (length out.old) fill (act_steps source.now.text.now source.now.macros.now levels reading.now.list.now reading.now.body place next act) }
-    ensures out_after { out.new ≡ append out.old fill (only really (written_from (length out.old) fill (act_steps source.now.text.now source.now.macros.now levels reading.now.list.now reading.now.body place next act))) }
+) -> Result<usize, Refusal>
+    requires { Acting source.now.text.now source.now.macros.now frame.now.most frame.now.reading.list.now frame.now.reading.body met.now.place met.now.next met.now.act × (fill ≤ length out.old) }
+    ensures value { result ≡ answer_from (length out.old) fill (act_steps source.now.text.now source.now.macros.now frame.now.levels frame.now.reading.list.now frame.now.reading.body met.now.place met.now.next met.now.act) }
+    ensures out_after { out.new ≡ append out.old fill (only really (written_from (length out.old) fill (act_steps source.now.text.now source.now.macros.now frame.now.levels frame.now.reading.list.now frame.now.reading.body met.now.place met.now.next met.now.act))) }
 {
-    match act {
-        Act::Write(_) => write_token(source, place, really, out, fill),
-        Act::Pass => Ok(fill as u32),
+    match met.act {
+        Act::Write(_) => {
+            let token = macro_tokens::token_at(source, met.place);
+            write_token(token, really, out, fill)
+        }
+        Act::Pass => Ok(fill),
         Act::Call(k) => {
-            let inner = call_at(source, levels, reading, place, next, k)?;
+            let body = call_at(source, frame, met, k)?;
             let end = record::next(source.macros, k);
-            let called = Reading {
-                list: &source.macros[k + 4..end],
-                body: inner,
+            let list = &source.macros[k + 4..end];
+            let called = Frame {
+                reading: Reading { list, body },
+                most: k,
+                levels: frame.levels - 1,
             };
-            write_body(source, k, levels - 1, &called, really, out, fill)
+            write_body(source, &called, really, out, fill)
         }
     }
 }
@@ -133,46 +141,49 @@ fn mode_after(act: Act) -> Mode
     }
 }
 
-// A body written out from `from` on: the new fill, or the first refusal. Nothing is written where `really` is false. The body may call the
-// macros before the place `most`, which falls at each call: it is the place of the macro whose body it is.
+// A body written out from `from` on: the new fill, or the first refusal. Nothing is written where `really` is false. The place `most` falls at
+// each call: it is the place of the macro whose body it is.
 // kept: `really` is a flag, as the rule on speed has it: measuring and writing are one function that is run twice.
 #[cycle(write_act_write_body)]
 fn write_body(
     source: &Source<'_>,
-    most: usize,
-    levels: usize,
-    reading: &Reading<'_>,
+    frame: &Frame<'_>,
     really: bool,
     out: &mut [u8],
     from: usize,
-) -> Result<u32, Refusal>
-    requires { Ready source.now.text.now source.now.macros.now most reading.now.list.now reading.now.body × (from ≤ length out.old) × (length out.old ≤ limit) }
-    ensures value { result ≡ answer_from (length out.old) from (steps_from source.now.text.now source.now.macros.now most levels reading.now.list.now reading.now.body Leading reading.now.body.start) }
-    ensures out_after { out.new ≡ append out.old from (only really (written_from (length out.old) from (steps_from source.now.text.now source.now.macros.now most levels reading.now.list.now reading.now.body Leading reading.now.body.start))) }
+) -> Result<usize, Refusal>
+    requires { Ready source.now.text.now source.now.macros.now frame.now.most frame.now.reading.list.now frame.now.reading.body × (from ≤ length out.old) }
+    ensures value { result ≡ answer_from (length out.old) from (steps_from source.now.text.now source.now.macros.now frame.now.most frame.now.levels frame.now.reading.list.now frame.now.reading.body Leading frame.now.reading.body.start) }
+    ensures out_after { out.new ≡ append out.old from (only really (written_from (length out.old) from (steps_from source.now.text.now source.now.macros.now frame.now.most frame.now.levels frame.now.reading.list.now frame.now.reading.body Leading frame.now.reading.body.start))) }
 {
     // copies of its own: a write to `out` then asks for no field to be read again
     let source = *source;
-    let reading = *reading;
+    let frame = *frame;
+    let reading = frame.reading;
+    let callable = Callable {
+        source,
+        limit: frame.most,
+    };
     let mut at = reading.body.start;
     let mut fill = from;
     let mut mode = Mode::Leading;
-    // kept: `record::places` begins at a list's first record, and this walk behind a macro's head
+    // kept: a call's arguments begin at `next`, so the walk has it at hand, and an iterator over places would work it out again
     while at < reading.list.len() {
         let next = record::next(reading.list, at);
         let place = macro_tokens::place_at(&reading, at);
-        let act = macro_tokens::act_at(&source, most, &reading, mode, place, next);
-        fill = write_act(
-            &source, most, levels, &reading, place, next, act, really, &mut *out, fill,
-        )? as usize;
+        let token = macro_tokens::token_at(&source, place);
+        let act = macro_tokens::act_at(&callable, &reading, mode, token, next);
+        let met = Met { place, next, act };
+        fill = write_act(&source, &frame, &met, really, &mut *out, fill)?;
         mode = mode_after(act);
         at = next;
     }
-    Ok(fill as u32)
+    Ok(fill)
 }
 
 // A pass over the token list: a body without parameters, which may call all macros.
-fn write_all(source: &Source<'_>, really: bool, out: &mut [u8]) -> Result<u32, Refusal>
-    requires { (token_layout source.now.text.now ≡ None) × (macro_layout source.now.macros.now ≡ None) × (length out.old ≤ limit) }
+fn write_all(source: &Source<'_>, really: bool, out: &mut [u8]) -> Result<usize, Refusal>
+    requires { (token_layout source.now.text.now ≡ None) × (macro_layout source.now.macros.now ≡ None) }
     ensures value { result ≡ answer_from (length out.old) 0 (written_out source.now.text.now source.now.macros.now) }
     ensures out_after { out.new ≡ append out.old 0 (only really (written_from (length out.old) 0 (written_out source.now.text.now source.now.macros.now))) }
 {
@@ -183,11 +194,15 @@ fn write_all(source: &Source<'_>, really: bool, out: &mut [u8]) -> Result<u32, R
         count: 0,
         args: [0; 8],
     };
-    let reading = Reading {
-        list: source.text,
-        body,
+    let frame = Frame {
+        reading: Reading {
+            list: source.text,
+            body,
+        },
+        most: source.macros.len(),
+        levels: 8,
     };
-    write_body(source, source.macros.len(), 8, &reading, really, out, 0)
+    write_body(source, &frame, really, out, 0)
 }
 
 // Refusals 1 and 2, for a buffer of `room` bytes.
@@ -212,5 +227,5 @@ pub fn write_out(tokens: &[u8], macros: &[u8], out: &mut [u8]) -> Result<u32, Re
         macros,
     };
     write_all(&source, false, &mut *out)?;
-    write_all(&source, true, out)
+    Ok(write_all(&source, true, out)? as u32)
 }

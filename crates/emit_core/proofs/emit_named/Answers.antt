@@ -24,12 +24,7 @@ returns-in_err-read c =
     (unread_outcome a.job (call_of l.tokens.now l.mnemonic.now l.descriptors.now lent a.numbers.counts a.numbers.place) s.0 c.requires r ∙ ap (λ (k : RefusedLine). outcome_of (Err k) a.numbers.counts lent) s.2)
 
 pub append_or_refuse-requires : goal.append_or_refuse-requires
-append_or_refuse-requires c =
-    let a = c.args in
-    let l = a.lists in
-    let s = stopped_ok a.numbers.place.position c.read_line.result (sym c.at_position.ensures ∙ c.in_ok-read.was) in
-    let r = subst (ReadBy a.job l.tokens.now l.mnemonic.now l.descriptors.now a.numbers.place.position) s c.read_line.ensures in
-    ((lists_pass _ _ _ _ a.numbers.place.region _ c.requires).filled, r.good)
+append_or_refuse-requires c = (lists_pass _ _ _ _ c.args.numbers.place.region _ c.requires).filled
 
 pub returns : goal.returns
 returns c =
@@ -38,4 +33,4 @@ returns c =
     let lent = lent_of a.«data».now a.pending.now a.breakpoints.now in
     let s = stopped_ok a.numbers.place.position c.read_line.result (sym c.at_position.ensures ∙ c.in_ok-read.was) in
     let r = subst (ReadBy a.job l.tokens.now l.mnemonic.now l.descriptors.now a.numbers.place.position) s c.read_line.ensures in
-    read_outcome_lem a.job (call_of l.tokens.now l.mnemonic.now l.descriptors.now lent a.numbers.counts a.numbers.place) _ _ _ r c.requires ∙ c.append_or_refuse.ensures
+    read_outcome_lem a.job (call_of l.tokens.now l.mnemonic.now l.descriptors.now lent a.numbers.counts a.numbers.place) _ _ r c.requires ∙ c.append_or_refuse.ensures

@@ -1,8 +1,10 @@
-use Rattle.std.proofs.Common.{sym, ap, ◌∙◌}
+use Rattle.std.proofs.Common.{length, sym, ap, ◌∙◌, arith}
 use Rattle.emit_outcome.specs.Dispatch.{meaning}
 use Rattle.emit_core.proofs.EmitLaws.{table_fits}
 use Rattle.emit_core.proofs.read_line.Goals as goal
 
-pub dispatch_instruction-made-requires-clause-place_in_bounds : goal.dispatch_instruction-made-requires-clause-place_in_bounds
-dispatch_instruction-made-requires-clause-place_in_bounds c =
-    table_fits _ _ _ c.requires.2 (ap (meaning c.args.lists.descriptors.now) (sym c.read_mnemonic-named.ensures.0) ∙ sym c.in-Table.ensures)
+pub dispatch_instruction-answer-requires : goal.dispatch_instruction-answer-requires
+dispatch_instruction-answer-requires c =
+    let table = c.args.lists.descriptors.now in
+    let e = c.new-descriptors.ensures in
+    omega (arith, ap length e, table_fits table _ c.in-Table.place c.requires.2 (ap (meaning table) (sym c.read_mnemonic-named.ensures.0) ∙ sym (rw e at c.in-Table.ensures)))

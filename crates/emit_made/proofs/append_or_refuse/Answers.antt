@@ -1,33 +1,30 @@
 use Rattle.std.specs.Prelude.{Err}
-use Rattle.std.proofs.Common.{sym, ap, ◌∙◌, arith}
+use Rattle.std.proofs.Common.{sym, ap, ◌∙◌}
 use Rattle.std.proofs.lemmas.Result.{err_from_is_err_and}
 use Rattle.emit_outcome.specs.Call.{lent_of, outcome_of}
 use Rattle.emit_outcome.specs.declared.RefusedLine.{RefusedLine}
-use Rattle.emit_made.proofs.MadeLaws.{index_most, stopped_ok, stopped_err, words_pass, refused_outcome}
+use Rattle.emit_made.proofs.MadeLaws.{stopped_ok, stopped_err, words_pass, refused_outcome}
 use Rattle.emit_made.proofs.append_or_refuse.Goals as goal
-
-pub overflow_cast-position : goal.overflow_cast-position
-overflow_cast-position c = omega (arith, index_most _ _ c.requires.1.placed c.requires.0.tokens_length)
 
 pub returns-in_err-words : goal.returns-in_err-words
 returns-in_err-words c =
     let a = c.args in
     let lent = lent_of a.«data».now a.pending.now a.breakpoints.now in
     let p = err_from_is_err_and c.from_residual.result c.from_residual.ensures.1 in
-    let s = stopped_err a.made.cursor.index c.check_line-passed.result (sym c.at_position.ensures ∙ c.in_err-words.was) in
+    let s = stopped_err a.read.position c.check_line-passed.result (sym c.at_position.ensures ∙ c.in_err-words.was) in
     rw (p.1, p.2)
-    (refused_outcome a.tokens.now a.line a.numbers lent a.made c.check_line-passed.ensures s.0 s.1 ∙ ap (λ (k : RefusedLine). outcome_of (Err k) a.numbers.counts lent) s.2)
+    (refused_outcome a.tokens.now a.numbers lent a.read c.check_line-passed.ensures s.0 s.1 ∙ ap (λ (k : RefusedLine). outcome_of (Err k) a.numbers.counts lent) s.2)
 
 pub append_line-requires : goal.append_line-requires
 append_line-requires c =
     let a = c.args in
-    let s = stopped_ok a.made.cursor.index c.check_line-passed.result (sym c.at_position.ensures ∙ c.in_ok-words.was) in
-    let w = words_pass a.tokens.now a.line a.numbers (lent_of a.«data».now a.pending.now a.breakpoints.now) a.made c.check_line-passed.ensures c.requires.1 c.in_ok-words.words s in
-    record { filled = (c.requires.0, w.few); emit_value = w.room }
+    let s = stopped_ok a.read.position c.check_line-passed.result (sym c.at_position.ensures ∙ c.in_ok-words.was) in
+    let w = words_pass a.tokens.now a.numbers (lent_of a.«data».now a.pending.now a.breakpoints.now) a.read c.check_line-passed.ensures c.in_ok-words.words s in
+    record { filled = c.requires; emit_value = w.room }
 
 pub returns : goal.returns
 returns c =
     let a = c.args in
-    let s = stopped_ok a.made.cursor.index c.check_line-passed.result (sym c.at_position.ensures ∙ c.in_ok-words.was) in
-    let w = words_pass a.tokens.now a.line a.numbers (lent_of a.«data».now a.pending.now a.breakpoints.now) a.made c.check_line-passed.ensures c.requires.1 c.in_ok-words.words s in
+    let s = stopped_ok a.read.position c.check_line-passed.result (sym c.at_position.ensures ∙ c.in_ok-words.was) in
+    let w = words_pass a.tokens.now a.numbers (lent_of a.«data».now a.pending.now a.breakpoints.now) a.read c.check_line-passed.ensures c.in_ok-words.words s in
     w.outcome_is ∙ c.append_line.ensures

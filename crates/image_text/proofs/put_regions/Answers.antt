@@ -7,5 +7,5 @@ pub put_region-requires-clause-number_in_bounds : goal.put_region-requires-claus
 put_region-requires-clause-number_in_bounds c =
     let l = c.loop-number in
     let s = c.args.regions.now in
-    let h : l.number < region_count s = omega (arith, rw c.new.ensures at c.count-count.ensures.0) in
-    omega (arith, length-append {A = ℕ}, ap length (rw (regions_next s l.number h) at l.invariant), c.requires.regions_in_bounds)
+    let h : l.number < region_count s = omega (arith, c.count-number-end.ensures.0) in
+    omega (arith, length-append {A = ℕ}, ap length (rw (regions_next s l.number h) at l.invariant), c.requires)

@@ -1,4 +1,4 @@
-use Rattle.std.proofs.Common.{◌≡◌, ◌++◌, ◌≤◌, drop}
+use Rattle.std.proofs.Common.{◌≡◌, ◌++◌, drop}
 use Rattle.reading.specs.Reading.{image_of}
 use Rattle.image_text.specs.Image.{regions_text}
 use Rattle.image_text.proofs.put_regions.Given as goal

@@ -2,7 +2,7 @@ use Rattle.std.proofs.Common.{◌≡◌, ℕ, List, length, sym, ap, ◌∙◌, 
 use Rattle.record.specs.Records.{places}
 use Rattle.record.specs.Stores.{append}
 use Rattle.emit_outcome.specs.Call.{lent_of}
-use Rattle.emit_checks.specs.Made.{pairs_of}
+use Rattle.emit_pairs.specs.Pairs.{pairs_of}
 use Rattle.label_uses.specs.Uses.{uses_of}
 use Rattle.label_uses.specs.UseBytes.{uses_bytes}
 use Rattle.use_adding.specs.Adding.{IndexIn}
@@ -23,7 +23,7 @@ count_is c = c.count-first.ensures.0 ∙ ap (λ (s : List ℕ). length (places s
 held : (c : After-count-first) → IndexIn c.args.index.now c.args.fill (uses_of c.args.labels.now (old c))
 held c =
     let a = c.args in
-    index_held a.labels.now (old c) a.index.now a.fill (λ i. omega (arith, c.type_inv.labels i)) (part_bytes a.numbers.counts.pending a.pending.now (λ i. search rules)) c.requires.ready.0.index_good
+    index_held a.labels.now (old c) a.index.now a.fill (λ i. omega (arith, c.type_inv.labels i)) (part_bytes a.numbers.counts.pending a.pending.now (λ i. search rules)) c.requires.ready.index_good
 
 uses_from : (c : After-count-first) → ℕ → List ℕ
 uses_from c n = uses_bytes (line_uses c.args.labels.now c.args.tokens.now n (pairs_of c.args.words) (uses_of c.args.labels.now (old c)))
@@ -32,7 +32,7 @@ added : (c : After-add_to-filled) (k : After-count-first) → AddsLineTo c.args.
 added c k = subst (λ (w : LineIn). AddsLineTo w.labels w.names c.args.index.now c.add_to-filled.new.index c.args.fill w.pairs c.count-first.result c.add_to-filled.result) c.words_of.ensures c.add_to-filled.ensures
 
 pub words_of-requires : goal.words_of-requires
-words_of-requires c = (c.requires.ready.0.labels_good, c.requires.ready.1)
+words_of-requires c = c.requires.ready.labels_good
 
 pub add_to-filled-requires : goal.add_to-filled-requires
 unfolding uses_from

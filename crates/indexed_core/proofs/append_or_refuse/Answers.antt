@@ -2,13 +2,14 @@ use Rattle.std.specs.Prelude.{Ok, Err, Result}
 use Rattle.std.proofs.Common.{◌≡◌, List, ℕ, length, sym, ap, ◌∙◌, subst, arith, rules, length-take-le}
 use Rattle.std.proofs.lemmas.Result.{err_from_is_err_and}
 use Rattle.record.specs.Records.{places}
-use Rattle.emit_pairs.specs.declared.EmitInstruction.{EmitInstruction}
+use Rattle.emit_pairs.specs.declared.emit_instruction.EmitInstruction.{EmitInstruction}
 use Rattle.emit_dispatch.specs.declared.Unmade.{Unmade}
 use Rattle.emit_outcome.specs.Call.{Lent, lent_of}
 use Rattle.emit_outcome.specs.Emit.{line_outcome}
 use Rattle.emit_outcome.specs.declared.RefusedLine.{RefusedLine}
-use Rattle.emit_checks.specs.Made.{pairs_of, answer_line}
-use Rattle.emit_made.proofs.MadeLaws.{index_most, stopped_ok, stopped_err, words_pass, refused_outcome, WordsPass}
+use Rattle.emit_pairs.specs.Pairs.{pairs_of}
+use Rattle.emit_checks.specs.Made.{answer_line}
+use Rattle.emit_made.proofs.MadeLaws.{stopped_ok, stopped_err, words_pass, refused_outcome, WordsPass}
 use Rattle.label_uses.specs.Uses.{uses_of}
 use Rattle.label_uses.proofs.IndexSays.{index_says}
 use Rattle.use_adding.specs.Adding.{IndexIn}
@@ -31,23 +32,23 @@ old c = filled_pending (lent c) c.args.numbers.counts
 held : (c : In_ok-words) → IndexIn c.args.index.now c.args.fill (uses_of c.args.labels.now (old c))
 held c =
     let a = c.args in
-    index_held a.labels.now (old c) a.index.now a.fill (λ i. search rules) (part_bytes a.numbers.counts.pending a.pending.now (λ i. search rules)) c.requires.0.index_good
+    index_held a.labels.now (old c) a.index.now a.fill (λ i. search rules) (part_bytes a.numbers.counts.pending a.pending.now (λ i. search rules)) c.requires.index_good
 
-pass : (c : In_ok-words) → WordsPass c.args.tokens.now c.args.line c.args.numbers (lent c) c.args.made c.in_ok-words.words
+pass : (c : In_ok-words) → WordsPass c.args.tokens.now c.args.numbers (lent c) c.args.read c.in_ok-words.words
 pass c =
     let a = c.args in
-    words_pass a.tokens.now a.line a.numbers (lent c) a.made c.check_line-passed.ensures c.requires.1 c.in_ok-words.words
-    (stopped_ok a.made.cursor.index c.check_line-passed.result (sym c.at_position.ensures ∙ c.in_ok-words.was))
+    words_pass a.tokens.now a.numbers (lent c) a.read c.check_line-passed.ensures c.in_ok-words.words
+    (stopped_ok a.read.position c.check_line-passed.result (sym c.at_position.ensures ∙ c.in_ok-words.was))
 
 -- what holds of the words' line holds of the line that was made
 of_made : (c : In_ok-words) (out : IndexedOutcome) → let a = c.args in
-    let by : Result EmitInstruction Unmade → IndexedOutcome = λ (m : Result EmitInstruction Unmade). let o = line_outcome a.tokens.now a.line a.numbers (lent c) (answer_line m a.made.cursor.index) in
-    with_index a.line a.numbers (lent c) a.fill a.index.now (new_index a.labels.now a.tokens.now (old c) (answer_line m a.made.cursor.index).pairs) o o.answer in
-    by (Ok c.in_ok-words.words) ≡ out → by a.made.answer ≡ out
+    let by : Result EmitInstruction Unmade → IndexedOutcome = λ (m : Result EmitInstruction Unmade). let o = line_outcome a.tokens.now a.read.line a.numbers (lent c) (answer_line m a.read.position) in
+    with_index a.read.line a.numbers (lent c) a.fill a.index.now (new_index a.labels.now a.tokens.now (old c) (answer_line m a.read.position).pairs) o o.answer in
+    by (Ok c.in_ok-words.words) ≡ out → by a.read.answer ≡ out
 of_made c out e =
     let a = c.args in
-    let by : Result EmitInstruction Unmade → IndexedOutcome = λ (m : Result EmitInstruction Unmade). let o = line_outcome a.tokens.now a.line a.numbers (lent c) (answer_line m a.made.cursor.index) in
-    with_index a.line a.numbers (lent c) a.fill a.index.now (new_index a.labels.now a.tokens.now (old c) (answer_line m a.made.cursor.index).pairs) o o.answer in
+    let by : Result EmitInstruction Unmade → IndexedOutcome = λ (m : Result EmitInstruction Unmade). let o = line_outcome a.tokens.now a.read.line a.numbers (lent c) (answer_line m a.read.position) in
+    with_index a.read.line a.numbers (lent c) a.fill a.index.now (new_index a.labels.now a.tokens.now (old c) (answer_line m a.read.position).pairs) o o.answer in
     ap by (pass c).answer_is ∙ e
 
 size : (c : After-size_with-size) → let a = c.args in let old = filled_pending (lent_of a.«data».now a.pending.now a.breakpoints.now) a.numbers.counts in
@@ -60,20 +61,17 @@ size c h =
     let in_part = subst (λ (s : List ℕ). IndexIn s (length s) uses) (sym c.new-uses.ensures) (part_in a.index.now a.fill uses h) in
     by_words uses in_part (index_says a.labels.now old).names_rise (length (places old))
 
-pub overflow_cast-position : goal.overflow_cast-position
-overflow_cast-position c = omega (arith, index_most _ _ c.requires.1.placed c.requires.0.lists_filled.tokens_length)
-
 pub check_line-passed-requires : goal.check_line-passed-requires
-check_line-passed-requires c = (c.requires.0.lists_filled, c.requires.1)
+check_line-passed-requires c = c.requires.lists_filled
 
 pub returns-in_err-words : goal.returns-in_err-words
 returns-in_err-words c =
     let a = c.args in
     let lent = lent_of a.«data».now a.pending.now a.breakpoints.now in
     let p = err_from_is_err_and c.from_residual.result c.from_residual.ensures.1 in
-    let s = stopped_err a.made.cursor.index c.check_line-passed.result (sym c.at_position.ensures ∙ c.in_err-words.was) in
+    let s = stopped_err a.read.position c.check_line-passed.result (sym c.at_position.ensures ∙ c.in_err-words.was) in
     rw (p.1, p.2)
-    (with_stopped a.line a.numbers lent a.fill a.index.now _ _ s.0 a.made.cursor.index (refused_outcome a.tokens.now a.line a.numbers lent a.made c.check_line-passed.ensures s.0 s.1)
+    (with_stopped a.read.line a.numbers lent a.fill a.index.now _ _ s.0 a.read.position (refused_outcome a.tokens.now a.numbers lent a.read c.check_line-passed.ensures s.0 s.1)
     ∙ ap (λ (k : RefusedLine). indexed_outcome_of (Err k) (record { counts = a.numbers.counts; index = a.fill }) lent a.index.now) s.2)
 
 pub slice_bounds-new-end : goal.slice_bounds-new-end
@@ -89,21 +87,21 @@ new-uses-requires c =
     record { us = uses; index_in = part_in c.args.index.now c.args.fill uses (held k) }
 
 pub words_of-requires : goal.words_of-requires
-words_of-requires c = (c.requires.0.labels_good, (pass (goal.at.words_of-requires c).In_ok-words).few)
+words_of-requires c = c.requires.labels_good
 
 pub size_with-size-requires : goal.size_with-size-requires
-size_with-size-requires c = omega (arith, c.requires.0.lists_filled.tokens_length, ap (λ (w : LineIn). length w.names) c.words_of.ensures)
+size_with-size-requires c = omega (arith, c.requires.lists_filled.tokens_length, ap (λ (w : LineIn). length w.names) c.words_of.ensures)
 
 pub returns-then-size-index : goal.returns-then-size-index
 returns-then-size-index c =
     let a = c.args in
     let k = (goal.at.returns-then-size-index c).In_ok-words in
     of_made k _
-    (with_short a.tokens.now a.labels.now a.index.now a.line a.numbers (lent k) a.fill c.in_ok-words.words a.made.cursor.index (pass k).stop_is
+    (with_short a.tokens.now a.labels.now a.index.now a.read.line a.numbers (lent k) a.fill c.in_ok-words.words a.read.position (pass k).stop_is
     (omega (arith, size (goal.at.returns-then-size-index c).After-size_with-size (held k), c.if-size-index.true)))
 
 pub append_indexed-requires-clause-ready : goal.append_indexed-requires-clause-ready
-append_indexed-requires-clause-ready c = (c.requires.0, (pass (goal.at.append_indexed-requires-clause-ready c).In_ok-words).few)
+append_indexed-requires-clause-ready c = c.requires
 
 pub append_indexed-requires-clause-emit_value : goal.append_indexed-requires-clause-emit_value
 append_indexed-requires-clause-emit_value c = (pass (goal.at.append_indexed-requires-clause-emit_value c).In_ok-words).room
@@ -118,5 +116,5 @@ returns c =
     let a = c.args in
     let k = (goal.at.returns c).In_ok-words in
     of_made k _
-    (with_room a.tokens.now a.labels.now a.index.now a.line a.numbers (lent k) a.fill c.in_ok-words.words a.made.cursor.index (pass k).stop_is _ _ _ _
+    (with_room a.tokens.now a.labels.now a.index.now a.read.line a.numbers (lent k) a.fill c.in_ok-words.words a.read.position (pass k).stop_is _ _ _ _
     (omega (arith, size (goal.at.returns c).After-size_with-size (held k), c.if-size-index.false)) c.append_indexed.ensures)

@@ -27,8 +27,7 @@ plain_call c = let a = c.args in call_of a.tokens.now a.mnemonic.now a.descripto
 abbrev call : Start → IndexedCall
 call c = indexed_call_of (plain_call c) c.args.labels.now c.args.index.now c.args.fill
 
-was_read : (c : In_ok-read) → let a = c.args in let r = c.in_ok-read.read in
-    ReadIs a.job a.tokens.now a.mnemonic.now a.descriptors.now a.numbers.place.position true r.line r.made
+was_read : (c : In_ok-read) → let a = c.args in ReadIs a.job a.tokens.now a.mnemonic.now a.descriptors.now a.numbers.place.position true c.in_ok-read.read
 was_read c =
     let a = c.args in
     subst (ReadBy a.job a.tokens.now a.mnemonic.now a.descriptors.now a.numbers.place.position)
@@ -54,15 +53,13 @@ returns-in_err-read c =
 pub append_or_refuse-requires : goal.append_or_refuse-requires
 append_or_refuse-requires c =
     let s = (goal.at.append_or_refuse-requires c).Start in
-    let p = all_pass (call s) c.requires in (
-      record {
-        lists_filled = (lists_pass _ _ _ _ c.args.numbers.place.region _ p.lists_pass).filled;
-        pending_kept = (pending_passes _ _ _ (lent s) c.args.numbers.place.region c.args.numbers.counts p.six_pass).2;
-        labels_good = p.labels_good;
-        index_good = p.index_good;
-      },
-      (was_read (goal.at.append_or_refuse-requires c).In_ok-read).good,
-    )
+    let p = all_pass (call s) c.requires in
+    record {
+      lists_filled = (lists_pass _ _ _ _ c.args.numbers.place.region _ p.lists_pass).filled;
+      pending_kept = (pending_passes _ _ _ (lent s) c.args.numbers.place.region c.args.numbers.counts p.six_pass).2;
+      labels_good = p.labels_good;
+      index_good = p.index_good;
+    }
 
 pub returns : goal.returns
 returns c =
@@ -70,12 +67,12 @@ returns c =
     let a = c.args in
     let r = c.in_ok-read.read in
     let is = was_read (goal.at.returns c).In_ok-read in
-    let e = read_outcome_lem a.job (plain_call s) true r.line r.made is (all_pass (call s) c.requires).lists_pass in
-    let y : EmitOutcome = line_outcome a.tokens.now r.line a.numbers (lent s) (made_line r.made) in
-    let new : List ℕ = new_index a.labels.now a.tokens.now (filled_pending (lent s) a.numbers.counts) (made_line r.made).pairs in
+    let e = read_outcome_lem a.job (plain_call s) true r is (all_pass (call s) c.requires).lists_pass in
+    let y : EmitOutcome = line_outcome a.tokens.now r.line a.numbers (lent s) (made_line r) in
+    let new : List ℕ = new_index a.labels.now a.tokens.now (filled_pending (lent s) a.numbers.counts) (made_line r).pairs in
     call_line a.job (call s) c.requires r.line y new is.location_is e
     (λ position loaded f.
     ap (λ (o : EmitOutcome). index_of a.labels.now (filled_pending o.lent o.counts)) (sym e)
-    ∙ new_index_lem a.job (plain_call s) r.line r.made position loaded f a.labels.now (λ i. omega (arith, c.type_inv.tokens i)) (λ i. omega (arith, c.type_inv.mnemonic i))
-    is.line_is (ap (λ (o : EmitOutcome). o.answer) e ∙ f))
+    ∙ new_index_lem a.job (plain_call s) r position loaded (ap (λ (o : EmitOutcome). o.answer) e ∙ f) a.labels.now (λ i. omega (arith, c.type_inv.tokens i)) (λ i. omega (arith, c.type_inv.mnemonic i))
+    is.line_is)
     ∙ c.append_or_refuse.ensures

@@ -3,4 +3,4 @@ use Rattle.labels.proofs.LabelsLaws.{labels_named}
 use Rattle.indexed_core.proofs.words_of.Goals as goal
 
 pub new-requires : goal.new-requires
-new-requires c = (omega arith, labels_named _ c.requires.0)
+new-requires c = (omega arith, labels_named _ c.requires)

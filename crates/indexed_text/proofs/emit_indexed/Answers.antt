@@ -1,15 +1,31 @@
 -- The buffers are those of the input, of which one byte more than the limit is held at most.
-use Rattle.std.proofs.Common.{◌≡◌, ℕ, List, ap, ◌∙◌}
+use Rattle.std.proofs.Common.{◌≡◌, ℕ, List, length, sym, ap, arith, ◌∙◌}
 use Rattle.emit_outcome.specs.Call.{Lent, lent_of}
-use Rattle.input.proofs.InputLaws.{held_is}
+use Rattle.indexed_outcome.specs.Indexed.{indexed_outcome_of}
 use Rattle.input.specs.Input.{held}
-use Rattle.indexed_text.specs.IndexedText.{call_text, emit_indexed_text}
+use Rattle.input.proofs.InputLaws.{held_is}
+use Rattle.indexed_text.specs.IndexedText.{outcome_text, call_text, emit_indexed_text}
+use Rattle.indexed_text.proofs.IndexedTextLaws.{outcome_most}
 use Rattle.indexed_text.proofs.emit_indexed.Goals as goal
 
 -- the text of a call by equal buffers, whatever the text is
 text_by : (text : Lent → List ℕ → List ℕ) (out d p b i d' p' b' i' : List ℕ) → d ≡ d' → p ≡ p' → b ≡ b' → i ≡ i'
     → out ≡ text (lent_of d p b) i → out ≡ text (lent_of d' p' b') i'
 text_by text out d p b i d' p' b' i' hd hp hb hi h = rw (← hd, ← hp, ← hb, ← hi) h
+
+pub put_emitted-requires : goal.put_emitted-requires
+put_emitted-requires c =
+    let m = c.make_call-emitted in
+    let d = held_is c.list_of.result.now _ _ c.hold-d.ensures.value c.hold-d.ensures.space_after in
+    let p = held_is c.list_of-2.result.now _ _ c.hold-p.ensures.value c.hold-p.ensures.space_after in
+    let b = held_is c.list_of-3.result.now _ _ c.hold-b.ensures.value c.hold-b.ensures.space_after in
+    let u = held_is c.list_of-4.result.now _ _ c.hold-u.ensures.value c.hold-u.ensures.space_after in
+    let o = indexed_outcome_of m.result.answer m.result.counts (lent_of m.new.data m.new.pending m.new.breakpoints) m.new.index in
+    omega (
+      arith,
+      ap length c.clear.ensures,
+      outcome_most o (omega (arith, m.auto.data, d.most)) (omega (arith, m.auto.pending, p.most)) (omega (arith, m.auto.breakpoints, b.most)) (omega (arith, m.auto.index, u.most)),
+    )
 
 pub returns : goal.returns
 unfolding emit_indexed_text
@@ -19,4 +35,4 @@ returns c =
     ((held_is c.list_of-2.result.now _ _ c.hold-p.ensures.value c.hold-p.ensures.space_after).bytes ∙ ap held c.list_of-2.ensures)
     ((held_is c.list_of-3.result.now _ _ c.hold-b.ensures.value c.hold-b.ensures.space_after).bytes ∙ ap held c.list_of-3.ensures)
     ((held_is c.list_of-4.result.now _ _ c.hold-u.ensures.value c.hold-u.ensures.space_after).bytes ∙ ap held c.list_of-4.ensures)
-    c.put_call.ensures
+    (rw c.clear.ensures at c.put_emitted.ensures ∙ ap outcome_text (sym c.make_call-emitted.ensures.outcome_is))

@@ -1,7 +1,8 @@
 -- Four texts, each behind the one before.
+use Rattle.std.proofs.Common.{append_assoc}
 use Rattle.line_text.specs.Line.{outcome_text}
 use Rattle.line_text.proofs.put_emitted.Goals as goal
 
 pub returns : goal.returns
 unfolding outcome_text
-returns c = rw (c.push_bytes-3.ensures, c.push_bytes-2.ensures, c.push_bytes.ensures, c.put_head.ensures, c.requires.0)
+returns c = simp (c.push_bytes-3.ensures, c.push_bytes-2.ensures, c.push_bytes.ensures, c.put_head.ensures, append_assoc)

@@ -1,54 +1,86 @@
-use Rattle.std.proofs.Common.{◌≡◌, ℕ, sym, ap, subst, ◌∙◌, arith}
-use Rattle.record.specs.Records.{kind_at, next}
+use Rattle.std.proofs.Common.{◌≡◌, ◌<◌, ◌≤◌, ℕ, List, Bool, true, false, refl, [], length, sym, ap, subst, ◌∙◌, arith, ltb, ltb-true, ltb-false}
+use Rattle.record.specs.Records.{kind_at, next, whole, places_from}
+use Rattle.record.specs.Left.{places_left}
+use Rattle.record.proofs.RecordsLaws.{places_step, places_cons}
 use Rattle.macro_tokens.specs.Places.{token_record, TokenIn, place_of}
 use Rattle.macro_tokens.proofs.PlacesLaws.{token, place_in}
 use Rattle.macro_tokens.specs.Arguments.{with_token}
 use Rattle.macro_tokens.proofs.ArgumentsLaws.{Took, took_last, took_line, took_next}
 use Rattle.macro_tokens.proofs.arguments_from.Goals as goal
-use Rattle.macro_tokens.proofs.arguments_from.Goals.{After-kind_of-kind}
+use Rattle.macro_tokens.proofs.arguments_from.Goals.{In-Some, After-kind-kind}
+
+-- the walk stands at the token of the turn, and behind it are the others
+turn : (c : In-Some) → let a = c.args in
+    Took a.source.now.text.now a.source.now.macros.now a.reading.now.list.now a.reading.now.body a.from c.in-Some.at c.loop-at.taken
+    × (c.in-Some.at < length a.reading.now.list.now)
+    × (places_left c.next.new.self ≡ places_from a.reading.now.list.now (next a.reading.now.list.now c.in-Some.at))
+turn c =
+    let a = c.args in
+    let list = a.reading.now.list.now in
+    let i = c.loop-at.invariant in
+    let e = sym i.left ∙ c.in-Some.ensures.steps in
+    let first = places_cons list i.here c.in-Some.at (places_left c.next.new.self) e in
+    let n = places_step list i.here first.0 (token a.source.now.text.now a.source.now.macros.now list a.reading.now.body i.here i.took.rest first.0).whole_at in
+    let here = first.1 in
+    (rw here i.took, rw here first.0, cc)
 
 pub place_at-place-requires : goal.place_at-place-requires
 place_at-place-requires c =
     let a = c.args in
-    let l = c.loop-at in
-    (l.invariant.rest.readable, token a.source.now.text.now a.source.now.macros.now a.reading.now.list.now a.reading.now.body l.at l.invariant.rest c.loop-at-test.true)
+    let t = turn c in
+    (t.0.rest.readable, token a.source.now.text.now a.source.now.macros.now a.reading.now.list.now a.reading.now.body c.in-Some.at t.0.rest t.1)
 
-pub kind_of-kind-requires : goal.kind_of-kind-requires
-kind_of-kind-requires c =
+pub token_at-requires : goal.token_at-requires
+token_at-requires c =
     let a = c.args in
-    let l = c.loop-at in
-    subst (TokenIn a.source.now.text.now a.source.now.macros.now) (sym c.place_at-place.ensures) (place_in a.source.now.text.now a.source.now.macros.now a.reading.now.list.now a.reading.now.body l.at l.invariant.rest c.loop-at-test.true)
+    let t = turn (goal.at.token_at-requires c).In-Some in
+    subst (TokenIn a.source.now.text.now a.source.now.macros.now) (sym c.place_at-place.ensures) (place_in a.source.now.text.now a.source.now.macros.now a.reading.now.list.now a.reading.now.body c.in-Some.at t.0.rest t.1)
 
 -- the kind is that of the token
-kind_is : (c : After-kind_of-kind) → c.kind_of-kind.result ≡ kind_at (token_record c.args.source.now.text.now c.args.source.now.macros.now (place_of c.args.reading.now.list.now c.args.reading.now.body c.loop-at.at)) 0
-kind_is c = c.kind_of-kind.ensures ∙ ap (λ (p : ℕ). kind_at (token_record c.args.source.now.text.now c.args.source.now.macros.now p) 0) c.place_at-place.ensures
+kind_is : (c : After-kind-kind) → c.kind-kind.result ≡ kind_at (token_record c.args.source.now.text.now c.args.source.now.macros.now (place_of c.args.reading.now.list.now c.args.reading.now.body c.in-Some.at)) 0
+kind_is c = c.kind-kind.ensures ∙ ap (λ (r : List ℕ). kind_at r 0) c.token_at.ensures ∙ ap (λ (p : ℕ). kind_at (token_record c.args.source.now.text.now c.args.source.now.macros.now p) 0) c.place_at-place.ensures
 
-pub returns-then-kind-eq13 : goal.returns-then-kind-eq13
-returns-then-kind-eq13 c =
+pub returns-then-kind-eq-NEW_LINE : goal.returns-then-kind-eq-NEW_LINE
+returns-then-kind-eq-NEW_LINE c =
     let a = c.args in
-    let l = c.loop-at in
-    let k = (goal.at.returns-then-kind-eq13 c).After-kind_of-kind in
-    took_line a.source.now.text.now a.source.now.macros.now a.reading.now.list.now a.reading.now.body a.from l.at l.taken l.invariant c.loop-at-test.true c.kind_of-kind.result (kind_is k) c.if-kind-eq13.true
+    let w = goal.at.returns-then-kind-eq-NEW_LINE c in
+    let t = turn w.In-Some in
+    took_line a.source.now.text.now a.source.now.macros.now a.reading.now.list.now a.reading.now.body a.from c.in-Some.at c.loop-at.taken t.0 t.1 c.kind-kind.result (kind_is w.After-kind-kind) c.if-kind-eq-NEW_LINE.true
 
-pub next-at-requires : goal.next-at-requires
-next-at-requires c =
-    let a = c.args in
-    let l = c.loop-at in
-    omega (arith, token a.source.now.text.now a.source.now.macros.now a.reading.now.list.now a.reading.now.body l.at l.invariant.rest c.loop-at-test.true)
+pub take-requires : goal.take-requires
+take-requires c =
+    let t = turn (goal.at.take-requires c).In-Some in
+    (omega (arith, t.0.few, t.1, t.0.rest.readable), t.0.eight)
 
 pub loop-at-preserved : goal.loop-at-preserved
 loop-at-preserved c =
     let a = c.args in
-    let l = c.loop-at in
-    let w = c.take in
-    let k = (goal.at.loop-at-preserved c).After-kind_of-kind in
-    subst (λ (n : ℕ). Took a.source.now.text.now a.source.now.macros.now a.reading.now.list.now a.reading.now.body a.from n w.new.taken) (sym c.next-at.ensures.0)
-    (subst (Took a.source.now.text.now a.source.now.macros.now a.reading.now.list.now a.reading.now.body a.from (next a.reading.now.list.now l.at))
-    (sym (w.ensures ∙ ap (with_token l.taken c.kind_of-kind.result) c.place_at-place.ensures))
-    (took_next a.source.now.text.now a.source.now.macros.now a.reading.now.list.now a.reading.now.body a.from l.at l.taken l.invariant c.loop-at-test.true c.kind_of-kind.result (kind_is k) c.if-kind-eq13.false))
+    let w = goal.at.loop-at-preserved c in
+    let t = turn w.In-Some in
+    record {
+      here = next a.reading.now.list.now c.in-Some.at;
+      left = t.2;
+      took = subst (Took a.source.now.text.now a.source.now.macros.now a.reading.now.list.now a.reading.now.body a.from (next a.reading.now.list.now c.in-Some.at))
+          (sym (c.take.ensures ∙ ap (with_token c.loop-at.taken c.kind-kind.result) c.place_at-place.ensures))
+          (took_next a.source.now.text.now a.source.now.macros.now a.reading.now.list.now a.reading.now.body a.from c.in-Some.at c.loop-at.taken t.0 t.1 c.kind-kind.result (kind_is w.After-kind-kind) c.if-kind-eq-NEW_LINE.false);
+    }
+
+-- a walk with nothing left stands at the end
+ended : (s : List ℕ) (at : ℕ) → (at < length s → whole s at ≡ true) → places_from s at ≡ [] → length s ≤ at
+ended s at w e = go (ltb at (length s)) refl
+  where
+    go : (b : Bool) → ltb at (length s) ≡ b → length s ≤ at
+    go false k = ltb-false at (length s) k
+    go true k =
+        let h = ltb-true at (length s) k in
+        let n = places_step s at h (w h) in
+        absurd cc
 
 pub returns : goal.returns
 returns c =
     let a = c.args in
-    let l = c.loop-at in
-    took_last a.source.now.text.now a.source.now.macros.now a.reading.now.list.now a.reading.now.body a.from l.at l.taken l.invariant c.loop-at-test.false
+    let list = a.reading.now.list.now in
+    let i = c.loop-at.invariant in
+    let all_whole : i.here < length list → whole list i.here ≡ true = λ h. (token a.source.now.text.now a.source.now.macros.now list a.reading.now.body i.here i.took.rest h).whole_at in
+    took_last a.source.now.text.now a.source.now.macros.now list a.reading.now.body a.from i.here c.loop-at.taken i.took
+    (ended list i.here all_whole (sym i.left ∙ c.in-None.ensures.steps.0))

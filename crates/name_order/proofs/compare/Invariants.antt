@@ -1,7 +1,10 @@
-use Rattle.std.proofs.Common.{drop, ◌*◌, ◌≡◌}
+use Rattle.std.proofs.Common.{◌≡◌, length}
 use Rattle.name_order.specs.Order.{order}
 use Rattle.name_order.proofs.compare.Given as goal
 
--- the names stand as what is left of them behind `i` times eight bytes
-abbrev pub invariant-loop-i : goal.invariant-loop-i
-invariant-loop-i l = order l.a l.b ≡ order (drop (8 * l.i) l.a) (drop (8 * l.i) l.b)
+-- the names stand as what is left of them
+abbrev pub invariant-loop-x : goal.invariant-loop-x
+invariant-loop-x l = order l.fn.a l.fn.b ≡ order l.a l.b
+
+abbrev pub decreases-loop-x : goal.decreases-loop-x
+decreases-loop-x l = length l.a

@@ -5,12 +5,13 @@ use Rattle.refusal.specs.Verdicts.{name_verdict}
 use Rattle.refusal.proofs.VerdictsLaws.{name_pass}
 use Rattle.labels.specs.Labels.{label_repeat}
 use Rattle.labels.proofs.LabelsLaws.{labels_within, labels_named, repeat_place}
-use Rattle.page_outcome.specs.Page.{page_of}
+use Rattle.reading.specs.Reading.{image_of}
+use Rattle.page_outcome.specs.Page.{page_of, line_count}
 use Rattle.page_outcome.proofs.Length.{page_length, page_most}
 use Rattle.page_outcome.specs.Outcome.{PageOutcome}
 use Rattle.page_core.proofs.OutcomeLaws.{lists_good, repeat_stops, room_stops, all_pass}
 use Rattle.page_core.proofs.lay_out_in.Goals as goal
-use Rattle.page_core.proofs.lay_out_in.Goals.{After-first_repeat, In_ok-check_names, After-put_page}
+use Rattle.page_core.proofs.lay_out_in.Goals.{After-first_repeat, In_ok-check_names, After-count_lines, After-put_page}
 
 pub new-requires : goal.new-requires
 new-requires c = (omega arith, labels_named _ (lists_good _ _ _ c.requires.page_value).0)
@@ -40,29 +41,30 @@ returns-in_err-check_names c =
     rw (p.1, p.2)
     (repeat_stops _ _ _ c.requires.page_value _ (c.in_err-check_names.ensures ∙ ap (name_verdict 0) (repeated (goal.at.returns-in_err-check_names c).After-first_repeat)))
 
-pub count_lines-requires : goal.count_lines-requires
-count_lines-requires c = (lists_good _ _ _ c.requires.page_value).1
+pub new-regions-requires : goal.new-regions-requires
+new-regions-requires c = (lists_good _ _ _ c.requires.page_value).1
+
+-- the lines that are counted are those of the lent list
+lines : (c : After-count_lines) → c.count_lines.result ≡ line_count (image_of c.args.regions.now)
+lines c = rw c.new-regions.ensures at c.count_lines.ensures.0
 
 pub returns-then-page-count_lines : goal.returns-then-page-count_lines
 returns-then-page-count_lines c =
-    room_stops _ _ _ c.requires.page_value (distinct (goal.at.returns-then-page-count_lines c).In_ok-check_names) (omega (arith, c.if-page-count_lines.true, c.count_lines.ensures.0))
+    room_stops _ _ _ c.requires.page_value (distinct (goal.at.returns-then-page-count_lines c).In_ok-check_names) (omega (arith, c.if-page-count_lines.true, lines (goal.at.returns-then-page-count_lines c).After-count_lines))
 
 pub new-table-requires : goal.new-table-requires
 new-table-requires c =
     rw (c.make-index.ensures.0 ∙ c.new.ensures)
     ((lists_good _ _ _ c.requires.page_value).0, distinct (goal.at.new-table-requires c).In_ok-check_names)
 
-pub put_page-requires-clause-regions_value : goal.put_page-requires-clause-regions_value
-put_page-requires-clause-regions_value c = ((lists_good _ _ _ c.requires.page_value).1, omega arith)
-
 pub put_page-requires-clause-regions_in_bounds : goal.put_page-requires-clause-regions_in_bounds
 put_page-requires-clause-regions_in_bounds c =
-    rw (c.new-table.ensures, c.make-index.ensures.0, c.new.ensures)
-    (omega (arith, page_length c.args.labels.now c.args.regions.now, c.if-page-count_lines.false, c.count_lines.ensures.0))
+    rw (c.new-table.ensures, c.make-index.ensures.0, c.new.ensures, c.new-regions.ensures)
+    (omega (arith, page_length c.args.labels.now c.args.regions.now, c.if-page-count_lines.false, lines (goal.at.put_page-requires-clause-regions_in_bounds c).After-count_lines))
 
 -- the table's page is that of the labels
-page_is : (c : After-put_page) → page_of c.new-table.result.list c.args.regions.now ≡ page_of c.args.labels.now c.args.regions.now
-page_is c = rw (c.new-table.ensures, c.make-index.ensures.0, c.new.ensures)
+page_is : (c : After-put_page) → page_of c.new-table.result.list c.new-regions.result ≡ page_of c.args.labels.now c.args.regions.now
+page_is c = rw (c.new-table.ensures, c.make-index.ensures.0, c.new.ensures, c.new-regions.ensures)
 
 pub overflow_cast-result : goal.overflow_cast-result
 overflow_cast-result c =
@@ -79,5 +81,5 @@ returns c =
     let e : c.put_page.result ≡ length (page_of a.labels.now a.regions.now) = omega (arith, rw l at c.put_page.ensures.ends) in
     let o : ℕ → List ℕ → PageOutcome = λ n bytes. record { answer = Ok n; page = bytes } in
     all_pass a.labels.now a.regions.now a.page.now c.requires.page_value (distinct (goal.at.returns c).In_ok-check_names)
-    (omega (arith, c.if-page-count_lines.false, c.count_lines.ensures.0))
+    (omega (arith, c.if-page-count_lines.false, lines (goal.at.returns c).After-count_lines))
     ∙ sym (ap₂ o e (rw l at c.put_page.ensures.bytes))

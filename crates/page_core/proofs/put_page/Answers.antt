@@ -17,7 +17,7 @@ turn : (c : In-loop-number) → let l = c.loop-number in
 turn c =
     let l = c.loop-number in
     let s = c.args.regions.now in
-    let h : l.number < region_count s = omega (arith, (rw c.new.ensures at c.count-count.ensures.0)) in
+    let h : l.number < region_count s = omega (arith, c.count-number-end.ensures.0) in
     rw (regions_next (label_at c.args.labels.now.list) s l.number h) at l.invariant.2
 
 pub loop-number-init : goal.loop-number-init
@@ -38,11 +38,11 @@ put_region-end-requires-clause-number_in_bounds c =
 pub loop-number-preserved : goal.loop-number-preserved
 loop-number-preserved c =
     let l = c.loop-number in
-    (omega arith, c.put_region-end.auto.slots ∙ l.invariant.1, left_next l.out l.end _ _ _ _ (turn (goal.at.loop-number-preserved c).In-loop-number) c.put_region-end.ensures)
+    (omega (arith, c.count-number-end.ensures.0), c.put_region-end.auto.slots ∙ l.invariant.1, left_next l.out l.end _ _ _ _ (turn (goal.at.loop-number-preserved c).In-loop-number) c.put_region-end.ensures)
 
 pub returns : goal.returns
 returns c =
     let l = c.loop-number in
     let s = c.args.regions.now in
-    let p = left_none l.out l.end (rw (regions_end (label_at c.args.labels.now.list) s l.number (omega (arith, (rw c.new.ensures at c.count-count.ensures.0)))) at l.invariant.2) in
+    let p = left_none l.out l.end (rw (regions_end (label_at c.args.labels.now.list) s l.number (omega (arith, c.count-number-end.ensures.0))) at l.invariant.2) in
     rw (page_is c.args.labels.now.list s) at p

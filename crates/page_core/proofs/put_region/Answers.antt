@@ -1,4 +1,4 @@
-use Rattle.std.proofs.Common.{rules, ◌≡◌, ℕ, ◌+◌, ◌-◌, ◌≤◌, List, ◌++◌, length, take, drop, arith, length-drop, length-take}
+use Rattle.std.proofs.Common.{rules, ◌≡◌, ℕ, ◌+◌, ◌-◌, ◌≤◌, List, ◌++◌, length, take, drop, ap, arith, length-drop, length-take}
 use Rattle.regions.specs.Regions.{region_place}
 use Rattle.regions.proofs.RegionsLaws.{region_good, region_within}
 use Rattle.reading.specs.Reading.{image_region}
@@ -10,14 +10,15 @@ use Rattle.page_core.proofs.put_region.Goals as goal
 use Rattle.page_core.proofs.put_region.Goals.{After-region-region}
 
 -- where the data stands
-within : (c : After-region-region) → let s = c.args.regions.now in
+within : (c : After-region-region) → let s = c.bytes-list.result.now in
     (c.region-region.result.start + c.region-region.result.size ≤ length s) × (length s ≤ 65536)
 within c =
     let s = c.args.regions.now in
-    (rw (rw c.new.ensures at c.region-region.ensures) (region_within s c.args.number c.requires.regions_value.0 c.requires.number_bound), (region_good s c.requires.regions_value.0).0)
+    let l = c.bytes-list.ensures in
+    rw (c.region-region.ensures, l.value) (region_within s c.args.number l.layout c.requires.number_bound, (region_good s l.layout).0)
 
 abbrev bytes_in : (c : After-region-region) → List ℕ
-bytes_in c = let r = c.region-region.result in take (r.start + r.size - r.start) (drop r.start c.args.regions.now)
+bytes_in c = let r = c.region-region.result in take (r.start + r.size - r.start) (drop r.start c.bytes-list.result.now)
 
 count : (c : After-region-region) → length (bytes_in c) ≡ c.region-region.result.size
 count c = let w = within c in simp (length-take, length-drop) (omega arith)
@@ -30,7 +31,7 @@ read : (c : After-region-region) → let a = c.args in
 read c =
     let r = c.region-region.result in
     let n : r.start + r.size - r.start ≡ r.size = omega arith in
-    rw (n, c.region-region.ensures, c.new.ensures)
+    rw (n, c.region-region.ensures, c.bytes-list.ensures.value)
 
 -- there is room for the line and for the data behind it
 room : (c : After-region-region) → let a = c.args in
@@ -40,14 +41,14 @@ room c = rw (read c) at c.requires.number_in_bounds
 pub find_shown-requires-clause-size_bound : goal.find_shown-requires-clause-size_bound
 find_shown-requires-clause-size_bound c =
     let w = within (goal.at.find_shown-requires-clause-size_bound c).After-region-region in
-    (omega arith, omega (arith, w.0, c.requires.regions_value.1))
+    (omega arith, omega (arith, w.0, ap length c.bytes-list.ensures.value, c.requires.slots_in_bounds))
 
 pub put_number-data_at-requires : goal.put_number-data_at-requires
 put_number-data_at-requires c =
     let a = c.args in
     let g = (goal.at.put_number-data_at-requires c).After-region-region in
     let f = front_room a.at (length a.out.now) (region_line a.number) (data_text (label_at a.labels.now.list) c.region-region.result.address 0 (bytes_in g)) (room g) in
-    (omega (arith, f, region_length a.number), omega (arith, (region_good a.regions.now c.requires.regions_value.0).3, c.requires.number_bound))
+    (omega (arith, f, region_length a.number), omega (arith, (region_good a.regions.now c.bytes-list.ensures.layout).3, c.requires.number_bound))
 
 pub slice_bounds-put_data-end : goal.slice_bounds-put_data-end
 slice_bounds-put_data-end c = let w = within (goal.at.slice_bounds-put_data-end c).After-region-region in search rules

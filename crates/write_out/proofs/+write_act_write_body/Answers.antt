@@ -31,17 +31,16 @@ above_it {text} {macros} {list} {most} {place} {n} {k} s e =
 pub write_act-next-end-requires : goal.write_act-next-end-requires
 write_act-next-end-requires t c = omega (arith, (above_it c.requires.0 c.in-Call.is).1)
 
-pub write_act-slice_bounds-called-end : goal.write_act-slice_bounds-called-end
-write_act-slice_bounds-called-end t c = omega (arith, c.next-end.ensures.0, (above_it c.requires.0 c.in-Call.is).1)
+pub write_act-slice_bounds-list-end : goal.write_act-slice_bounds-list-end
+write_act-slice_bounds-list-end t c = omega (arith, c.next-end.ensures.0, (above_it c.requires.0 c.in-Call.is).1)
 
 pub write_act-write_body-requires : goal.write_act-write_body-requires
 write_act-write_body-requires t c = (
   omega (arith, c.decreases, (above_it c.requires.0 c.in-Call.is).0),
   (
-    subst (λ (x : List ℕ). Ready c.args.source.now.text.now c.args.source.now.macros.now c.in-Call.k x c.in_ok-inner-in-Call.inner)
-        (sym (body_part c.args.source.now.macros.now c.in-Call.k c.next-end.result c.next-end.ensures.0)) (c.call_at.ensures.opened _ c.in_ok-inner-in-Call.was).ready,
+    subst (λ (x : List ℕ). Ready c.args.source.now.text.now c.args.source.now.macros.now c.in-Call.k x c.in_ok-body-in-Call.body)
+        (sym (body_part c.args.source.now.macros.now c.in-Call.k c.next-end.result c.next-end.ensures.0)) (c.call_at.ensures.opened _ c.in_ok-body-in-Call.was).ready,
     c.requires.1,
-    c.requires.2,
   ),
 )
 
@@ -51,12 +50,12 @@ write_act-returns-in-Pass t c = record {
   out_after = rw c.in-Pass.is (none_left c.args.really c.args.out.now c.args.fill);
 }
 
-pub write_act-returns-in_err-inner-in-Call : goal.write_act-returns-in_err-inner-in-Call
-write_act-returns-in_err-inner-in-Call t c =
+pub write_act-returns-in_err-body-in-Call : goal.write_act-returns-in_err-body-in-Call
+write_act-returns-in_err-body-in-Call t c =
     let p = err_from_is_err_and c.from_residual.result c.from_residual.ensures.1 in
     let a = c.args in
-    let steps = act_steps a.source.now.text.now a.source.now.macros.now a.levels a.reading.now.list.now a.reading.now.body a.place a.next in
-    let s = stop_left a.really a.out.now a.fill _ (steps a.act) (ap steps c.in-Call.is ∙ c.call_at.ensures.stopped _ c.in_err-inner-in-Call.was) in
+    let steps = act_steps a.source.now.text.now a.source.now.macros.now a.frame.now.levels a.frame.now.reading.list.now a.frame.now.reading.body a.met.now.place a.met.now.next in
+    let s = stop_left a.really a.out.now a.fill _ (steps a.met.now.act) (ap steps c.in-Call.is ∙ c.call_at.ensures.stopped _ c.in_err-body-in-Call.was) in
     rw (p.1, p.2) (record { value = s.0; out_after = s.1 })
 
 -- ---- a body
@@ -68,32 +67,27 @@ turn r i n p a = record { rest = r; inside = i; next_is = n; place_is = p; act_i
 pub write_body-next-next-requires : goal.write_body-next-next-requires
 write_body-next-next-requires t c =
     let a = c.args in
-    omega (arith, token a.source.now.text.now a.source.now.macros.now a.reading.now.list.now a.reading.now.body c.loop-at.at c.loop-at.invariant.0 c.loop-at-test.true)
+    omega (arith, token a.source.now.text.now a.source.now.macros.now a.frame.now.reading.list.now a.frame.now.reading.body c.loop-at.at c.loop-at.invariant.0 c.loop-at-test.true)
 
 pub write_body-place_at-place-requires : goal.write_body-place_at-place-requires
 write_body-place_at-place-requires t c =
     let a = c.args in
-    (c.loop-at.invariant.0.readable, token a.source.now.text.now a.source.now.macros.now a.reading.now.list.now a.reading.now.body c.loop-at.at c.loop-at.invariant.0 c.loop-at-test.true)
+    (c.loop-at.invariant.0.readable, token a.source.now.text.now a.source.now.macros.now a.frame.now.reading.list.now a.frame.now.reading.body c.loop-at.at c.loop-at.invariant.0 c.loop-at-test.true)
 
-pub write_body-act_at-act-requires-clause-token_in :
-    goal.write_body-act_at-act-requires-clause-token_in
-write_body-act_at-act-requires-clause-token_in t c =
-    let a = c.args in (
-      subst (TokenIn a.source.now.text.now a.source.now.macros.now) (sym c.place_at-place.ensures) (place_in a.source.now.text.now a.source.now.macros.now a.reading.now.list.now a.reading.now.body c.loop-at.at c.loop-at.invariant.0 c.loop-at-test.true),
-      c.requires.0.most_in,
-      c.requires.0.macros_good,
-    )
-
-pub write_body-act_at-act-requires-clause-readable_from :
-    goal.write_body-act_at-act-requires-clause-readable_from
-write_body-act_at-act-requires-clause-readable_from t c =
+pub write_body-token_at-token-requires : goal.write_body-token_at-token-requires
+write_body-token_at-token-requires t c =
     let a = c.args in
-    subst (ReadableFrom a.source.now.text.now a.source.now.macros.now a.reading.now.list.now a.reading.now.body) (sym c.next-next.ensures.0) (read_on a.source.now.text.now a.source.now.macros.now a.reading.now.list.now a.reading.now.body c.loop-at.at c.loop-at.invariant.0 c.loop-at-test.true)
+    subst (TokenIn a.source.now.text.now a.source.now.macros.now) (sym c.place_at-place.ensures) (place_in a.source.now.text.now a.source.now.macros.now a.frame.now.reading.list.now a.frame.now.reading.body c.loop-at.at c.loop-at.invariant.0 c.loop-at-test.true)
+
+pub write_body-act_at-act-requires : goal.write_body-act_at-act-requires
+write_body-act_at-act-requires t c =
+    let a = c.args in
+    subst (ReadableFrom a.source.now.text.now a.source.now.macros.now a.frame.now.reading.list.now a.frame.now.reading.body) (sym c.next-next.ensures.0) (read_on a.source.now.text.now a.source.now.macros.now a.frame.now.reading.list.now a.frame.now.reading.body c.loop-at.at c.loop-at.invariant.0 c.loop-at-test.true)
 
 pub write_body-write_act-requires : goal.write_body-write_act-requires
 write_body-write_act-requires t c =
     let l = c.loop-at in
-    let g = turn l.invariant.0 c.loop-at-test.true c.next-next.ensures.0 c.place_at-place.ensures c.act_at-act.ensures in (
+    let g = turn l.invariant.0 c.loop-at-test.true c.next-next.ensures.0 c.place_at-place.ensures (rw c.token_at-token.ensures at c.act_at-act.ensures) in (
       omega (arith, c.decreases),
       (
         record {
@@ -104,7 +98,6 @@ write_body-write_act-requires t c =
           inside = c.act_at-act.ensures.inside;
         },
         omega (arith, l.invariant.1.within, l.invariant.1.kept),
-        omega (arith, c.requires.2, l.invariant.1.kept),
       ),
     )
 
@@ -114,11 +107,11 @@ write_body-loop-at-preserved t c =
     let a = c.args in
     let w = c.write_act in
     let n = c.next-next.result in
-    let g = turn l.invariant.0 c.loop-at-test.true c.next-next.ensures.0 c.place_at-place.ensures c.act_at-act.ensures in
-    let steps = steps_from a.source.now.text.now a.source.now.macros.now a.most a.levels a.reading.now.list.now a.reading.now.body in (
+    let g = turn l.invariant.0 c.loop-at-test.true c.next-next.ensures.0 c.place_at-place.ensures (rw c.token_at-token.ensures at c.act_at-act.ensures) in
+    let steps = steps_from a.source.now.text.now a.source.now.macros.now a.frame.now.most a.frame.now.levels a.frame.now.reading.list.now a.frame.now.reading.body in (
       turn_rest g,
       rw c.mode_after-mode.ensures
-          (same_call a.really a.out.now a.from (steps Leading a.reading.now.body.start) l.out l.fill (steps l.mode l.at) l.invariant.1 (act_steps a.source.now.text.now a.source.now.macros.now a.levels a.reading.now.list.now a.reading.now.body c.place_at-place.result n c.act_at-act.result) (steps (mode_after c.act_at-act.result) n) (turn_act g a.levels) w.result w.new.out w.ensures.value w.ensures.out_after
+          (same_call a.really a.out.now a.from (steps Leading a.frame.now.reading.body.start) l.out l.fill (steps l.mode l.at) l.invariant.1 (act_steps a.source.now.text.now a.source.now.macros.now a.frame.now.levels a.frame.now.reading.list.now a.frame.now.reading.body c.place_at-place.result n c.act_at-act.result) (steps (mode_after c.act_at-act.result) n) (turn_act g a.frame.now.levels) w.result w.new.out w.ensures.value w.ensures.out_after
           _ c.in_ok-fill.was w.auto.out),
     )
 
@@ -129,9 +122,9 @@ write_body-returns-in_err-fill t c =
     let a = c.args in
     let w = c.write_act in
     let n = c.next-next.result in
-    let g = turn l.invariant.0 c.loop-at-test.true c.next-next.ensures.0 c.place_at-place.ensures c.act_at-act.ensures in
-    let steps = steps_from a.source.now.text.now a.source.now.macros.now a.most a.levels a.reading.now.list.now a.reading.now.body in
-    let e = ends_call a.really a.out.now a.from (steps Leading a.reading.now.body.start) l.out l.fill (steps l.mode l.at) l.invariant.1 (act_steps a.source.now.text.now a.source.now.macros.now a.levels a.reading.now.list.now a.reading.now.body c.place_at-place.result n c.act_at-act.result) (steps (mode_after c.act_at-act.result) n) (turn_act g a.levels) w.result w.new.out w.ensures.value w.ensures.out_after
+    let g = turn l.invariant.0 c.loop-at-test.true c.next-next.ensures.0 c.place_at-place.ensures (rw c.token_at-token.ensures at c.act_at-act.ensures) in
+    let steps = steps_from a.source.now.text.now a.source.now.macros.now a.frame.now.most a.frame.now.levels a.frame.now.reading.list.now a.frame.now.reading.body in
+    let e = ends_call a.really a.out.now a.from (steps Leading a.frame.now.reading.body.start) l.out l.fill (steps l.mode l.at) l.invariant.1 (act_steps a.source.now.text.now a.source.now.macros.now a.frame.now.levels a.frame.now.reading.list.now a.frame.now.reading.body c.place_at-place.result n c.act_at-act.result) (steps (mode_after c.act_at-act.result) n) (turn_act g a.frame.now.levels) w.result w.new.out w.ensures.value w.ensures.out_after
     _ c.in_err-fill.was in
     rw (p.1, p.2) (record { value = e.answered; out_after = e.left })
 
@@ -139,6 +132,6 @@ pub write_body-returns : goal.write_body-returns
 write_body-returns t c =
     let l = c.loop-at in
     let a = c.args in
-    let steps = steps_from a.source.now.text.now a.source.now.macros.now a.most a.levels a.reading.now.list.now a.reading.now.body in
-    let e = ends_all a.really a.out.now a.from (steps Leading a.reading.now.body.start) l.out l.fill (steps l.mode l.at) l.invariant.1 (turn_end a.source.now.text.now a.source.now.macros.now a.most a.levels a.reading.now.list.now a.reading.now.body l.mode l.at c.loop-at-test.false) in
+    let steps = steps_from a.source.now.text.now a.source.now.macros.now a.frame.now.most a.frame.now.levels a.frame.now.reading.list.now a.frame.now.reading.body in
+    let e = ends_all a.really a.out.now a.from (steps Leading a.frame.now.reading.body.start) l.out l.fill (steps l.mode l.at) l.invariant.1 (turn_end a.source.now.text.now a.source.now.macros.now a.frame.now.most a.frame.now.levels a.frame.now.reading.list.now a.frame.now.reading.body l.mode l.at c.loop-at-test.false) in
     record { value = e.answered; out_after = e.left }

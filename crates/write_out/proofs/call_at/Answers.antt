@@ -44,11 +44,11 @@ body_from c =
 abbrev all_steps : After-call_verdict → List Step
 all_steps c =
     let a = c.args in
-    replaced a.levels (location_at (token_record a.source.now.text.now a.source.now.macros.now a.place) 4) (macro_at a.source.now.macros.now a.k) (above a.source.now.macros.now a.k)
-    (arguments_from a.source.now.text.now a.source.now.macros.now a.reading.now.list.now a.reading.now.body a.next)
+    replaced a.frame.now.levels (location_at (token_record a.source.now.text.now a.source.now.macros.now a.met.now.place) 4) (macro_at a.source.now.macros.now a.k) (above a.source.now.macros.now a.k)
+    (arguments_from a.source.now.text.now a.source.now.macros.now a.frame.now.reading.list.now a.frame.now.reading.body a.met.now.next)
 
 -- the call, by its verdict
-called : (c : After-call_verdict) → CallIs c.args.source.now.text.now c.args.source.now.macros.now c.args.levels c.args.k (all_steps c) (called_of c.call_verdict.result (body_from c))
+called : (c : After-call_verdict) → CallIs c.args.source.now.text.now c.args.source.now.macros.now c.args.frame.now.levels c.args.k (all_steps c) (called_of c.call_verdict.result (body_from c))
 called c =
     let a = c.args in
     let t = c.arguments_from-taken in
@@ -56,25 +56,25 @@ called c =
     let b = body_at a.source.now.macros.now a.k in
     let m : part a.source.now.macros.now (a.k + 4) (c.next-end.result - (a.k + 4)) ≡ b = body_part a.source.now.macros.now a.k c.next-end.result c.next-end.ensures.0 in
     let h : hd.result ≡ head_of b = hd.ensures.0 ∙ ap head_of m in
-    let l = location_at (token_record a.source.now.text.now a.source.now.macros.now a.place) 4 in
-    let given = arguments_from a.source.now.text.now a.source.now.macros.now a.reading.now.list.now a.reading.now.body a.next in
-    let v : c.call_verdict.result ≡ call_verdict l t.result.count (count_of b) a.levels =
+    let l = location_at (token_record a.source.now.text.now a.source.now.macros.now a.met.now.place) 4 in
+    let given = arguments_from a.source.now.text.now a.source.now.macros.now a.frame.now.reading.list.now a.frame.now.reading.body a.met.now.next in
+    let v : c.call_verdict.result ≡ call_verdict l t.result.count (count_of b) a.frame.now.levels =
     c.call_verdict.ensures
-    ∙ ap₂ (λ (x : Location) (y : ℕ). call_verdict x t.result.count y a.levels) c.location_of-location.ensures (ap (λ (x : Head). x.count) h) in
+    ∙ ap₂ (λ (x : Location) (y : ℕ). call_verdict x t.result.count y a.frame.now.levels) (c.location-location.ensures ∙ ap (λ (r : List ℕ). location_at r 4) c.token_at.ensures) (ap (λ (x : Head). x.count) h) in
     let start : (head_of b).body ≤ length b = omega (arith, hd.ensures.1, ap (λ (x : Head). x.body) h, ap length m) in
-    subst (CallIs a.source.now.text.now a.source.now.macros.now a.levels a.k (replaced a.levels l (macro_at a.source.now.macros.now a.k) (above a.source.now.macros.now a.k) given))
+    subst (CallIs a.source.now.text.now a.source.now.macros.now a.frame.now.levels a.k (replaced a.frame.now.levels l (macro_at a.source.now.macros.now a.k) (above a.source.now.macros.now a.k) given))
     (sym
     (ap₂ (λ (x : Verdict) (y : Head). called_of x (record { base = length a.source.now.text.now + a.k + 4; start = y.body; names = y.names; count = y.count; args = t.result.args })) v h))
-    (call_is a.source.now.text.now a.source.now.macros.now a.levels a.k l c.requires.text_len_bound.0 c.requires.text_len_bound.1 c.requires.text_len_bound.2 t.result given t.ensures start)
+    (call_is a.source.now.text.now a.source.now.macros.now a.frame.now.levels a.k l c.requires.text_len_bound.0 c.requires.text_len_bound.1 c.requires.text_len_bound.2 t.result given t.ensures start)
 
 pub returns-in_err-call_verdict : goal.returns-in_err-call_verdict
 returns-in_err-call_verdict c =
     let p = err_from_is_err_and c.from_residual.result c.from_residual.ensures.1 in
     let g = (goal.at.returns-in_err-call_verdict c).After-call_verdict in
     rw (p.1, p.2)
-    (subst (CallIs c.args.source.now.text.now c.args.source.now.macros.now c.args.levels c.args.k (all_steps g)) (ap (λ (v : Verdict). called_of v (body_from g)) c.in_err-call_verdict.was) (called g))
+    (subst (CallIs c.args.source.now.text.now c.args.source.now.macros.now c.args.frame.now.levels c.args.k (all_steps g)) (ap (λ (v : Verdict). called_of v (body_from g)) c.in_err-call_verdict.was) (called g))
 
 pub returns : goal.returns
 returns c =
     let g = (goal.at.returns c).After-call_verdict in
-    subst (CallIs c.args.source.now.text.now c.args.source.now.macros.now c.args.levels c.args.k (all_steps g)) (ap (λ (v : Verdict). called_of v (body_from g)) c.in_ok-call_verdict.was) (called g)
+    subst (CallIs c.args.source.now.text.now c.args.source.now.macros.now c.args.frame.now.levels c.args.k (all_steps g)) (ap (λ (v : Verdict). called_of v (body_from g)) c.in_ok-call_verdict.was) (called g)

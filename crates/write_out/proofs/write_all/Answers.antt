@@ -10,7 +10,7 @@ use Rattle.write_out.proofs.write_all.Goals as goal
 
 pub write_body-requires : goal.write_body-requires
 write_body-requires c =
-    (outer_ready c.args.source.now.text.now c.args.source.now.macros.now (replicate 8 0) refl c.requires.0 c.requires.1, omega arith, c.requires.2)
+    (outer_ready c.args.source.now.text.now c.args.source.now.macros.now (replicate 8 0) refl c.requires.0 c.requires.1, omega arith)
 
 pub returns : goal.returns
 returns c =

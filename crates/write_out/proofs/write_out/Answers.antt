@@ -1,5 +1,6 @@
-use Rattle.std.proofs.Common.{sym, arith}
+use Rattle.std.proofs.Common.{sym, ◌∙◌, arith}
 use Rattle.std.proofs.lemmas.Result.{err_from_is_err_and}
+use Rattle.write_out.proofs.FillLaws.{fill_written}
 use Rattle.write_out.proofs.EntryLaws.{passed, stopped_outcome, refused_outcome, written_outcome}
 use Rattle.write_out.proofs.write_out.Goals as goal
 
@@ -11,7 +12,7 @@ returns-in_err-check c =
 pub write_all-requires : goal.write_all-requires
 write_all-requires c =
     let p = passed c.args.tokens.now c.args.macros.now c.args.out.now (sym c.in_ok-check.ensures) in
-    (p.tokens_good, p.macros_good, p.room)
+    (p.tokens_good, p.macros_good)
 
 pub returns-in_err-write_all : goal.returns-in_err-write_all
 returns-in_err-write_all c =
@@ -24,12 +25,20 @@ returns-in_err-write_all c =
 pub write_all-requires-2 : goal.write_all-requires-2
 write_all-requires-2 c =
     let p = passed c.args.tokens.now c.args.macros.now c.args.out.now (sym c.in_ok-check.ensures) in
-    (p.tokens_good, p.macros_good, omega (arith, p.room, c.write_all.auto.out))
+    (p.tokens_good, p.macros_good)
 
+pub overflow_cast-result : goal.overflow_cast-result
+overflow_cast-result c =
+    let p = passed c.args.tokens.now c.args.macros.now c.args.out.now (sym c.in_ok-check.ensures) in
+    let f = fill_written _ 0 _ _ (omega arith) (sym c.write_all-2.ensures.value ∙ c.in_ok-write_all-2.was) in
+    omega (arith, f.1, p.room, c.write_all.auto.out)
+
+-- the second pass answers as the first
 pub returns : goal.returns
 returns c =
     let a = c.args in
     let w = c.write_all in
     let v = c.write_all-2 in
-    written_outcome a.tokens.now a.macros.now a.out.now (sym c.in_ok-check.ensures) w.result w.ensures.value w.new.out w.ensures.out_after _ c.in_ok-write_all.was
-    v.result v.ensures.value v.new.out v.ensures.out_after
+    rw (← c.in_ok-write_all-2.was)
+    (written_outcome a.tokens.now a.macros.now a.out.now (sym c.in_ok-check.ensures) w.result w.ensures.value w.new.out w.ensures.out_after _ c.in_ok-write_all.was
+    v.result v.ensures.value v.new.out v.ensures.out_after)

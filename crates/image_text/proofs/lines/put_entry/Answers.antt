@@ -1,5 +1,4 @@
 use Rattle.std.proofs.Common.{append_assoc}
-use Rattle.std.proofs.lemmas.Grind.{common_steps}
 use Rattle.image_text.specs.Image.{entry_line}
 use Rattle.image_text.proofs.lines.put_entry.Goals as goal
 

@@ -4,16 +4,16 @@ use Rattle.macros.proofs.NamesLaws.{names_length}
 use Rattle.macros.proofs.KnownLaws.{other_known, parameter_known, text_part}
 use Rattle.macros.proofs.Names.knows.Goals as goal
 
-pub returns-then-half_at-ne2 : goal.returns-then-half_at-ne2
-returns-then-half_at-ne2 c =
+pub returns-then-half_at-ne-PARAMETER : goal.returns-then-half_at-ne-PARAMETER
+returns-then-half_at-ne-PARAMETER c =
     let a = c.args in
-    ap not (ne_eqb c.half_at.result 2 c.if-half_at-ne2.true)
-    ∙ sym (other_known (map (name_at a.self.now.list.now) (name_places a.self.now.count a.self.now.list.now a.self.now.at)) a.body.now a.at c.requires (λ e. c.if-half_at-ne2.true (c.half_at.ensures.0 ∙ e)))
+    ap not (ne_eqb c.half_at.result 2 c.if-half_at-ne-PARAMETER.true)
+    ∙ sym (other_known (map (name_at a.self.now.list.now) (name_places a.self.now.count a.self.now.list.now a.self.now.at)) a.body.now a.at c.requires (λ e. c.if-half_at-ne-PARAMETER.true (c.half_at.ensures.0 ∙ e)))
 
-pub returns-else-half_at-ne2 : goal.returns-else-half_at-ne2
-returns-else-half_at-ne2 c =
+pub returns-else-half_at-ne-PARAMETER : goal.returns-else-half_at-ne-PARAMETER
+returns-else-half_at-ne-PARAMETER c =
     let a = c.args in
     let ps = map (name_at a.self.now.list.now) (name_places a.self.now.count a.self.now.list.now a.self.now.at) in
     let i = c.index_of.ensures ∙ ap (λ (x : List ℕ). index_of x ps) (text_part a.body.now a.at c.next.result c.next.ensures.0) in
     ap₂ ltb i (sym (names_length a.self.now.list.now a.self.now.count a.self.now.at))
-    ∙ sym (parameter_known ps a.body.now a.at c.requires (sym c.half_at.ensures.0 ∙ c.if-half_at-ne2.false))
+    ∙ sym (parameter_known ps a.body.now a.at c.requires (sym c.half_at.ensures.0 ∙ c.if-half_at-ne-PARAMETER.false))

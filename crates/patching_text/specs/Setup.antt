@@ -1,0 +1,6 @@
+-- What all turns have, as the definitions take it. Assumes nothing.
+use Rattle.patching_text.specs.Script.{Given, script_given}
+use Rattle.patching_text.specs.declared.Setup.{Setup}
+
+abbrev pub given_by : Setup → Given
+given_by setup = script_given setup.job setup.labels.now setup.entry.now setup.descriptors.now
