@@ -118,16 +118,16 @@
    STACK. Measured, not proved, on x86-64 with gcc as the caller's compiler, arguments and return
    address counted: link/stack found for no call more bytes than these.
 
-     22,680  nazgwern_do_instruction, and by the manual and for Release 6
-     35,488  nazgwern_build, and by the manual
-     35,568  nazgwern_patch_step, and by the manual
-     29,976  nazgwern_patch_line, and by the manual and for Release 6
+     22,968  nazgwern_do_instruction, and by the manual and for Release 6
+     35,592  nazgwern_build, and by the manual
+     35,736  nazgwern_patch_step, and by the manual
+     30,232  nazgwern_patch_line, and by the manual and for Release 6
      54,920  nazgwern_do_indexed
-     97,152  nazgwern_make_index
-     44,280  nazgwern_write_out
-     51,760  nazgwern_lay_out
-        968  nazgwern_read_text
-        520  nazgwern_dry_run
+     97,256  nazgwern_make_index
+     46,248  nazgwern_write_out
+     51,864  nazgwern_lay_out
+        920  nazgwern_read_text
+        648  nazgwern_dry_run
 
    Of nazgwern_find_label and nazgwern_count_forms it was not measured. The code may also use the 128
    bytes below its stack pointer, as the x86-64 convention allows. */
