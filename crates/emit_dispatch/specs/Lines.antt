@@ -84,37 +84,36 @@ abbrev pub range_then : Range → Range → Range
 range_then (Ok tt) next = next
 range_then (Err fault) next = Err fault
 
+-- 19, where the encoding has a shift amount, or 20, where it has a condition code
+abbrev pub amount_range : Job → (e : Encoding) → AskedAll (encoding_wants e) → Range
+amount_range job Sham x = within_or ShiftAmount (shift_within job x.2)
+amount_range job (FPMove fmt flag) x = within_or ConditionCode (code_within job x.2)
+amount_range job (FPCond fmt) x = within_or ConditionCode (code_within job x.0)
+amount_range job (FPBranch flag) x = within_or ConditionCode (code_within job x.0)
+amount_range job e x = Ok tt
+
 -- whether the optional operand of Inputs was read
 abbrev pub is_given : Option InstructionValue → Bool
 is_given None = false
 is_given (Some value) = true
 
+-- whether a third operand was given where it may be left out: under Inputs alone
+abbrev pub third_given : (e : Encoding) → AskedAll (encoding_wants e) → Bool
+third_given Inputs x = is_given x.2
+third_given e x = false
+
 -- 27
 abbrev pub kept_range : Job → (third : Bool) → Opcode → Range
 kept_range job third op = elim (is_dropped job third op) [ true ↦ Err Dropped | false ↦ Ok tt ]
 
+-- 9, where the encoding has an immediate
+abbrev pub constant_range : (e : Encoding) → AskedAll (encoding_wants e) → Range
+constant_range (Immediate alt) x = immediate_range alt x.2
+constant_range e x = Ok tt
+
+-- 19 or 20, then 27, then 9
 abbrev pub encoding_range : Job → (e : Encoding) → Opcode → AskedAll (encoding_wants e) → Range
-encoding_range job Register op x = kept_range job false op
-encoding_range job RegisterShift op x = kept_range job false op
-encoding_range job Source op x = kept_range job false op
-encoding_range job Destination op x = kept_range job false op
-encoding_range job Inputs op x = kept_range job (is_given x.2) op
-encoding_range job Sham op x = range_then (within_or ShiftAmount (shift_within job x.2)) (kept_range job false op)
-encoding_range job SpecialBranch op x = kept_range job false op
-encoding_range job (Immediate alt) op x = range_then (kept_range job false op) (immediate_range alt x.2)
-encoding_range job LoadImmediate op x = kept_range job false op
-encoding_range job Jump op x = kept_range job false op
-encoding_range job Branch op x = kept_range job false op
-encoding_range job BranchZero op x = kept_range job false op
-encoding_range job Parameterless op x = kept_range job false op
-encoding_range job Offset op x = kept_range job false op
-encoding_range job FPOffset op x = kept_range job false op
-encoding_range job (FP3Register fmt) op x = kept_range job false op
-encoding_range job (FP2Register fmt) op x = kept_range job false op
-encoding_range job (FPMove fmt flag) op x = range_then (within_or ConditionCode (code_within job x.2)) (kept_range job false op)
-encoding_range job (FPCond fmt) op x = range_then (within_or ConditionCode (code_within job x.0)) (kept_range job false op)
-encoding_range job (FPCrossMove flag) op x = kept_range job false op
-encoding_range job (FPBranch flag) op x = range_then (within_or ConditionCode (code_within job x.0)) (kept_range job false op)
+encoding_range job e op x = range_then (amount_range job e x) (range_then (kept_range job (third_given e x) op) (constant_range e x))
 
 -- ---- how the line's constant is loaded (document 02, P2: "All emitters that take a literal pass the report up, or none where nothing is
 -- loaded"): a line loads one constant at most

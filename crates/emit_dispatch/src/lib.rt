@@ -4,11 +4,11 @@
 ghost use Rattle.std.specs.Prelude.{◌≡◌};
 ghost use Rattle.lexer.specs.Tokens.{tokens};
 ghost use Rattle.jobs.specs.Jobs.{shift_within, code_within};
-ghost use Rattle.operand.specs.Held.{constant_in, code_in, maybe_value_in};
+ghost use Rattle.operand.specs.Held.{constant_in, code_in};
 ghost use Rattle.operand_list.specs.HeldOperands.{held_values};
 ghost use Rattle.emit_pairs.specs.Pairs.{EmitIs};
 ghost use Rattle.emit_dispatch.specs.Wants.{encoding_wants, pseudo_wants};
-ghost use Rattle.emit_dispatch.specs.Lines.{within_or, is_given, kept_range, encoding_range, encoding_pairs, encoding_form, pseudo_pairs, pseudo_form, line_by, encoding_line, pseudo_line};
+ghost use Rattle.emit_dispatch.specs.Lines.{within_or, amount_range, third_given, kept_range, constant_range, encoding_range, encoding_pairs, encoding_form, pseudo_pairs, pseudo_form, line_by, encoding_line, pseudo_line};
 ghost use Rattle.emit_dispatch.specs.Contract.{held_answer, MadeAs, LineAs};
 
 use cursor::LexerCursor;
@@ -199,13 +199,30 @@ fn code_range(job: Job, operand: Operand) -> Result<(), Fault>
     within.then_some(()).ok_or(Fault::ConditionCode)
 }
 
-// Whether the optional operand of Inputs was read.
-fn is_given(operand: Operand) -> bool
-    ensures { result ≡ is_given (maybe_value_in operand) }
+// 19 or 20: the shift amount or the condition code, where the encoding has one.
+fn amount_range(job: Job, encoding: Encoding, operands: Operands) -> Result<(), Fault>
+    ensures { result ≡ amount_range job encoding (held_values (encoding_wants encoding) operands) }
 {
-    matches!(operand, Operand::Value(_))
+    match encoding {
+        Encoding::Sham => shift_range(job, operands.third),
+        Encoding::FPMove { size: _, flag: _ } => code_range(job, operands.third),
+        Encoding::FPCond(_) => code_range(job, operands.first),
+        Encoding::FPBranch { flag: _ } => code_range(job, operands.first),
+        _ => Ok(()),
+    }
 }
 
+// Whether the optional operand was read, which Inputs alone has.
+fn third_given(encoding: Encoding, operands: Operands) -> bool
+    ensures { result ≡ third_given encoding (held_values (encoding_wants encoding) operands) }
+{
+    match encoding {
+        Encoding::Inputs => matches!(operands.third, Operand::Value(_)),
+        _ => false,
+    }
+}
+
+// 27.
 fn kept_range(job: Job, third: bool, op: Opcode) -> Result<(), Fault>
     ensures { result ≡ kept_range job third op }
 {
@@ -216,23 +233,25 @@ fn kept_range(job: Job, third: bool, op: Opcode) -> Result<(), Fault>
     }
 }
 
-// Whether the job takes the line: 19 and 20, then 27, then 9.
+// 9: the immediate, where the encoding has one.
+fn constant_range(encoding: Encoding, operands: Operands) -> Result<(), Fault>
+    ensures { result ≡ constant_range encoding (held_values (encoding_wants encoding) operands) }
+{
+    match encoding {
+        Encoding::Immediate(alt) => {
+            emit_pairs::immediate_range(alt, operand::constant_in(operands.third))
+        }
+        _ => Ok(()),
+    }
+}
+
+// Whether the job takes the line: 19 or 20, then 27, then 9.
 #[tactic(auto, using(crate::proofs::LinesLaws::and_then_is))]
 fn encoding_range(job: Job, encoding: Encoding, op: Opcode, operands: Operands) -> Result<(), Fault>
     ensures { result ≡ encoding_range job encoding op (held_values (encoding_wants encoding) operands) }
 {
-    let kept = kept_range(job, false, op);
-    match encoding {
-        Encoding::Inputs => kept_range(job, is_given(operands.third), op),
-        Encoding::Sham => shift_range(job, operands.third).and(kept),
-        Encoding::Immediate(alt) => {
-            kept.and(emit_pairs::immediate_range(alt, operand::constant_in(operands.third)))
-        }
-        Encoding::FPMove { size: _, flag: _ } => code_range(job, operands.third).and(kept),
-        Encoding::FPCond(_) => code_range(job, operands.first).and(kept),
-        Encoding::FPBranch { flag: _ } => code_range(job, operands.first).and(kept),
-        _ => kept,
-    }
+    let kept = kept_range(job, third_given(encoding, operands), op);
+    amount_range(job, encoding, operands).and(kept.and(constant_range(encoding, operands)))
 }
 
 fn pseudo_pairs(job: Job, pseudo: Pseudo, operands: Operands) -> EmitInstruction
