@@ -52,16 +52,21 @@ use Rattle.acceptance.specs.Changed.{is_listed27, dropped_or, UnchangedRead, Unc
 abbrev dropping : Bool → Range
 dropping d = elim d [ true ↦ Err Dropped | false ↦ Ok tt ]
 
+-- with neither 19 nor 20 nor 9 beside it
+alone : (d : Bool) → range_then (dropping d) (Ok tt) ≡ dropped_or d (Ok tt)
+alone true = refl
+alone false = refl
+
 -- a test of 19 or 20 goes first
 first_then : (fault : Fault) → ((d : Bool) → dropped_or d (Err fault) ≡ Err fault) → (b d : Bool)
-    → range_then (within_or fault b) (dropping d) ≡ dropped_or d (range_then (within_or fault b) (Ok tt))
-first_then fault stays true d = refl
+    → range_then (within_or fault b) (range_then (dropping d) (Ok tt)) ≡ dropped_or d (range_then (within_or fault b) (Ok tt))
+first_then fault stays true d = alone d
 first_then fault stays false d = sym (stays d)
 
-shift_then : (b d : Bool) → range_then (within_or ShiftAmount b) (dropping d) ≡ dropped_or d (range_then (within_or ShiftAmount b) (Ok tt))
+shift_then : (b d : Bool) → range_then (within_or ShiftAmount b) (range_then (dropping d) (Ok tt)) ≡ dropped_or d (range_then (within_or ShiftAmount b) (Ok tt))
 shift_then = first_then ShiftAmount (λ d. refl)
 
-code_then : (b d : Bool) → range_then (within_or ConditionCode b) (dropping d) ≡ dropped_or d (range_then (within_or ConditionCode b) (Ok tt))
+code_then : (b d : Bool) → range_then (within_or ConditionCode b) (range_then (dropping d) (Ok tt)) ≡ dropped_or d (range_then (within_or ConditionCode b) (Ok tt))
 code_then = first_then ConditionCode (λ d. refl)
 
 -- 9 goes last
@@ -77,26 +82,26 @@ then_immediate None c d = go (is_immediate c) d
     go false false = refl
 
 pub range_as_manual : (e : Encoding) (op : Opcode) (x : AskedAll (encoding_wants e)) → encoding_range Release6 e op x ≡ dropped_or (is_listed27 e op x) (encoding_range Manual e op x)
-range_as_manual Register op x = refl
-range_as_manual RegisterShift op x = refl
-range_as_manual Source op x = refl
-range_as_manual Destination op x = refl
-range_as_manual Inputs op x = refl
+range_as_manual Register op x = alone (is_function 18 op)
+range_as_manual RegisterShift op x = alone (is_function 18 op)
+range_as_manual Source op x = alone (is_function 18 op)
+range_as_manual Destination op x = alone (is_function 18 op)
+range_as_manual Inputs op x = alone (is_listed27 Inputs op x)
 range_as_manual Sham op x = shift_then (leb x.2 31) (is_function 18 op)
-range_as_manual SpecialBranch op x = refl
+range_as_manual SpecialBranch op x = alone (is_function 18 op)
 range_as_manual (Immediate alt) op x = then_immediate alt x.2 (is_function 18 op)
-range_as_manual LoadImmediate op x = refl
-range_as_manual Jump op x = refl
-range_as_manual Branch op x = refl
-range_as_manual BranchZero op x = refl
-range_as_manual Parameterless op x = refl
-range_as_manual Offset op x = refl
-range_as_manual FPOffset op x = refl
-range_as_manual (FP3Register fmt) op x = refl
-range_as_manual (FP2Register fmt) op x = refl
+range_as_manual LoadImmediate op x = alone (is_function 18 op)
+range_as_manual Jump op x = alone (is_function 18 op)
+range_as_manual Branch op x = alone (is_function 18 op)
+range_as_manual BranchZero op x = alone (is_function 18 op)
+range_as_manual Parameterless op x = alone (is_function 18 op)
+range_as_manual Offset op x = alone (is_function 18 op)
+range_as_manual FPOffset op x = alone (is_function 18 op)
+range_as_manual (FP3Register fmt) op x = alone (is_function 18 op)
+range_as_manual (FP2Register fmt) op x = alone (is_function 18 op)
 range_as_manual (FPMove fmt flag) op x = code_then (leb x.2 7) (is_function 18 op)
 range_as_manual (FPCond fmt) op x = code_then (leb x.0 7) (is_function 18 op)
-range_as_manual (FPCrossMove flag) op x = refl
+range_as_manual (FPCrossMove flag) op x = alone (is_function 18 op)
 range_as_manual (FPBranch flag) op x = code_then (leb x.0 7) (is_function 18 op)
 
 -- ---- the words: but for function 8 under Source the manual's
@@ -188,7 +193,7 @@ jr_same op ts i h = go (read_operands (encoding_wants Source) ts i).answer
         ≡ line_by a (read_operands (encoding_wants Source) ts i).index (encoding_range Manual Source (Func 9)) (encoding_pairs Manual Source (Func 9)) (encoding_form Source)
     go (Got x) =
         ap₂ (λ (r : Range) (ps : List InstructionPair). line_by (Got x) (read_operands (encoding_wants Source) ts i).index (λ y. r) (λ y. ps) (encoding_form Source))
-        (ap dropping (eight_kept op h)) (ap (λ (o : Opcode). encoding_pairs Manual Source o x) (source_by op h))
+        (ap (λ (d : Bool). range_then (dropping d) (Ok tt)) (eight_kept op h)) (ap (λ (o : Opcode). encoding_pairs Manual Source o x) (source_by op h))
     go (Missed m) = refl
 
 pub jr_line : (c : Call) (p : ℕ) → TableCall c p → (instruction_at c.descriptors p).encoding ≡ Source → is_function 8 (instruction_at c.descriptors p).opcode ≡ true

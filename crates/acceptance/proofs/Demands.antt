@@ -24,7 +24,7 @@ use Rattle.reading.specs.Reading.{image_of, readings, destinations}
 use Rattle.reading.specs.Premises.{Premises, StraightPremises}
 use Rattle.reading.specs.Used.{SameUsed}
 use Rattle.reading.proofs.Demand.{reads_back, differing_apart, straight_reads_back}
-use Rattle.formats.specs.LineLoads.{LoadedConstant}
+use Rattle.emit_dispatch.specs.LineLoads.{LoadedConstant}
 use Rattle.formats.specs.Operations.{Operation, wants_of, line_of, words_of}
 use Rattle.formats.proofs.LineFormats.{LineWords}
 use Rattle.formats.proofs.EveryWord.{every_word}

@@ -35,7 +35,7 @@ use Rattle.emit_dispatch.proofs.LinesLaws.{within_made}
 use Rattle.formats.proofs.Formats.{Format, register, immediate, jump, float, float_move, float_cond, float_cross, float_branch, Has, InFormats, no_words, first}
 use Rattle.formats.proofs.EncodingFormats.{$at, value_in, in_register, in_immediate, inputs_formats, immediate_formats, added_formats, offset_formats, encoding_formats}
 use Rattle.formats.proofs.PseudoFormats.{compared, turned_formats, address_formats, pseudo_formats}
-use Rattle.formats.specs.LineLoads.{LoadedConstant}
+use Rattle.emit_dispatch.specs.LineLoads.{LoadedConstant}
 use Rattle.formats.proofs.LineFormats.{load_formats, loading_formats, own_formats}
 use Rattle.formats.specs.Operations.{Operation, encoded, pseudo, wants_of, loads_of, line_of, words_of}
 use Rattle.formats.proofs.EveryWord.{every_word}

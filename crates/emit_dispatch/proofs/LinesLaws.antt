@@ -1,5 +1,5 @@
 -- Laws of a line: the words of an encoding by its case, and the line by what was read. Assumes nothing.
-use Rattle.std.specs.Prelude.{ℕ, ◌≡◌, refl, List, Bool, true, false, Err, Ok, Result}
+use Rattle.std.specs.Prelude.{ℕ, ◌≡◌, refl, List, Bool, true, false, Err, Ok, Option, Result}
 use Rattle.std.specs.Result.{result_and}
 use Rattle.std.proofs.Common.{sym, ap, subst, ◌∙◌, arith}
 use Rattle.instructions.specs.declared.Opcode.{Opcode}
@@ -18,10 +18,12 @@ use Rattle.emit_pairs.specs.declared.emit_instruction.EmitInstruction.{EmitInstr
 use Rattle.emit_pairs.specs.declared.InstructionPair.{InstructionPair}
 use Rattle.emit_pairs.specs.declared.Fault.TheVariants.{Dropped}
 use Rattle.instructions.specs.declared.Encoding.{Encoding}
+use Rattle.instructions.specs.declared.Encoding.TheVariants.{Immediate}
+use Rattle.operand.specs.Held.{constant_in}
 use Rattle.pseudo_names.specs.declared.Pseudo.{Pseudo}
 use Rattle.operand_list.specs.HeldOperands.{held_values}
 use Rattle.emit_dispatch.specs.Wants.{encoding_wants, pseudo_wants}
-use Rattle.emit_pairs.specs.Pairs.{Range, EmitIs}
+use Rattle.emit_pairs.specs.Pairs.{Range, EmitIs, immediate_range}
 use Rattle.emit_dispatch.specs.declared.Unmade.{Unmade}
 use Rattle.emit_dispatch.specs.LineAnswers.{Made}
 use Rattle.emit_dispatch.specs.Lines.{encoding_range, encoding_pairs, pseudo_pairs, encoding_form, pseudo_form, range_answer, range_then, kept_range, line_by}
@@ -59,6 +61,15 @@ and_then_is (Err fault) next = refl
 pub then_within : (first next : Range) → range_then first next ≡ Ok tt → (first ≡ Ok tt) × (next ≡ Ok tt)
 then_within (Ok tt) next e = (refl, e)
 then_within (Err fault) next e = let z : ◌≡◌ {A = ℕ} 0 1 = cc in absurd (omega arith)
+
+-- the immediate of a line that is taken lies within its range
+pub immediate_taken : (job : Job) {e : Encoding} {alt : Option Opcode} (op : Opcode) (o : Operands) → e ≡ Immediate alt
+    → encoding_range job e op (held_values (encoding_wants e) o) ≡ Ok tt → immediate_range alt (constant_in o.third) ≡ Ok tt
+immediate_taken job {e} {alt} op o i t =
+    let c = constant_in o.third in
+    let taken : range_then (kept_range job false op) (immediate_range alt c) ≡ Ok tt =
+    subst (λ (x : Encoding). encoding_range job x op (held_values (encoding_wants x) o) ≡ Ok tt) i t in
+    (then_within (kept_range job false op) (immediate_range alt c) taken).1
 
 -- a line that is taken is not dropped
 pub kept_within : (job : Job) (third : Bool) (op : Opcode) → kept_range job third op ≡ Ok tt → is_dropped job third op ≡ false

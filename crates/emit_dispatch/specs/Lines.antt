@@ -19,13 +19,12 @@ use Rattle.emit_pairs.specs.declared.Fault.{Fault}
 use Rattle.emit_pairs.specs.declared.Fault.TheVariants.{ShiftAmount, ConditionCode, Dropped}
 use Rattle.loading.specs.declared.LoadForm.{LoadForm}
 use Rattle.loading.specs.declared.LoadForm.TheVariants.{Nothing as Unloaded}
-use Rattle.loading.specs.Load.{form_of}
-use Rattle.emit_pairs.specs.Pairs.{label_form, immediate_range, immediate_form, Range}
-use Rattle.emit_pairs.specs.Values.{value_form, maybe_form, offset_form}
+use Rattle.emit_pairs.specs.Pairs.{immediate_range, Range}
 use Rattle.emit_integer.specs.IntegerWords.{register_pairs, register_shift_pairs, source_pairs, destination_pairs, inputs_pairs, sham_pairs, branch_zero_pairs, immediate_line_pairs, load_immediate_pairs, jump_pairs, branch_pairs, parameterless_pairs, offset_line_pairs}
 use Rattle.emit_float.specs.FloatWords.{fp3_pairs, fp2_pairs, fp_move_pairs, fp_cond_pairs, fp_cross_move_pairs, fp_branch_pairs}
-use Rattle.emit_pseudo.specs.PseudoWords.{branch_custom_pairs, set_custom_pairs, sne_pairs, seq_pairs, abs_pairs, neg_pairs, move_pairs, li_pairs, la_pairs, b_pairs, nop_pairs, subi_pairs, subi_form}
+use Rattle.emit_pseudo.specs.PseudoWords.{branch_custom_pairs, set_custom_pairs, sne_pairs, seq_pairs, abs_pairs, neg_pairs, move_pairs, li_pairs, la_pairs, b_pairs, nop_pairs, subi_pairs}
 use Rattle.emit_dispatch.specs.Wants.{encoding_wants, pseudo_wants}
+use Rattle.emit_dispatch.specs.LineLoads.{form_from, encoding_loads, pseudo_loads}
 use Rattle.emit_dispatch.specs.LineAnswers.{LineAnswer, Made, Missed as MissedOperand, OutOfRange}
 
 -- ---- words: x.0, x.1 and x.2 are the operands, left to right
@@ -116,49 +115,13 @@ abbrev pub encoding_range : Job → (e : Encoding) → Opcode → AskedAll (enco
 encoding_range job e op x = range_then (amount_range job e x) (range_then (kept_range job (third_given e x) op) (constant_range e x))
 
 -- ---- how the line's constant is loaded (document 02, P2: "All emitters that take a literal pass the report up, or none where nothing is
--- loaded"): a line loads one constant at most
+-- loaded")
 
 abbrev pub encoding_form : (e : Encoding) → AskedAll (encoding_wants e) → LoadForm
-encoding_form Register x = value_form x.2
-encoding_form RegisterShift x = Unloaded
-encoding_form Source x = Unloaded
-encoding_form Destination x = Unloaded
-encoding_form Inputs x = maybe_form x.2
-encoding_form Sham x = Unloaded
-encoding_form SpecialBranch x = Unloaded
-encoding_form (Immediate alt) x = immediate_form alt x.2
-encoding_form LoadImmediate x = Unloaded
-encoding_form Jump x = Unloaded
-encoding_form Branch x = value_form x.1
-encoding_form BranchZero x = Unloaded
-encoding_form Parameterless x = Unloaded
-encoding_form Offset x = offset_form x.1
-encoding_form FPOffset x = offset_form x.1
-encoding_form (FP3Register fmt) x = Unloaded
-encoding_form (FP2Register fmt) x = Unloaded
-encoding_form (FPMove fmt flag) x = Unloaded
-encoding_form (FPCond fmt) x = Unloaded
-encoding_form (FPCrossMove flag) x = Unloaded
-encoding_form (FPBranch flag) x = Unloaded
+encoding_form e x = form_from (encoding_loads e x)
 
 abbrev pub pseudo_form : (p : Pseudo) → AskedAll (pseudo_wants p) → LoadForm
-pseudo_form Nop x = Unloaded
-pseudo_form Abs x = Unloaded
-pseudo_form (BranchCustom greater result unsigned) x = value_form x.1
-pseudo_form (SetCustom greater result unsigned) x = value_form x.2
-pseudo_form Beqz x = Unloaded
-pseudo_form Bnez x = Unloaded
-pseudo_form Seq x = value_form x.2
-pseudo_form Sne x = value_form x.2
-pseudo_form Neg x = Unloaded
-pseudo_form Negu x = Unloaded
-pseudo_form Not x = Unloaded
-pseudo_form Li x = form_of x.1
-pseudo_form La x = label_form x.1
-pseudo_form Move x = Unloaded
-pseudo_form B x = Unloaded
-pseudo_form Subi x = subi_form x.2
-pseudo_form Subiu x = subi_form x.2
+pseudo_form p x = form_from (pseudo_loads p x)
 
 -- ---- the line
 

@@ -1,7 +1,7 @@
 // A line by its encoding or its pseudo-instruction (emit.rs): what it asks for, its operands read once, and the words made of them.
 #![tactic(auto)]
 
-ghost use Rattle.std.specs.Prelude.{◌≡◌};
+ghost use Rattle.std.specs.Prelude.{◌≡◌, Ok};
 ghost use Rattle.lexer.specs.Tokens.{tokens};
 ghost use Rattle.jobs.specs.Jobs.{shift_within, code_within};
 ghost use Rattle.operand.specs.Held.{constant_in, code_in};
@@ -132,8 +132,10 @@ fn pseudo_wants(pseudo: Pseudo) -> Wants
     }
 }
 
-// The words of an encoding. Where the immediate is out of range there are none.
+// The words of an encoding whose line the job takes.
+#[tactic(auto, using(crate::proofs::FormsLaws::value_form_lem, crate::proofs::FormsLaws::maybe_form_lem, crate::proofs::FormsLaws::offset_form_lem))]
 fn encoding_pairs(job: Job, encoding: Encoding, op: Opcode, operands: Operands) -> EmitInstruction
+    requires taken { encoding_range job encoding op (held_values (encoding_wants encoding) operands) ≡ Ok tt }
     ensures { EmitIs result (encoding_pairs job encoding op (held_values (encoding_wants encoding) operands))
         (encoding_form encoding (held_values (encoding_wants encoding) operands)) }
 {
@@ -254,6 +256,7 @@ fn encoding_range(job: Job, encoding: Encoding, op: Opcode, operands: Operands) 
     amount_range(job, encoding, operands).and(kept.and(constant_range(encoding, operands)))
 }
 
+#[tactic(auto, using(crate::proofs::FormsLaws::value_form_lem, crate::proofs::FormsLaws::label_form_lem, crate::proofs::FormsLaws::subi_form_lem))]
 fn pseudo_pairs(job: Job, pseudo: Pseudo, operands: Operands) -> EmitInstruction
     ensures { EmitIs result (pseudo_pairs job pseudo (held_values (pseudo_wants pseudo) operands))
         (pseudo_form pseudo (held_values (pseudo_wants pseudo) operands)) }

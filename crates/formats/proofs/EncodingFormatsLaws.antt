@@ -29,7 +29,7 @@ use Rattle.emit_dispatch.specs.Lines.{kept_range, encoding_range, encoding_pairs
 use Rattle.formats.proofs.Formats.{Has, InFormats, first, register}
 use Rattle.formats.proofs.FormatsLaws.{base_register, base_jump, source_register, source_branch, destination_register, inputs_register, inputs_branch, register_register, immediate_immediate, load_immediate, sham_register, three_float, two_float, cross_float, move_float, cond_float, branch_float}
 use Rattle.formats.specs.Operations.{words_of}
-use Rattle.formats.specs.LineLoads.{into_at, maybe_loads, immediate_loads, offset_loads, encoding_loads}
+use Rattle.emit_dispatch.specs.LineLoads.{into_at, maybe_loads, immediate_loads, offset_loads, encoding_loads}
 use Rattle.formats.proofs.EncodingFormats.{in_register, in_immediate, in_branch, $at, inputs_formats, immediate_formats, added_formats, offset_formats, encoding_formats}
 use Rattle.formats.proofs.LineFormats.{LoadThen}
 use Rattle.formats.proofs.LineFormatsLaws.{one, alone, same_pairs, loaded_then, value_then, named}

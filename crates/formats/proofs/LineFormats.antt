@@ -7,7 +7,7 @@ use Rattle.operand.specs.Answers.{Answer, Got}
 use Rattle.operand_list.specs.OperandLists.{AskedAll}
 use Rattle.formats.proofs.Formats.{Format, immediate, InFormats}
 use Rattle.formats.specs.Operations.{Operation, encoded, pseudo, wants_of, loads_of}
-use Rattle.formats.specs.LineLoads.{LoadedConstant, loading_words}
+use Rattle.emit_dispatch.specs.LineLoads.{LoadedConstant, loading_words}
 use Rattle.formats.proofs.EncodingFormats.{encoding_formats}
 use Rattle.formats.proofs.PseudoFormats.{pseudo_formats}
 

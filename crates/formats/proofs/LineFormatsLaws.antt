@@ -15,10 +15,10 @@ use Rattle.emit_words.specs.Words.{immediate_word}
 use Rattle.emit_pairs.specs.declared.InstructionPair.{InstructionPair}
 use Rattle.emit_pairs.specs.Pairs.{plain, load_pairs}
 use Rattle.emit_pairs.specs.Values.{value_pairs, value_number}
-use Rattle.formats.proofs.Formats.{Format, Has, InFormats, no_words, first, register, immediate}
+use Rattle.formats.proofs.Formats.{Format, Has, InFormats, no_words, first, immediate}
 use Rattle.formats.proofs.FormatsLaws.{has_immediate}
 use Rattle.formats.specs.Operations.{words_of}
-use Rattle.formats.specs.LineLoads.{LoadedConstant, into, value_loads, loading_words}
+use Rattle.emit_dispatch.specs.LineLoads.{LoadedConstant, into, value_loads, loading_words}
 use Rattle.formats.proofs.EncodingFormats.{$at, value_in, name_formats}
 use Rattle.formats.proofs.LineFormats.{load_formats, loading_formats, LoadThen}
 

@@ -27,7 +27,7 @@ use Rattle.emit_dispatch.specs.Lines.{pseudo_pairs}
 use Rattle.formats.proofs.Formats.{Format, Has, InFormats, no_words, first, register, immediate}
 use Rattle.formats.proofs.FormatsLaws.{base_register, source_branch, inputs_branch, register_register, sham_register, has_immediate}
 use Rattle.formats.specs.Operations.{words_of}
-use Rattle.formats.specs.LineLoads.{label_loads, pseudo_loads}
+use Rattle.emit_dispatch.specs.LineLoads.{label_loads, pseudo_loads}
 use Rattle.formats.proofs.EncodingFormats.{in_register, $at}
 use Rattle.formats.proofs.PseudoFormats.{abs_format, compared, turned_formats, different_formats, address_formats, pseudo_formats}
 use Rattle.formats.proofs.LineFormats.{LoadThen}

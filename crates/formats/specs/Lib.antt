@@ -1,2 +1,1 @@
-pub mod LineLoads
 pub mod Operations

@@ -10,7 +10,7 @@ use Rattle.operand_list.specs.OperandLists.{AskedAll}
 use Rattle.emit_pairs.specs.declared.InstructionPair.{InstructionPair}
 use Rattle.emit_dispatch.specs.Wants.{encoding_wants, pseudo_wants}
 use Rattle.emit_dispatch.specs.Lines.{Line, encoding_line, pseudo_line}
-use Rattle.formats.specs.LineLoads.{LoadedConstant, encoding_loads, pseudo_loads}
+use Rattle.emit_dispatch.specs.LineLoads.{LoadedConstant, encoding_loads, pseudo_loads}
 
 pub data Operation : Type 0 where
   encoded : Encoding → Opcode → Operation

@@ -3,21 +3,15 @@ use Rattle.std.specs.Prelude.{ℕ, ◌≡◌, List, ◌++◌, Option, None, Some
 use Rattle.jobs.specs.declared.Job.{Job}
 use Rattle.registers.specs.Numbers.{register_number}
 use Rattle.loading.specs.declared.LoadForm.{LoadForm}
-use Rattle.loading.specs.declared.LoadForm.TheVariants.{Nothing as Unloaded}
-use Rattle.loading.specs.Load.{form_of, form_words}
+use Rattle.loading.specs.Load.{form_words}
 use Rattle.formats.proofs.Formats.{Format, InFormats}
-use Rattle.formats.specs.LineLoads.{LoadedConstant}
+use Rattle.emit_dispatch.specs.LineLoads.{LoadedConstant, form_from}
 use Rattle.formats.specs.Operations.{loads_of, line_of, words_of}
 use Rattle.formats.proofs.LineFormats.{own_formats}
 use Rattle.lexer.specs.Tokens.{tokens}
 use Rattle.emit_outcome.specs.Call.{Call}
 use Rattle.emit_outcome.specs.Emit.{start_of}
 use Rattle.loaded_lines.proofs.Loaded.{LoadedCall, call_loads}
-
--- "addiu alone, ori alone, lui alone, or both halves", "or none where nothing is loaded"
-abbrev pub form_from : Option LoadedConstant → LoadForm
-form_from None = Unloaded
-form_from (Some l) = form_of l.constant
 
 -- words that begin with the loading words of a form, one for the first three and two for both halves, before those of the line's own instructions
 pub record FormFirst (form : LoadForm) (l : LoadedConstant) (own : List Format) (ws : List ℕ) : Type 0 where

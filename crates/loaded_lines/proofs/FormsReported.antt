@@ -12,7 +12,8 @@ use Rattle.emit_outcome.specs.Emit.{start_of, emit_outcome}
 use Rattle.loaded_lines.proofs.Loaded.{read_loads, meant_loads, call_loads}
 use Rattle.loaded_lines.proofs.CallsLaws.{accepted_call}
 use Rattle.loaded_lines.proofs.LinesLoad.{line_loads}
-use Rattle.loaded_lines.proofs.Forms.{form_from, Reported}
+use Rattle.emit_dispatch.specs.LineLoads.{form_from}
+use Rattle.loaded_lines.proofs.Forms.{Reported}
 use Rattle.loaded_lines.proofs.FormsLaws.{line_form, formed}
 
 pub reported : (job : Job) (c : Call) (position : ℕ) (form : LoadForm) → (emit_outcome job c).answer ≡ done_at position form → Reported job c form

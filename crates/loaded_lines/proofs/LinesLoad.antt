@@ -12,7 +12,7 @@ use Rattle.lexer.specs.Tokens.{tokens}
 use Rattle.emit_dispatch.specs.LineAnswers.{Made}
 use Rattle.formats.proofs.Formats.{Format, InFormats}
 use Rattle.formats.specs.Operations.{Operation, loads_of, line_of, words_of}
-use Rattle.formats.specs.LineLoads.{LoadedConstant}
+use Rattle.emit_dispatch.specs.LineLoads.{LoadedConstant}
 use Rattle.formats.proofs.LineFormats.{own_formats, LoadThen}
 use Rattle.formats.proofs.EveryWord.{every_word}
 use Rattle.loading.specs.declared.LoadForm.{LoadForm}

@@ -15,7 +15,7 @@ use Rattle.descriptors.specs.Descriptors.{instruction_at}
 use Rattle.emit_dispatch.specs.LineAnswers.{Made}
 use Rattle.formats.proofs.Formats.{Format, InFormats}
 use Rattle.formats.specs.Operations.{Operation, encoded, pseudo, wants_of, loads_of, line_of, words_of}
-use Rattle.formats.specs.LineLoads.{LoadedConstant}
+use Rattle.emit_dispatch.specs.LineLoads.{LoadedConstant}
 use Rattle.formats.proofs.LineFormats.{own_formats}
 use Rattle.emit_outcome.specs.declared.Meaning.{Meaning}
 use Rattle.emit_outcome.specs.declared.Meaning.TheVariants.{Table, Builtin, Neither}

@@ -35,7 +35,7 @@ use Rattle.reading.proofs.ImageLaws.{part_word}
 use Rattle.formats.proofs.Formats.{Format, Has, InFormats, no_words, first, immediate}
 use Rattle.formats.specs.Operations.{words_of}
 use Rattle.formats.proofs.EncodingFormats.{value_in}
-use Rattle.formats.specs.LineLoads.{value_loads, loading_words}
+use Rattle.emit_dispatch.specs.LineLoads.{value_loads, loading_words}
 use Rattle.formats.proofs.LineFormatsLaws.{all_have}
 use Rattle.formats.proofs.PseudoFormats.{compared}
 use Rattle.formats.proofs.PseudoFormatsLaws.{pseudo_words}

@@ -13,7 +13,7 @@ use Rattle.machine.specs.declared.Machine.{Machine}
 use Rattle.machine.specs.declared.Reason.TheVariants.{Allowance}
 use Rattle.dry_run_outcome.specs.Run.{run, ran_for}
 use Rattle.dry_run_outcome.proofs.StandingLaws.{Standing}
-use Rattle.formats.specs.LineLoads.{value_loads, loading_words}
+use Rattle.emit_dispatch.specs.LineLoads.{value_loads, loading_words}
 use Rattle.pseudo_meaning.specs.Comparisons.{compares}
 use Rattle.pseudo_meaning.proofs.LineRunsLaws.{value_held}
 use Rattle.pseudo_meaning.proofs.WholeLineLaws.{GoesBy, branch_line}

@@ -24,7 +24,7 @@ use Rattle.dry_run_outcome.specs.Run.{later, run, ran_for}
 use Rattle.dry_run_outcome.proofs.RunLaws.{later_none}
 use Rattle.formats.proofs.Formats.{Reads, register, immediate}
 use Rattle.formats.proofs.EncodingFormats.{value_in}
-use Rattle.formats.specs.LineLoads.{value_loads, loading_words}
+use Rattle.emit_dispatch.specs.LineLoads.{value_loads, loading_words}
 use Rattle.formats.proofs.PseudoFormats.{compared}
 use Rattle.pseudo_meaning.specs.Comparisons.{compares}
 use Rattle.pseudo_meaning.proofs.ComparisonsLaws.{less, or_not, compares_by, bit_set, bit_clear_lem, bit_turned}

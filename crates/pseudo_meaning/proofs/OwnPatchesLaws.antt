@@ -22,7 +22,7 @@ use Rattle.emit_dispatch.specs.Lines.{line_by, pseudo_pairs, pseudo_form, pseudo
 use Rattle.emit_outcome.specs.Call.{Call}
 use Rattle.emit_outcome.specs.Emit.{start_of}
 use Rattle.formats.proofs.Formats.{Format, InFormats, no_words, first}
-use Rattle.formats.specs.LineLoads.{value_loads, loading_words}
+use Rattle.emit_dispatch.specs.LineLoads.{value_loads, loading_words}
 use Rattle.routine.specs.PatchValues.{Patch, target_of, patch_at, origin_at, patch_to, patches_from}
 use Rattle.routine.specs.CallValues.{meaning_pairs, call_pairs}
 use Rattle.pseudo_meaning.proofs.WordsThereLaws.{Words32}

@@ -13,7 +13,7 @@ use Rattle.machine.specs.declared.Machine.{Machine}
 use Rattle.dry_run_outcome.proofs.StandingLaws.{Standing}
 use Rattle.formats.proofs.Formats.{Format, InFormats, first}
 use Rattle.formats.specs.Operations.{words_of}
-use Rattle.formats.specs.LineLoads.{LoadedConstant, loading_words}
+use Rattle.emit_dispatch.specs.LineLoads.{LoadedConstant, loading_words}
 use Rattle.formats.proofs.LineFormats.{LoadThen}
 use Rattle.formats.proofs.LineFormatsLaws.{all_have}
 use Rattle.routine.specs.CallValues.{call_pairs, call_origin, call_patches}

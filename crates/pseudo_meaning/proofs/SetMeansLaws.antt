@@ -11,7 +11,7 @@ use Rattle.machine.specs.Numbers.{bit}
 use Rattle.dry_run_outcome.proofs.StandingLaws.{Standing}
 use Rattle.formats.proofs.Formats.{InFormats, no_words, first}
 use Rattle.formats.proofs.EncodingFormats.{value_in}
-use Rattle.formats.specs.LineLoads.{value_loads, loading_words}
+use Rattle.emit_dispatch.specs.LineLoads.{value_loads, loading_words}
 use Rattle.formats.proofs.PseudoFormats.{compared, turned_formats}
 use Rattle.formats.proofs.PseudoFormatsLaws.{pseudo_words}
 use Rattle.routine.specs.CallValues.{call_origin}

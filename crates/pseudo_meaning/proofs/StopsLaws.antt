@@ -24,7 +24,7 @@ use Rattle.dry_run_outcome.proofs.StandingLaws.{Standing, next, pc_behind, behin
 use Rattle.formats.proofs.Formats.{Format, Reads, InFormats, first, register}
 use Rattle.formats.specs.Operations.{words_of}
 use Rattle.formats.proofs.EncodingFormats.{value_in}
-use Rattle.formats.specs.LineLoads.{value_loads, loading_words}
+use Rattle.emit_dispatch.specs.LineLoads.{value_loads, loading_words}
 use Rattle.formats.proofs.LineFormats.{LoadThen}
 use Rattle.formats.proofs.PseudoFormats.{less_than, compared}
 use Rattle.formats.proofs.PseudoFormatsLaws.{pseudo_words}

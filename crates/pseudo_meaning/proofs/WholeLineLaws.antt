@@ -12,7 +12,7 @@ use Rattle.machine.specs.declared.Reason.TheVariants.{Allowance}
 use Rattle.dry_run_outcome.specs.Run.{later, run, ran_for}
 use Rattle.formats.proofs.Formats.{Reads, immediate}
 use Rattle.formats.proofs.EncodingFormats.{value_in}
-use Rattle.formats.specs.LineLoads.{value_loads, loading_words}
+use Rattle.emit_dispatch.specs.LineLoads.{value_loads, loading_words}
 use Rattle.formats.proofs.PseudoFormats.{compared}
 use Rattle.pseudo_meaning.specs.Comparisons.{compares}
 use Rattle.pseudo_meaning.proofs.ComparisonsLaws.{less}

@@ -6,7 +6,7 @@ use Rattle.pseudo_names.specs.declared.Pseudo.TheVariants.{BranchCustom, SetCust
 use Rattle.operand.specs.declared.InstructionValue.{InstructionValue}
 use Rattle.operand_list.specs.OperandLists.{AskedAll}
 use Rattle.emit_dispatch.specs.Wants.{pseudo_wants}
-use Rattle.formats.specs.LineLoads.{value_loads, loading_words}
+use Rattle.emit_dispatch.specs.LineLoads.{value_loads, loading_words}
 use Rattle.patch.specs.Patches.{wrap32}
 use Rattle.machine.specs.declared.Machine.{Machine}
 use Rattle.machine.specs.declared.Reason.TheVariants.{Word}

@@ -5,10 +5,12 @@ use Rattle.registers.specs.Numbers.{register_number}
 use Rattle.registers.specs.declared.RegisterSlot.{RegisterSlot}
 use Rattle.registers.specs.declared.RegisterSlot.TheVariants.{AssemblerTemporary}
 use Rattle.instructions.specs.declared.Encoding.{Encoding}
-use Rattle.instructions.specs.declared.Encoding.TheVariants.{Register, RegisterShift, Source, Destination, Inputs, Sham, SpecialBranch, Immediate, LoadImmediate, Jump, Branch, BranchZero, Parameterless, Offset, FPOffset, FP3Register, FP2Register, FPMove, FPCond, FPCrossMove, FPBranch}
+use Rattle.instructions.specs.declared.Encoding.TheVariants.{Register, Inputs, Immediate, Branch, Offset, FPOffset}
 use Rattle.pseudo_names.specs.declared.Pseudo.{Pseudo}
-use Rattle.pseudo_names.specs.declared.Pseudo.TheVariants.{Nop, Abs, BranchCustom, SetCustom, Beqz, Bnez, Seq, Sne, Neg, Negu, Not, Li, La, Move, B, Subi, Subiu}
-use Rattle.loading.specs.Load.{load_words}
+use Rattle.pseudo_names.specs.declared.Pseudo.TheVariants.{BranchCustom, SetCustom, Seq, Sne, Li, La, Subi, Subiu}
+use Rattle.loading.specs.declared.LoadForm.{LoadForm}
+use Rattle.loading.specs.declared.LoadForm.TheVariants.{Nothing as Unloaded}
+use Rattle.loading.specs.Load.{form_of, load_words}
 use Rattle.address_label.specs.declared.AddressLabel.{AddressLabel}
 use Rattle.address_label.specs.declared.AddressLabel.TheVariants.{Constant, Label}
 use Rattle.operand.specs.declared.InstructionValue.{InstructionValue}
@@ -60,48 +62,33 @@ offset_loads (Based (Label name) r) = None
 
 abbrev pub encoding_loads : (e : Encoding) → AskedAll (encoding_wants e) → Option LoadedConstant
 encoding_loads Register x = value_loads x.2
-encoding_loads RegisterShift x = None
-encoding_loads Source x = None
-encoding_loads Destination x = None
 encoding_loads Inputs x = maybe_loads x.2
-encoding_loads Sham x = None
-encoding_loads SpecialBranch x = None
 encoding_loads (Immediate alt) x = immediate_loads x.2
-encoding_loads LoadImmediate x = None
-encoding_loads Jump x = None
 encoding_loads Branch x = value_loads x.1
-encoding_loads BranchZero x = None
-encoding_loads Parameterless x = None
 encoding_loads Offset x = offset_loads x.1
 encoding_loads FPOffset x = offset_loads x.1
-encoding_loads (FP3Register fmt) x = None
-encoding_loads (FP2Register fmt) x = None
-encoding_loads (FPMove fmt flag) x = None
-encoding_loads (FPCond fmt) x = None
-encoding_loads (FPCrossMove flag) x = None
-encoding_loads (FPBranch flag) x = None
+encoding_loads e x = None
 
 -- "subi and subiu negate theirs first, wrapping"
 abbrev pub pseudo_loads : (p : Pseudo) → AskedAll (pseudo_wants p) → Option LoadedConstant
-pseudo_loads Nop x = None
-pseudo_loads Abs x = None
 pseudo_loads (BranchCustom greater result unsigned) x = value_loads x.1
 pseudo_loads (SetCustom greater result unsigned) x = value_loads x.2
-pseudo_loads Beqz x = None
-pseudo_loads Bnez x = None
 pseudo_loads Seq x = value_loads x.2
 pseudo_loads Sne x = value_loads x.2
-pseudo_loads Neg x = None
-pseudo_loads Negu x = None
-pseudo_loads Not x = None
 pseudo_loads Li x = into x.0 x.1
 pseudo_loads La x = label_loads x.0 x.1
-pseudo_loads Move x = None
-pseudo_loads B x = None
 pseudo_loads Subi x = immediate_loads (with_sign true x.2)
 pseudo_loads Subiu x = immediate_loads (with_sign true x.2)
+pseudo_loads p x = None
 
--- ---- the words that load it
+-- ---- how it is loaded
+
+-- document 02, P2: "addiu alone, ori alone, lui alone, or both halves", "or none where nothing is loaded"
+abbrev pub form_from : Option LoadedConstant → LoadForm
+form_from None = Unloaded
+form_from (Some l) = form_of l.constant
+
+-- the words that load it
 
 abbrev pub loading_words : Option LoadedConstant → List ℕ
 loading_words None = []
