@@ -61,33 +61,28 @@ pub fn address_label_at(list: &[u8], at: usize, end: usize) -> AddressLabel
     })
 }
 
-// Whether the record at `at` is an entry.
-#[tactic(auto, unfolding(crate::specs::Entries::entry_ok))]
-fn entry_ok(entry: &[u8], at: usize) -> bool
-    requires { at ≤ length entry.now }
-    ensures { result ≡ entry_ok entry.now at }
-{
-    record::whole_at(entry, at)
-        && record::half_at(entry, at + 2) == ENTRY
-        && record::half_at(entry, at) >= 17
-        && address_label_ok(entry, at + 4, record::next(entry, at))
+// The layout of an entry.
+#[derive(Clone, Copy)]
+struct EntryLayout;
+
+impl record::Layout for EntryLayout {
+    ghost keeps = { λ self s at. entry_ok s at };
+
+    #[tactic(auto, unfolding(crate::specs::Entries::entry_ok))]
+    fn keeps(&self, list: &[u8], at: usize) -> bool {
+        record::whole_at(list, at)
+            && record::half_at(list, at + 2) == ENTRY
+            && record::half_at(list, at) >= 17
+            && address_label_ok(list, at + 4, record::next(list, at))
+    }
 }
 
-// The place of the first record that breaks the layout, or the limit.
+// "at most one": the place of the first record that breaks the layout, or the limit.
+#[tactic(auto, unfolding(crate::specs::Entries::entry_layout))]
 pub fn first_bad_entry(entry: &[u8]) -> Option<usize>
     ensures { result ≡ entry_layout entry.now }
 {
-    if entry.len() > record::LIMIT {
-        return Some(record::LIMIT);
-    }
-    if entry.is_empty() {
-        return None;
-    }
-    if !entry_ok(entry, 0) {
-        return Some(0);
-    }
-    let end = record::next(entry, 0);
-    if end < entry.len() { Some(end) } else { None }
+    record::first_bad_of_within(&EntryLayout, entry, 1)
 }
 
 pub fn read_entry(entry: &[u8]) -> Option<AddressLabel>

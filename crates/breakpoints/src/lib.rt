@@ -40,13 +40,7 @@ impl record::Layout for Breakpoints {
 pub fn filled(buffer: &[u8], fill: usize) -> Option<usize>
     ensures { result ≡ filled_layout fill buffer.now None }
 {
-    if buffer.len() > record::LIMIT {
-        return Some(record::LIMIT);
-    }
-    if fill > buffer.len() {
-        return Some(buffer.len());
-    }
-    None
+    record::past_limit(buffer).or_else(|| (fill > buffer.len()).then_some(buffer.len()))
 }
 
 // The layout of the first `fill` bytes as a list of pendings.

@@ -37,6 +37,7 @@ pub fn start(list: &[u8], position: usize) -> Cursor
 }
 
 // What stands at the position.
+// kept: this and `next` beside the methods of `LexerCursor`, as document 01 wants "thin peek and next over covered functions on slice and position".
 fn peek(list: &[u8], position: Cursor) -> Option<Token>
     requires { Placed list.now position }
     ensures { result ≡ peek (tokens list.now) position.index }
@@ -49,7 +50,7 @@ fn peek(list: &[u8], position: Cursor) -> Option<Token>
 }
 
 // The position behind it; at the list's end it stays.
-fn next(list: &[u8], position: Cursor) -> Cursor
+pub fn next(list: &[u8], position: Cursor) -> Cursor
     requires { Placed list.now position }
     ensures { (result ≡ cursor_at list.now (step (tokens list.now) position.index)) × Placed list.now result }
 {

@@ -1,11 +1,13 @@
 -- What a mnemonic's test says, in facts, what a list of one mnemonic holds, and its name byte by byte. Assumes nothing.
 use Rattle.std.specs.Prelude.{ℕ, zero, suc, ◌+◌, ◌≤◌, ◌<◌, List, [], ◌∷◌, ◌++◌, map, Bool, ◌&&◌, ◌≡◌, length, take, set, replicate, leb, eqb, None, Some}
 use Rattle.std.proofs.Common.{add-one, arith, sym, ap₂, ◌∙◌, take-suc, take-suc-set, get_or-set_other, leb-true, leb-false}
+use Rattle.std.specs.Char.{to_ascii_lowercase}
+use Rattle.std.proofs.lemmas.Bool.Decides.{nat_tests}
 use Rattle.std.proofs.lemmas.List.{map-append}
 use Rattle.std.proofs.Math.Bool.{true, false, and-eq-true_iff}
 use Rattle.std.proofs.Math.Path.{refl, ap}
 use Rattle.record.specs.Bytes.{byte_at, is_text, all}
-use Rattle.record.specs.Records.{body_len, kind_at, next, whole, places, places_from, first_bad_of, limit}
+use Rattle.record.specs.Records.{body_len, kind_at, next, whole, places, places_from, first_bad_of, limit, within_limit}
 use Rattle.record.proofs.RecordsLaws.{places_all, places_step, places_cut, places_end, whole_is, good_ok, of_good, limit_kept, limit_passed, limit_good}
 use Rattle.descriptors.specs.Mnemonics.{mnemonic_bytes, mnemonic_ok, one_mnemonic, mnemonic_layout, lower, ZeroFrom}
 
@@ -42,13 +44,19 @@ module _ (s : List ℕ) where
   unfolding one_mnemonic
   mnemonic_none e = kept (omega arith) ∙ ap (one_mnemonic s) (places_end s 0 (omega arith)) ∙ ap Some e
 
-  pub mnemonic_some : 0 < length s → length s ≤ limit → mnemonic_layout s ≡ first_bad_of 1 (mnemonic_ok s) (places_from s 0)
-  unfolding one_mnemonic
-  mnemonic_some h k = kept k ∙ go (whole s 0) refl
+  pub mnemonic_first : 0 < length s → mnemonic_layout s ≡ within_limit s (first_bad_of 1 (mnemonic_ok s) (places s))
+  unfolding mnemonic_layout one_mnemonic
+  mnemonic_first h = ap (within_limit s) (go (whole s 0) refl)
     where
-      go : (w : Bool) → whole s 0 ≡ w → one_mnemonic s (places_from s 0) ≡ first_bad_of 1 (mnemonic_ok s) (places_from s 0)
-      go true e = rw (places_step s 0 h e)
-      go false e = rw (places_cut s 0 h e)
+      first : (ps : List ℕ) → places_from s 0 ≡ 0 ∷ ps → one_mnemonic s (places s) ≡ first_bad_of 1 (mnemonic_ok s) (places s)
+      first ps e = rw (places_all s ∙ e)
+
+      go : (w : Bool) → whole s 0 ≡ w → one_mnemonic s (places s) ≡ first_bad_of 1 (mnemonic_ok s) (places s)
+      go true e = first (places_from s (next s 0)) (places_step s 0 h e)
+      go false e = first [] (places_cut s 0 h e)
+
+  pub mnemonic_some : 0 < length s → length s ≤ limit → mnemonic_layout s ≡ first_bad_of 1 (mnemonic_ok s) (places_from s 0)
+  mnemonic_some h k = mnemonic_first h ∙ limit_kept s (first_bad_of 1 (mnemonic_ok s) (places s)) k ∙ ap (first_bad_of 1 (mnemonic_ok s)) (places_all s)
 
   within : mnemonic_layout s ≡ None → length s ≤ limit
   unfolding mnemonic_layout
@@ -85,3 +93,23 @@ zeros (suc n) (suc i) = zeros n i
 
 pub zero_next : (bytes : List ℕ) (i b : ℕ) → ZeroFrom i bytes → ZeroFrom (i + 1) (set bytes i b)
 zero_next bytes i b h k g = get_or-set_other bytes i k b 0 (omega arith) ∙ h k (omega arith)
+
+-- a name with zeros behind it, in lower case: the library's lower case is document 01's
+lowered : (b : ℕ) → to_ascii_lowercase b ≡ lower b
+lowered b = grind (arith, nat_tests)
+
+pub name_lowered : (name rest : List ℕ) (n : ℕ) → length name ≡ n → take n (map to_ascii_lowercase (name ++ rest)) ≡ map lower name
+name_lowered [] rest zero e = refl
+name_lowered [] rest (suc n) e = absurd (omega arith)
+name_lowered (x ∷ xs) rest zero e = absurd (omega arith)
+name_lowered (x ∷ xs) rest (suc n) e = ap₂ (λ (u : ℕ) (v : List ℕ). u ∷ v) (lowered x) (name_lowered xs rest n (omega arith))
+
+zeros_lowered : (rest : List ℕ) → ((i : ℕ) → byte_at rest i ≡ 0) → (i : ℕ) → byte_at (map to_ascii_lowercase rest) i ≡ 0
+zeros_lowered [] z i = refl
+zeros_lowered (x ∷ xs) z zero = ap to_ascii_lowercase (z 0)
+zeros_lowered (x ∷ xs) z (suc i) = zeros_lowered xs (λ k. z (suc k)) i
+
+pub rest_lowered : (name rest : List ℕ) (n : ℕ) → length name ≡ n → ((i : ℕ) → byte_at rest i ≡ 0) → ZeroFrom n (map to_ascii_lowercase (name ++ rest))
+rest_lowered [] rest n e z i h = zeros_lowered rest z i
+rest_lowered (x ∷ xs) rest n e z zero h = absurd (omega arith)
+rest_lowered (x ∷ xs) rest n e z (suc i) h = rest_lowered xs rest (length xs) refl z i (omega arith)

@@ -36,34 +36,32 @@ pub struct Mnemonic {
     pub location: Location,
 }
 
-// Whether the record at `at` is a mnemonic.
-#[tactic(auto, unfolding(crate::specs::Mnemonics::mnemonic_ok))]
-fn mnemonic_ok(list: &[u8], at: usize) -> bool
-    requires { at ≤ length list.now }
-    ensures { result ≡ mnemonic_ok list.now at }
-{
-    record::whole_at(list, at)
-        && record::half_at(list, at + 2) == MNEMONIC
-        && record::half_at(list, at) >= 8
-        && record::half_at(list, at) <= 24
-        && record::all_text(&list[at + 12..record::next(list, at)])
+// The layout of a mnemonic.
+#[derive(Clone, Copy)]
+struct MnemonicLayout;
+
+impl record::Layout for MnemonicLayout {
+    ghost keeps = { λ self s at. mnemonic_ok s at };
+
+    #[tactic(auto, unfolding(crate::specs::Mnemonics::mnemonic_ok))]
+    fn keeps(&self, list: &[u8], at: usize) -> bool {
+        record::whole_at(list, at)
+            && record::half_at(list, at + 2) == MNEMONIC
+            && record::half_at(list, at) >= 8
+            && record::half_at(list, at) <= 24
+            && record::all_text(&list[at + 12..record::next(list, at)])
+    }
 }
 
 // The place of the first record that breaks the layout, the list's end where there is none, or the limit.
+#[tactic(auto, using(crate::proofs::MnemonicsLaws::mnemonic_none, crate::proofs::MnemonicsLaws::mnemonic_first))]
 pub fn first_bad_mnemonic(list: &[u8]) -> Option<usize>
     ensures { result ≡ mnemonic_layout list.now }
 {
-    if list.len() > record::LIMIT {
-        return Some(record::LIMIT);
-    }
     if list.is_empty() {
         return Some(0);
     }
-    if !mnemonic_ok(list, 0) {
-        return Some(0);
-    }
-    let end = record::next(list, 0);
-    if end < list.len() { Some(end) } else { None }
+    record::first_bad_of_within(&MnemonicLayout, list, 1)
 }
 
 // The one mnemonic of a list that keeps its layout.
@@ -75,9 +73,8 @@ pub fn read_mnemonic(list: &[u8]) -> Mnemonic
     let len = record::half_at(list, 0) - 8;
     let location = record::location_at(list, 4);
     let mut bytes = [0u8; 16];
-    for i in 0..len {
-        bytes[i] = list[12 + i].to_ascii_lowercase();
-    }
+    bytes[..len].copy_from_slice(&list[12..12 + len]);
+    bytes.make_ascii_lowercase();
     Mnemonic {
         bytes,
         len,

@@ -26,9 +26,7 @@ pub(crate) fn run(image: &Placed<'_>, machine: Machine, allowance: u32) -> Ran
     ensures { result ≡ run allowance image.now machine }
 {
     let mut m = machine;
-    // kept: the count of the steps is a part of the answer, wherever a turn returns
-    let mut steps: u32 = 0;
-    while steps < allowance {
+    for steps in 0..allowance {
         let pc = m.pc;
         let Some(word) = image.fetch(pc) else {
             return ran(m, Reason::Pc, steps);
@@ -42,22 +40,17 @@ pub(crate) fn run(image: &Placed<'_>, machine: Machine, allowance: u32) -> Ran
                 m.registers[j] = value;
                 m.registers[0] = 0;
                 m.pc = effects::next_pc(pc);
-                steps += 1;
             }
             Effect::SetRd(value) => {
                 let k = words::rd(word);
                 m.registers[k] = value;
                 m.registers[0] = 0;
                 m.pc = effects::next_pc(pc);
-                steps += 1;
             }
-            Effect::Go(target) => {
-                m.pc = target;
-                steps += 1;
-            }
+            Effect::Go(target) => m.pc = target,
             Effect::Overflows => return ran(m, Reason::Overflow, steps),
             Effect::Unknown => return ran(m, Reason::Word, steps),
         }
     }
-    ran(m, Reason::Allowance, steps)
+    ran(m, Reason::Allowance, allowance)
 }

@@ -7,38 +7,37 @@ ghost use Rattle.emit_pairs.specs.Pairs.{pairs_of};
 ghost use Rattle.record.specs.Stores.{le32_bytes, append};
 ghost use Rattle.emit_bytes.specs.Appended.{word_bytes, onward, pair_bytes, pendings_bytes, pair_len, pendings_len};
 
-use emit_pairs::EmitInstruction;
+use emit_pairs::{EmitInstruction, InstructionPair};
 use pending::{InstructionLabel, Origin};
 
-// A line's words: at most five, each four little-endian bytes. How many count is `count_of`'s answer.
-pub fn words_of(e: EmitInstruction) -> [[u8; 4]; 5]
-    ensures { result ≡ map (λ (p : InstructionPair). le32_bytes p.word) e.instructions }
+// "at most five words, each four little-endian bytes": how many of the five count is `count_of`'s answer.
+pub fn words_of(instructions: [InstructionPair; 5]) -> [[u8; 4]; 5]
+    ensures { result ≡ map (λ (p : InstructionPair). le32_bytes p.word) instructions }
 {
-    let pairs = e.instructions;
     [
-        pairs[0].word.to_le_bytes(),
-        pairs[1].word.to_le_bytes(),
-        pairs[2].word.to_le_bytes(),
-        pairs[3].word.to_le_bytes(),
-        pairs[4].word.to_le_bytes(),
+        instructions[0].word.to_le_bytes(),
+        instructions[1].word.to_le_bytes(),
+        instructions[2].word.to_le_bytes(),
+        instructions[3].word.to_le_bytes(),
+        instructions[4].word.to_le_bytes(),
     ]
 }
 
+// "the count is a second function's answer"
 pub fn count_of(e: EmitInstruction) -> usize
     ensures { result ≡ e.count }
 {
     e.count
 }
 
-// The first n words from `at` on.
+// The words that count, from `at` on.
 pub fn put_words(d: &mut [u8], at: usize, e: EmitInstruction)
     requires { at + 4 * e.count ≤ length d.old }
     ensures { d.new ≡ append d.old at (word_bytes (pairs_of e)) }
 {
-    let words = words_of(e);
-    for i in 0..count_of(e) {
-        let bytes = words[i];
-        record::put_all(&mut *d, at + 4 * i, &bytes[..]);
+    let words = words_of(e.instructions);
+    for (i, word) in words[..e.count].iter().enumerate() {
+        record::put_all(&mut *d, at + 4 * i, &word[..]);
     }
 }
 

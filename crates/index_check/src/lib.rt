@@ -190,11 +190,9 @@ impl<'a> Lists<'a> {
     fn check_index(&self, index: &[u8], fill: usize) -> Option<usize>
         ensures { result ≡ index_layout self.now.labels self.now.pending fill index.now }
     {
-        if index.len() > record::LIMIT {
-            return Some(record::LIMIT);
-        }
-        if fill > index.len() {
-            return Some(index.len());
+        // kept: tried with `or_else`, whose closure holds `self`; the goals that are then left speak of the closure and not of the lists
+        if let Some(place) = breakpoints::filled(index, fill) {
+            return Some(place);
         }
         if self.is_index(&index[..fill]) {
             None

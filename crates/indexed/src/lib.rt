@@ -48,7 +48,7 @@ pub fn do_indexed(
     out.answer
 }
 
-// The entry, for callers that keep the counts by value; kept: docs/PORT.md names it among the entries that stand as they landed.
+// The same for a caller that keeps the counts by value. Kept: no crate here calls it, but it is public and stands as it landed.
 pub fn do_indexed_line(
     counts: IndexedCounts,
     tokens: &[u8],

@@ -12,12 +12,6 @@ pub const MOST: usize = 0x10_0000;
 // The file descriptor of standard input.
 pub const STDIN: i32 = 0;
 
-pub fn least(a: usize, b: usize) -> usize
-    ensures { result ≡ min a b }
-{
-    a.min(b)
-}
-
 // Where the list that stands first ends.
 fn list_end(input: &[u8]) -> usize
     ensures { result ≡ min (list_end input.now) (length input.now) }

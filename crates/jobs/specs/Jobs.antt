@@ -1,5 +1,5 @@
 -- What a sort of job changes: all of it (document 02, P5: "Old jobs still equal the commit"; P9: "otherwise follows P5"). Assumes nothing.
-use Rattle.std.specs.Prelude.{ℕ, ◌+◌, ◌*◌, ◌%◌, ◌^◌, Bool, true, false, ◌&&◌, ◌||◌, leb, eqb}
+use Rattle.std.specs.Prelude.{ℕ, ◌+◌, ◌*◌, ◌%◌, ◌^◌, [], ◌∷◌, Bool, true, false, ◌&&◌, ◌||◌, get_or, leb, eqb, None, Option, Some}
 use Rattle.instructions.specs.declared.Size.{Size}
 use Rattle.instructions.specs.declared.Size.TheVariants.{Single, Double, Word}
 use Rattle.instructions.specs.declared.Opcode.{Opcode}
@@ -7,6 +7,10 @@ use Rattle.instructions.specs.declared.Opcode.TheVariants.{Op, Func, Special, Al
 use Rattle.jobs.specs.declared.Job.{Job}
 use Rattle.jobs.specs.declared.Job.TheVariants.{Commit, Manual, Release6}
 use Rattle.jobs.specs.declared.Format.{Format}
+
+-- the jobs by their numbers, 0 to 2 (docs/DECISIONS.md)
+abbrev pub job_numbered : ℕ → Option Job
+job_numbered n = get_or (Some Commit ∷ Some Manual ∷ Some Release6 ∷ []) n None
 
 -- P9: "A Release 6 job .. otherwise follows P5": it is by the manual too
 abbrev pub by_manual : Job → Bool

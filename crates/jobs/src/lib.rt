@@ -2,7 +2,7 @@
 #![tactic(auto)]
 
 ghost use Rattle.std.specs.Prelude.{◌≡◌};
-ghost use Rattle.jobs.specs.Jobs.{by_manual, size_code, most_back, most_ahead, shift_within, code_within, is_function, source_opcode, is_dropped, commit_code, manual_code};
+ghost use Rattle.jobs.specs.Jobs.{job_numbered, by_manual, size_code, most_back, most_ahead, shift_within, code_within, is_function, source_opcode, is_dropped, commit_code, manual_code};
 
 use instructions::{Opcode, Size};
 
@@ -12,6 +12,18 @@ pub enum Job {
     Commit,
     Manual,
     Release6,
+}
+
+// The job of a number.
+pub fn job_numbered(number: u32) -> Option<Job>
+    ensures { result ≡ job_numbered number }
+{
+    match number {
+        0 => Some(Job::Commit),
+        1 => Some(Job::Manual),
+        2 => Some(Job::Release6),
+        _ => None,
+    }
 }
 
 // A float format in a job.

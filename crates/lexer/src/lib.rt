@@ -105,8 +105,7 @@ fn kind_at(list: &[u8], at: usize) -> u8
     requires { at + 4 ≤ length list.now }
     ensures { result ≡ min (kind_at list.now at) 255 }
 {
-    let kind = record::half_at(list, at + 2);
-    if kind < 255 { kind as u8 } else { 255 }
+    record::half_at(list, at + 2).min(255) as u8
 }
 
 #[tactic(auto, unfolding(crate::specs::Tokens::payload_of))]

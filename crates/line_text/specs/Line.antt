@@ -1,8 +1,8 @@
 -- What `emit_line` prints of an emit call: the refusal where there is one, the position, the fill counts, an accepted line's form, and the
 -- three buffers after the call; or that there is no such job. Assumes nothing.
-use Rattle.std.specs.Prelude.{Ok, Err, ℕ, List, [], ◌∷◌, ◌++◌, get_or, None, Option, Some}
+use Rattle.std.specs.Prelude.{Ok, Err, ℕ, List, [], ◌++◌, None, Option, Some}
 use Rattle.jobs.specs.declared.Job.{Job}
-use Rattle.jobs.specs.declared.Job.TheVariants.{Commit, Manual, Release6}
+use Rattle.jobs.specs.Jobs.{job_numbered as numbered_job}
 use Rattle.record.specs.Bytes.{byte_at}
 use Rattle.pseudo_names.specs.PseudoNames.{bytes_of}
 use Rattle.refusal.specs.Numbers.{numbered}
@@ -77,7 +77,7 @@ job_text job s = call_text job s (lent_of (held (list_of 3 s)) (held (list_of 4 
 -- ---- the job of an input (document 02, P5 and P9)
 -- the jobs in the order of their bytes
 abbrev pub job_numbered : ℕ → Option Job
-job_numbered n = get_or (Some Commit ∷ Some Manual ∷ Some Release6 ∷ []) n None
+job_numbered n = numbered_job n
 
 -- the byte behind the address, 0 where it is missing
 abbrev pub job_in : List ℕ → Option Job

@@ -90,16 +90,11 @@ fn put_job(job: Job, input: &[u8], out: &mut Printed)
     put_emitted(out, emitted, data, pending, breakpoints);
 }
 
-// The job of that number.
+// The job of that byte.
 pub fn job_numbered(number: u8) -> Option<Job>
     ensures { result ≡ job_numbered number }
 {
-    match number {
-        0 => Some(Job::Commit),
-        1 => Some(Job::Manual),
-        2 => Some(Job::Release6),
-        _ => None,
-    }
+    jobs::job_numbered(u32::from(number))
 }
 
 fn job_in(input: &[u8]) -> Option<Job>

@@ -69,6 +69,7 @@ impl<'a> Line<'a> {
     }
 
     // Whether one of the words before waits for a name with that key.
+    #[tactic(auto, using(crate::proofs::HasLaws::among_hit, crate::proofs::HasLaws::among_pass, crate::proofs::HasLaws::among_end))]
     fn among(&self, before: &[InstructionPair], key: &Key<'_>) -> bool
         ensures { result ≡ key_among self.now.labels self.now.names key.now before.now }
     {

@@ -1,8 +1,10 @@
 -- Laws of the linked calls that keep an index: what is not answerable, and an answered call. Assumes nothing.
-use Rattle.std.specs.Prelude.{ℕ, ◌≤◌, ◌<◌, ◌≡◌, List, false, length, refl, Err, Ok, Result}
-use Rattle.std.proofs.Common.{sym, ap, ap₂, ◌∙◌}
+use Rattle.std.specs.Prelude.{ℕ, zero, suc, ◌≤◌, ◌<◌, ◌≡◌, List, false, length, refl, Err, Ok, Result, None, Some}
+use Rattle.std.proofs.Common.{sym, ap, ap₂, ◌∙◌, arith}
 use borrow.Author.Tests.{le-leb, lt-leb}
 use Rattle.jobs.specs.declared.Job.{Job}
+use Rattle.jobs.specs.declared.Job.TheVariants.{Commit, Manual, Release6}
+use Rattle.jobs.specs.Jobs.{job_numbered as numbered_job}
 use Rattle.record.specs.Stores.{append}
 use Rattle.linked_answer.specs.Words.{answer_bytes, too_short, answered_words, number_of, words_as_bytes}
 use Rattle.linked_line.specs.LineWords.{emitted_words}
@@ -14,6 +16,21 @@ use Rattle.indexed_outcome.specs.Indexed.{IndexedOutcome, indexed_call_of, index
 use Rattle.indexed_outcome.specs.Make.{make_outcome, made_of}
 use Rattle.linked_index.specs.LinkedIndex.{indexed_counts_bytes, indexed_counts_at, indexed_counts_after, last_job, job_numbered, indexed_answered, answerable, linked_indexed, made_words, linked_make}
 use Rattle.refusal.specs.declared.Refusal.{Refusal}
+
+-- ---- the job of a number
+-- one that is found is the number's, which is at most the last
+pub job_found : (n : ℕ) (j : Job) → numbered_job n ≡ Some j → (n ≤ last_job) × (j ≡ job_numbered n)
+job_found zero j e = (omega arith, let h : j ≡ Commit = cc in h)
+job_found (suc zero) j e = (omega arith, let h : j ≡ Manual = cc in h)
+job_found (suc (suc zero)) j e = (omega arith, let h : j ≡ Release6 = cc in h)
+job_found (suc (suc (suc n))) j e = cc
+
+-- a number that has none is past the last
+pub no_job : (n : ℕ) → numbered_job n ≡ None → last_job < n
+no_job zero e = cc
+no_job (suc zero) e = cc
+no_job (suc (suc zero)) e = cc
+no_job (suc (suc (suc n))) e = omega arith
 
 -- ---- a line
 module _ (token_list mnemonic descriptors : List ℕ) (lent : Lent) (labels index counts : List ℕ) (place : LinePlace) (job : ℕ) (answer : List ℕ) where

@@ -4,44 +4,22 @@
 
 ghost use Rattle.std.specs.Prelude.{◌≡◌, ◌≤◌, length};
 ghost use Rattle.emit_outcome.specs.Call.{lent_of};
-ghost use Rattle.linked_index.specs.LinkedIndex.{indexed_counts_bytes, indexed_counts_at, indexed_counts_after, job_numbered, linked_indexed, linked_make};
+ghost use Rattle.linked_index.specs.LinkedIndex.{indexed_counts_bytes, indexed_counts_at, indexed_counts_after, linked_indexed, linked_make};
 
-use emit_outcome::{EmitAnswer, FillCounts, LinePlace};
+use emit_outcome::{EmitAnswer, LinePlace};
 use indexed_outcome::IndexedCounts;
-use jobs::Job;
 use linked_answer::{ANSWER_BYTES, TOO_SHORT};
 
 // The fill counts of the region data, the pending, the breakpoint and the index buffer, each four bytes.
 const COUNTS_BYTES: usize = 16;
 
-// The jobs' numbers are 0 to 2.
-const LAST_JOB: u32 = 2;
-
-fn job_numbered(number: u32) -> Job
-    ensures { result ≡ job_numbered number }
-{
-    match number {
-        0 => Job::Commit,
-        1 => Job::Manual,
-        _ => Job::Release6,
-    }
-}
-
 fn counts_at(counts: &[u8]) -> IndexedCounts
     requires { indexed_counts_bytes ≤ length counts.now }
     ensures { result ≡ indexed_counts_at counts.now }
 {
-    let data_len = record::word_at(counts, 0);
-    let pending = record::word_at(counts, 4);
-    let breakpoints = record::word_at(counts, 8);
-    let index = record::word_at(counts, 12);
     IndexedCounts {
-        counts: FillCounts {
-            data_len,
-            pending,
-            breakpoints,
-        },
-        index,
+        counts: linked_line::counts_at(counts),
+        index: record::word_at(counts, 12),
     }
 }
 
@@ -95,9 +73,9 @@ pub fn do_indexed(
     if counts.len() < COUNTS_BYTES {
         return TOO_SHORT;
     }
-    if job > LAST_JOB {
+    let Some(job) = jobs::job_numbered(job) else {
         return TOO_SHORT;
-    }
+    };
     let mut filled = counts_at(&*counts);
     let given = indexed::do_indexed(
         &mut filled,
@@ -110,7 +88,7 @@ pub fn do_indexed(
         labels,
         index,
         place,
-        job_numbered(job),
+        job,
     );
     let words = linked_line::emitted_words(given);
     put_counts(counts, given, filled);

@@ -67,20 +67,18 @@ fn repeat_in(macros: &Macros<'_>, index: &[u16]) -> Option<usize>
     requires { IndexOf 0 macros.now.bytes.now index.now }
     ensures { result ≡ macro_repeat macros.now.bytes.now }
 {
-    if index.is_empty() {
-        return None;
-    }
+    let (&first, others) = index.split_first()?;
     let mut best: Option<usize> = None;
-    let mut low = record::widened(index[0]);
-    for i in 1..index.len() {
-        let p = record::widened(index[i]);
+    let mut low = record::widened(first);
+    for &other in others {
+        let p = record::widened(other);
         if !same_name(body_at(macros.bytes, p), body_at(macros.bytes, low)) {
             low = p;
         } else if p < low {
-            best = Some(name_order::smaller(best.unwrap_or(low), low));
+            best = Some(best.unwrap_or(low).min(low));
             low = p;
         } else {
-            best = Some(name_order::smaller(best.unwrap_or(p), p));
+            best = Some(best.unwrap_or(p).min(p));
         }
     }
     best

@@ -15,7 +15,7 @@ pub fn expand(input: &[u8], out: &mut Printed)
 {
     let asked = input::word_or_zero(input::behind_lists(input, 2), 0);
     let mut space = [0u8; record::LIMIT + 1];
-    let room = input::least(asked as usize, record::LIMIT + 1);
+    let room = (asked as usize).min(record::LIMIT + 1);
     let written = &mut space[..room];
     let tokens = input::list_of(input, 0);
     let macros = input::list_of(input, 1);

@@ -3,10 +3,11 @@
 
 ghost use Rattle.std.proofs.Props.{props};
 ghost use Rattle.std.specs.Prelude.{◌≡◌, None, ◌+◌, ◌*◌, ◌≤◌, length};
+ghost use Rattle.std.specs.Iterator.{YieldsFirst, item_count};
 ghost use Rattle.record.specs.Bytes.{location_at};
-ghost use Rattle.record.specs.Records.{kind_at, next, limit};
+ghost use Rattle.record.specs.Records.{kind_at, next, places_from, first_bad, limit};
 ghost use Rattle.record.specs.Stores.{append};
-ghost use Rattle.lexer.specs.Tokens.{TokenIs, text_of};
+ghost use Rattle.lexer.specs.Tokens.{TokenIs, token_ok, text_of};
 ghost use Rattle.line_heads.specs.Lines.{starts_colon};
 ghost use Rattle.macros.specs.Macros.{macro_layout};
 ghost use Rattle.written_out.specs.Above.{above};
@@ -64,6 +65,14 @@ pub struct Token<'a> {
     pub bytes: &'a [u8],
     ghost long: { 12 ≤ length bytes.now },
     ghost whole: { length bytes.now ≡ next bytes.now 0 } by { Prim.hlevel props },
+}
+
+// The places of the tokens that a list has from one on. Each of its records is a token, so none is looked at for being cut off.
+#[derive(Clone, Copy)]
+struct Tokens<'a> {
+    list: &'a [u8],
+    at: usize,
+    ghost good: { first_bad (token_ok list.now) (places_from list.now at) ≡ None } by { Prim.hlevel props },
 }
 
 // The two lists with the place in the macro list before which macros may be called.
@@ -209,6 +218,26 @@ fn take(taken: &mut Taken, kind: usize, place: usize)
     taken.count += 1;
 }
 
+impl<'a> Iterator for Tokens<'a> {
+    type Item = usize;
+
+    ghost next_gives = { YieldsFirst (λ s. places_from s.list.now s.at) };
+
+    ghost remaining = { item_count (λ s. places_from s.list.now s.at) };
+
+    fn next(&mut self) -> Option<usize> {
+        let at = self.at;
+        if at >= self.list.len() {
+            return None;
+        }
+        *self = Tokens {
+            list: self.list,
+            at: record::next(self.list, at),
+        };
+        Some(at)
+    }
+}
+
 // The arguments from `from` on up to NewLine or the end.
 pub fn arguments_from(source: &Source<'_>, reading: &Reading<'_>, from: usize) -> Taken
     requires { ReadableFrom source.now.text.now source.now.macros.now reading.now.list.now reading.now.body from }
@@ -218,7 +247,7 @@ pub fn arguments_from(source: &Source<'_>, reading: &Reading<'_>, from: usize) -
         count: 0,
         args: [0; 8],
     };
-    let tokens = record::Iter {
+    let tokens = Tokens {
         list: reading.list,
         at: from,
     };
@@ -239,19 +268,20 @@ pub fn arguments_from(source: &Source<'_>, reading: &Reading<'_>, from: usize) -
 fn act_leading(
     callable: &Callable<'_>,
     reading: &Reading<'_>,
-    token: Token<'_>,
+    place: usize,
     kind: usize,
     next: usize,
 ) -> Act
-    requires kind_is { kind ≡ kind_at token.bytes.now 0 }
+    requires token_in { TokenIn callable.now.source.text.now callable.now.source.macros.now place }
+    requires kind_is { kind ≡ kind_at (token_record callable.now.source.text.now callable.now.source.macros.now place) 0 }
     requires readable_from { ReadableFrom callable.now.source.text.now callable.now.source.macros.now reading.now.list.now reading.now.body next }
-    ensures { ActIs callable.now.source.macros.now callable.now.limit (leading_of (above callable.now.source.macros.now callable.now.limit) token.entry.bytes.now (starts_colon (read_from callable.now.source.text.now callable.now.source.macros.now reading.now.list.now reading.now.body next))) result }
+    ensures { ActIs callable.now.source.macros.now callable.now.limit (leading_of (above callable.now.source.macros.now callable.now.limit) (token_record callable.now.source.text.now callable.now.source.macros.now place) (starts_colon (read_from callable.now.source.text.now callable.now.source.macros.now reading.now.list.now reading.now.body next))) result }
 {
     match kind {
         NEW_LINE | COMMENT => Act::Write(Mode::Leading),
         SYMBOL if colon_at(&callable.source, reading, next) => Act::Write(Mode::Labelled),
         SYMBOL => {
-            let k = callee_of(callable, token);
+            let k = callee_of(callable, token_at(&callable.source, place));
             if k < callable.limit {
                 Act::Call(k)
             } else {
@@ -262,21 +292,22 @@ fn act_leading(
     }
 }
 
-// A token, behind which the body goes on from `next` on.
+// The token at `place`, behind which the body goes on from `next` on. Its length is not read but where it may be a call.
 pub fn act_at(
     callable: &Callable<'_>,
     reading: &Reading<'_>,
     mode: Mode,
-    token: Token<'_>,
+    place: usize,
     next: usize,
 ) -> Act
-    requires { ReadableFrom callable.now.source.text.now callable.now.source.macros.now reading.now.list.now reading.now.body next }
-    ensures { ActIs callable.now.source.macros.now callable.now.limit (act_of (above callable.now.source.macros.now callable.now.limit) mode token.entry.bytes.now (read_from callable.now.source.text.now callable.now.source.macros.now reading.now.list.now reading.now.body next)) result }
+    requires token_in { TokenIn callable.now.source.text.now callable.now.source.macros.now place }
+    requires readable_from { ReadableFrom callable.now.source.text.now callable.now.source.macros.now reading.now.list.now reading.now.body next }
+    ensures { ActIs callable.now.source.macros.now callable.now.limit (act_of (above callable.now.source.macros.now callable.now.limit) mode (token_record callable.now.source.text.now callable.now.source.macros.now place) (read_from callable.now.source.text.now callable.now.source.macros.now reading.now.list.now reading.now.body next)) result }
 {
-    let kind = token.kind();
+    let kind = token_at(&callable.source, place).kind();
     // kept: an arm `Copied | LeftOut if kind == NEW_LINE` is no plainer, since each arm behind it is then proved twice
     match mode {
-        Mode::Leading => act_leading(callable, reading, token, kind, next),
+        Mode::Leading => act_leading(callable, reading, place, kind, next),
         Mode::Labelled => Act::Write(Mode::Leading),
         Mode::Copied => {
             if kind == NEW_LINE {

@@ -1,3 +1,4 @@
 pub mod KnownLaws
 pub mod LayoutLaws
 pub mod NamesLaws
+pub mod WalkLaws

@@ -8,6 +8,8 @@ ghost use Rattle.lexer.specs.Tokens.{TokenIs, token_layout};
 ghost use Rattle.line_heads.specs.Lines.{record_at, records_of};
 ghost use Rattle.macros.specs.Macros.{name_at, behind_name, name_ok, name_places, behind_names, index_of, different, knows, known, macro_ok, macro_at_ok, macro_layout, head_of};
 
+mod walk;
+
 // The kind of a Parameter, as wide as a record has it.
 const PARAMETER: usize = lexer::PARAMETER as usize;
 
@@ -63,13 +65,10 @@ impl<'a> Names<'a> {
     pub fn index_of(&self, name: &[u8]) -> usize
         ensures { result ≡ index_of name.now (map (name_at self.now.list.now) (name_places self.now.count self.now.list.now self.now.at)) }
     {
-        let mut from = self.at;
-        for i in 0..self.count {
-            let next = behind_name(self.list, from);
-            if record::same(&self.list[from + 1..next], name) {
+        for (i, (each, _)) in (*self).enumerate() {
+            if record::same(each, name) {
                 return i;
             }
-            from = next;
         }
         self.count
     }
@@ -79,29 +78,21 @@ impl<'a> Names<'a> {
         requires { self.now.at ≤ length self.now.list.now }
         ensures { (result ≡ behind_names self.now.count self.now.list.now self.now.at) × (result ≤ length self.now.list.now) }
     {
-        let mut from = self.at;
-        for _ in 0..self.count {
-            from = behind_name(self.list, from);
+        let mut end = self.at;
+        for (_, rest) in *self {
+            end = rest.at;
         }
-        from
+        end
     }
 
     // Whether no two are the same.
     fn differ(&self) -> bool
         ensures { result ≡ different (map (name_at self.now.list.now) (name_places self.now.count self.now.list.now self.now.at)) }
     {
-        let mut from = self.at;
-        for i in 0..self.count {
-            let next = behind_name(self.list, from);
-            let rest = Names {
-                list: self.list,
-                count: self.count - i - 1,
-                at: next,
-            };
-            if rest.index_of(&self.list[from + 1..next]) < rest.count {
+        for (name, rest) in *self {
+            if rest.index_of(name) < rest.count {
                 return false;
             }
-            from = next;
         }
         true
     }

@@ -1,7 +1,7 @@
 // The order of names by their bytes, and of owners as numbers.
 #![tactic(auto)]
 
-ghost use Rattle.std.specs.Prelude.{◌≡◌, min};
+ghost use Rattle.std.specs.Prelude.{◌≡◌};
 ghost use Rattle.name_order.specs.Order.{numbers, order};
 ghost use Rattle.name_order.specs.EightBytes.{high_first, Bytes};
 
@@ -37,10 +37,4 @@ pub fn compare_numbers(x: u32, y: u32) -> Ordering
     ensures { result ≡ numbers x y }
 {
     x.cmp(&y)
-}
-
-pub fn smaller(a: usize, b: usize) -> usize
-    ensures { result ≡ min a b }
-{
-    a.min(b)
 }

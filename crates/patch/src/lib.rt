@@ -17,6 +17,7 @@ use refusal::Refusal;
 use regions::Region;
 
 // The destination of a constant, or of a name that stands in `list`.
+#[tactic(auto, using(crate::proofs::PatchesLaws::destination_label), unfolding(crate::specs::Patches::destination))]
 pub fn get_address(label: AddressLabel, list: &[u8], labels: &LabelTable<'_>) -> Option<u32>
     requires { name_end label ≤ length list.now }
     ensures { result ≡ destination (table_of labels.now.list) list.now label }
@@ -34,6 +35,7 @@ pub fn get_address(label: AddressLabel, list: &[u8], labels: &LabelTable<'_>) ->
 }
 
 // The place of the label that a name in `list` stands for.
+#[tactic(auto, unfolding(crate::specs::Placed::label_place))]
 pub fn label_place(label: AddressLabel, list: &[u8], labels: &LabelTable<'_>) -> u16
     requires { name_end label ≤ length list.now }
     ensures { result ≡ label_place labels.now.list list.now label }
@@ -50,6 +52,7 @@ pub fn label_place(label: AddressLabel, list: &[u8], labels: &LabelTable<'_>) ->
 }
 
 // The destination of a constant, or of a name whose label stands at `place`.
+#[tactic(auto, using(crate::proofs::PlacedLaws::placed_label, crate::proofs::PlacedLaws::address_there), unfolding(crate::specs::Placed::placed_destination))]
 pub fn address_at(label: AddressLabel, labels: &[u8], place: u16) -> Option<u32>
     requires { Placed labels.now place }
     ensures { result ≡ placed_destination labels.now label place }
@@ -97,6 +100,7 @@ struct Span {
 }
 
 // Whether a branch or a jump at pc reaches the destination.
+#[tactic(auto, unfolding(crate::specs::Patches::in_range, crate::specs::Patches::branch_in_range, crate::specs::Patches::jump_in_range))]
 fn in_range(job: Job, kind: InstructionLabelKind, pc: u32, destination: u32) -> bool
     ensures { result ≡ in_range job kind pc destination }
 {
@@ -117,6 +121,7 @@ fn branch_in_range(job: Job, from: u32, to: u32) -> bool
 }
 
 // The word with the patch's field written.
+#[tactic(auto, using(crate::proofs::PatchesLaws::patched_branch, crate::proofs::PatchesLaws::patched_jump, crate::proofs::PatchesLaws::patched_lower, crate::proofs::PatchesLaws::patched_upper, crate::proofs::PatchesLaws::patched_full))]
 fn add_label(instruction: u32, kind: InstructionLabelKind, span: Span) -> u32
     ensures { result ≡ patched_word kind span.pc span.destination instruction }
 {
@@ -136,6 +141,7 @@ fn add_label(instruction: u32, kind: InstructionLabelKind, span: Span) -> u32
 }
 
 // The checks of one patch, of which the destination is given: 14, 15, 16.
+#[tactic(auto, using(crate::proofs::PatchesLaws::stops_unknown, crate::proofs::PatchesLaws::stops_far, crate::proofs::PatchesLaws::passes))]
 pub fn check_pending(
     job: Job,
     region: Region,

@@ -20,9 +20,10 @@ use patching_outcome::{Lined, PatchCounts};
 use refusal::Refusal;
 use regions::{Region, Regions};
 
-// What a line is given besides the lent lists: the lists that it only reads, a token position and its region's number.
+// What a line is given besides the lent lists: the job, the lists that it only reads, a token position and its region's number.
 #[derive(Clone, Copy)]
 struct Line<'a> {
+    job: Job,
     lists: Lists<'a>,
     position: u32,
     region: u16,
@@ -91,7 +92,7 @@ fn is_late(counts: PatchCounts, regions: &[u8], pending: &[u8], region: u16) -> 
     requires { LineLists regions.now pending.now counts }
     ensures { result ≡ is_late (patching_of regions.now pending.now [] [] counts) region }
 {
-    if counts.state != 0 {
+    if counts.state != patching_outcome::RUNNING {
         return true;
     }
     if counts.patches == 0 {
@@ -109,19 +110,18 @@ fn is_late(counts: PatchCounts, regions: &[u8], pending: &[u8], region: u16) -> 
 
 // The answer of the line with no region selected: it is refused, with 10 at the latest, and changes nothing.
 fn emit_nowhere(
-    job: Job,
     line: Line<'_>,
     counts: PatchCounts,
     pending: &mut [u8],
     breakpoints: &mut [u8],
 ) -> EmitAnswer
     ensures { let g = given_by line.entry in
-        (result ≡ (emit_outcome job (nowhere g.token_list g.mnemonic g.descriptors pending.old breakpoints.old counts g.position)).answer)
+        (result ≡ (emit_outcome line.entry.job (nowhere g.token_list g.mnemonic g.descriptors pending.old breakpoints.old counts g.position)).answer)
         × (pending.new ≡ pending.old) × (breakpoints.new ≡ breakpoints.old) }
 {
     let mut nothing = [0u8; 1];
     let out = emit_core::do_job(
-        job,
+        line.job,
         FillCounts {
             data_len: 0,
             pending: counts.pending,
@@ -168,7 +168,6 @@ fn room_in(free: usize) -> usize
 
 // The emit call of a line in the region that was found.
 fn emit_found(
-    job: Job,
     line: Line<'_>,
     counts: PatchCounts,
     regions: &mut [u8],
@@ -177,7 +176,7 @@ fn emit_found(
     found: Region,
 ) -> Emitted
     requires { (found.start + found.size ≤ counts.regions) × (counts.regions ≤ length regions.old) × (length regions.old ≤ limit) }
-    ensures { let g = given_by line.entry in FoundIn job g.token_list g.mnemonic g.descriptors regions.old pending.old breakpoints.old
+    ensures { let g = given_by line.entry in FoundIn line.entry.job g.token_list g.mnemonic g.descriptors regions.old pending.old breakpoints.old
         counts g.position g.region found result.answer result.counts regions.new pending.new breakpoints.new }
 {
     let fill = counts.regions as usize;
@@ -198,7 +197,7 @@ fn emit_found(
         room,
     };
     emit_in_list::emit_in_list(
-        job,
+        line.job,
         filled,
         line.lists,
         regions,
@@ -227,7 +226,6 @@ fn grow(regions: &mut [u8], counts: PatchCounts, found: Region, filled: FillCoun
 
 // A line whose region is listed and not late.
 fn emit_listed(
-    job: Job,
     line: Line<'_>,
     counts: PatchCounts,
     regions: &mut [u8],
@@ -235,21 +233,13 @@ fn emit_listed(
     breakpoints: &mut [u8],
 ) -> Lined
     requires { LineLists regions.old pending.old counts × (line.region < region_count (filled_regions regions.old counts)) }
-    ensures { LinesTo (timely job (given_by line.entry))
+    ensures { LinesTo (timely line.entry.job (given_by line.entry))
         regions.old pending.old breakpoints.old counts
         result.answer result.counts regions.new pending.new breakpoints.new }
 {
     let fill = counts.regions as usize;
     let found = Regions::new(&regions[..fill]).region(line.region as usize);
-    let out = emit_found(
-        job,
-        line,
-        counts,
-        &mut *regions,
-        pending,
-        breakpoints,
-        found,
-    );
+    let out = emit_found(line, counts, &mut *regions, pending, breakpoints, found);
     let answer = out.answer;
     let filled = out.counts;
     match answer {
@@ -263,7 +253,6 @@ fn emit_listed(
 
 // A line whose lists keep their layouts.
 fn emit_checked(
-    job: Job,
     line: Line<'_>,
     counts: PatchCounts,
     regions: &mut [u8],
@@ -271,37 +260,36 @@ fn emit_checked(
     breakpoints: &mut [u8],
 ) -> Lined
     requires { let g = given_by line in LayoutsAre g.token_list g.mnemonic g.descriptors g.region regions.old pending.old breakpoints.old counts (Ok tt) }
-    ensures { LineIs job (given_by line.entry)
+    ensures { LineIs line.entry.job (given_by line.entry)
         regions.old pending.old breakpoints.old counts
         result.answer result.counts regions.new pending.new breakpoints.new }
 {
     if line.region == emit_outcome::NO_REGION {
-        let answer = emit_nowhere(job, line, counts, pending, breakpoints);
+        let answer = emit_nowhere(line, counts, pending, breakpoints);
         return Lined { answer, counts };
     }
     if is_late(counts, &*regions, &*pending, line.region) {
-        let none = emit_nowhere(job, line, counts, pending, breakpoints);
+        let none = emit_nowhere(line, counts, pending, breakpoints);
         let answer = late_answer(none);
         return Lined { answer, counts };
     }
-    emit_listed(job, line, counts, regions, pending, breakpoints)
+    emit_listed(line, counts, regions, pending, breakpoints)
 }
 
 // A line that the layouts of its lists may refuse: a refusal by them changes nothing.
 fn checked_line(
-    job: Job,
     line: Line<'_>,
     counts: PatchCounts,
     regions: &mut [u8],
     pending: &mut [u8],
     breakpoints: &mut [u8],
 ) -> Result<Lined, Refusal>
-    ensures { CheckedLine job (given_by line.entry)
+    ensures { CheckedLine line.entry.job (given_by line.entry)
         regions.old pending.old breakpoints.old counts
         result regions.new pending.new breakpoints.new }
 {
     check_layouts(line, counts, &*regions, &*pending, &*breakpoints)?;
-    Ok(emit_checked(job, line, counts, regions, pending, breakpoints))
+    Ok(emit_checked(line, counts, regions, pending, breakpoints))
 }
 
 // Appends a line to a region of the list while patching runs, or refuses it and leaves every byte and count as it was.
@@ -327,11 +315,12 @@ pub fn patch_line(
         descriptors,
     };
     let line = Line {
+        job,
         lists,
         position,
         region,
     };
-    match checked_line(job, line, counts, regions, pending, breakpoints) {
+    match checked_line(line, counts, regions, pending, breakpoints) {
         Ok(lined) => lined,
         Err(refusal) => Lined {
             answer: Err(RefusedLine { refusal, position }),

@@ -1,6 +1,8 @@
 -- Patches put back one by one, the last first: what is left to do, and that the regions stand where they stood. Assumes nothing.
-use Rattle.std.specs.Prelude.{ℕ, ◌+◌, ◌*◌, ◌≤◌, ◌<◌, List, [], ◌∷◌, ◌++◌, Bool, true, false, ◌⊎◌, ◌≡◌, refl, length, get_or, take, drop, leb, ltb, None}
-use Rattle.std.proofs.Common.{arith, add-one, inl, inr, sym, ap, ap₂, subst, ◌∙◌, length-drop, length-take-le, take-suc, leb-true, le-leb, ltb-true, ltb-false}
+use Rattle.std.specs.Prelude.{ℕ, ◌+◌, ◌*◌, ◌≤◌, ◌<◌, List, [], ◌∷◌, ◌++◌, Bool, true, false, ◌⊎◌, ◌≡◌, refl, length, get_or, take, drop, leb, ltb, None, min}
+use Rattle.std.specs.List.{push}
+use Rattle.std.proofs.Common.{arith, add-one, inl, inr, sym, ap, ap₂, subst, ◌∙◌, length-append, length-drop, length-take, length-take-le, take-suc, take_at, drop_at, get_or-take, leb-true, le-leb, ltb-true, ltb-false}
+use Rattle.std.proofs.lemmas.List.{length_push, get_or_push, take-take, drop-take}
 use Rattle.std.proofs.lemmas.Bool.{lt-leb}
 use Rattle.record.specs.Bytes.{byte_at, part}
 use Rattle.record.specs.Records.{body_len, next}
@@ -97,6 +99,36 @@ module _ (regions d : List ℕ) (k : Kept regions d) (r i : ℕ) (bs : List ℕ)
         layout_good = e.1;
         heads = λ q h j x y. stays j (outside q h j x y) ∙ k.heads q h j x y;
       }
+
+-- ---- the last of the places that are left, and of the kept bytes that are left, and what is left then
+pub record LastOf (order kept before places words : List ℕ) (at : ℕ) (bytes : List ℕ) : Type 0 where
+  pub some : length before ≡ length places + 1
+  pub place_is : at ≡ get_or order (length places) 0
+  pub four : length bytes ≡ 4
+  pub bytes_are : bytes ≡ part kept (4 * length places) 4
+  pub places_left : places ≡ take (length places) order
+  pub words_left : words ≡ take (4 * length places) kept
+
+pub last_of : (order kept before words_before places words : List ℕ) (at : ℕ) (bytes : List ℕ) → 4 * length order ≤ length kept
+    → before ≡ take (length before) order → words_before ≡ take (4 * length before) kept → before ≡ push places at → words_before ≡ words ++ bytes → length bytes ≡ min 4 (length words_before)
+    → LastOf order kept before places words at bytes
+last_of order kept before words_before places words at bytes room e f p q b =
+    let n : length before ≡ length places + 1 = ap length p ∙ length_push places at in
+    let w : length before ≤ length order = omega (arith, ap length e, length-take (length before) order) in
+    let l : length words_before ≡ 4 * length before = ap length f ∙ length-take-le (4 * length before) kept (omega arith) in
+    let four : length bytes ≡ 4 = omega arith in
+    let m : length words ≡ 4 * length places = omega (arith, ap length q, length-append words bytes) in
+    let z : 4 * length before ≡ length words + 4 = omega arith in
+    let v : get_or before (length places) 0 ≡ at = ap (λ (x : List ℕ). get_or x (length places) 0) p ∙ get_or_push places at 0 (length places) refl in
+    record {
+      some = n;
+      place_is = sym v ∙ ap (λ (x : List ℕ). get_or x (length places) 0) e ∙ get_or-take (length before) order (length places) 0 (omega arith);
+      four = four;
+      bytes_are = sym (drop_at words bytes (length words) refl) ∙ ap (drop (length words)) (sym q ∙ f) ∙ ap (λ (k : ℕ). drop (length words) (take k kept)) z ∙ drop-take (length words) 4 kept
+          ∙ ap (λ (k : ℕ). take 4 (drop k kept)) m;
+      places_left = sym (take_at places (at ∷ []) (length places) refl) ∙ ap (take (length places)) (sym p ∙ e) ∙ take-take (length places) (length before) order (omega arith);
+      words_left = sym (take_at words bytes (length words) refl) ∙ ap (take (length words)) (sym q ∙ f) ∙ take-take (length words) (4 * length before) kept (omega arith) ∙ ap (λ (k : ℕ). take k kept) m;
+    }
 
 -- ---- a turn, in a buffer whose first bytes are the region list
 

@@ -35,15 +35,9 @@ fn put_back(regions: &mut [u8], fill: usize, pending: &[u8], order: &[u16], kept
     requires { FilledRegions fill regions.old × PatchesAt (take fill regions.old) pending.now order.now kept.now }
     ensures { regions.new ≡ put_back (take fill regions.old) pending.now kept.now 0 order.now regions.old }
 {
-    for left in (0..order.len()).rev() {
-        let from = 4 * left;
-        put_back_one(
-            &mut *regions,
-            fill,
-            pending,
-            record::widened(order[left]),
-            &kept[from..from + 4],
-        );
+    let words = kept[..4 * order.len()].rchunks(4);
+    for (&at, bytes) in order.iter().rev().zip(words) {
+        put_back_one(&mut *regions, fill, pending, record::widened(at), bytes);
     }
 }
 
@@ -90,7 +84,7 @@ fn patch_next(
             put_back(regions, fill, list, &order[..done], &*kept);
             Stepped {
                 answer: Err(refusal),
-                counts: now_at(counts, 0, 2),
+                counts: now_at(counts, 0, patching_outcome::REFUSED),
             }
         }
         Ok(()) => {
@@ -124,7 +118,7 @@ fn running_step(
     if done >= order.len() {
         return Stepped {
             answer: Ok(Progress::Ended(entry)),
-            counts: now_at(counts, counts.patches, 1),
+            counts: now_at(counts, counts.patches, patching_outcome::ENDED),
         };
     }
     patch_next(job, labels, counts, regions, pending, kept, order)
@@ -145,7 +139,7 @@ fn stopped_step<'a>(
     requires most_pendings_in_bounds { (most_pendings ≤ length order.old) × (most_pendings ≤ length found.old) }
     ensures { Stopped job (table_of labels.now.list) entry regions.now pending.now counts result }
 {
-    if counts.state == 1 {
+    if counts.state == patching_outcome::ENDED {
         return Ok(Progress::Ended(entry));
     }
     let fill = counts.regions as usize;
@@ -174,7 +168,7 @@ fn step_with(
     let _ = labels.bytes();
     let address = binary_builder::find_entry(labels, entry)?;
     let mut order = [0u16; binary_builder::MOST_PENDINGS];
-    if counts.state == 0 {
+    if counts.state == patching_outcome::RUNNING {
         let filled = counts.pending as usize;
         let n = binary_builder::order_patches(&pending[..filled], &mut order, found);
         return Ok(running_step(

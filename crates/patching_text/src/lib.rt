@@ -4,7 +4,7 @@
 ghost use Rattle.std.specs.Prelude.{◌≡◌, ◌++◌, ◌+◌, ◌*◌, ◌≤◌, length};
 ghost use Rattle.patching_outcome.specs.Patching.{patching_of};
 ghost use Rattle.patching_text.specs.Setup.{given_by};
-ghost use Rattle.patching_text.specs.Script.{turn_byte, line_in, turn_of, behind_turn, most_turns, script_text, end_text, counts_in, job_text, steps_text};
+ghost use Rattle.patching_text.specs.Script.{line_in, turn_of, behind_turn, most_turns, script_text, end_text, counts_in, job_text, steps_text};
 ghost use Rattle.patching_text.specs.Turns.{Turns, StepTurns, LineTurns};
 
 use jobs::Job;
@@ -29,13 +29,6 @@ struct Setup<'a> {
     descriptors: &'a [u8],
 }
 
-// The byte that says what the next turn is; 2 where the input ends.
-fn turn_byte(script: &[u8]) -> u8
-    ensures { result ≡ turn_byte script.now }
-{
-    script.first().copied().unwrap_or(2)
-}
-
 // The script behind its next turn.
 #[tactic(auto, using(input::proofs::InputLaws::rest_is), unfolding(crate::specs::Script::behind_turn))]
 fn behind_turn(script: &[u8]) -> &[u8]
@@ -43,11 +36,11 @@ fn behind_turn(script: &[u8]) -> &[u8]
     ensures { result.now ≡ behind_turn script.now }
 {
     let rest = &script[1..];
-    if turn_byte(script) == 0 {
+    if script[0] == 0 {
         return rest;
     }
     let numbers = input::behind_lists(rest, 2);
-    let start = input::least(6, numbers.len());
+    let start = numbers.len().min(6);
     &numbers[start..]
 }
 
@@ -160,7 +153,10 @@ fn put_turns(
     let mut rest = script;
     out.clear();
     for _ in 0..MOST_TURNS {
-        if turn_byte(rest) > 1 {
+        let Some(&turn) = rest.first() else {
+            break;
+        };
+        if turn > 1 {
             break;
         }
         counts = do_turn(
@@ -187,7 +183,7 @@ fn counts_in(numbers: &[u8]) -> PatchCounts
         pending: input::word_or_zero(numbers, 4),
         breakpoints: input::word_or_zero(numbers, 8),
         patches: 0,
-        state: 0,
+        state: patching_outcome::RUNNING,
     }
 }
 
@@ -206,7 +202,7 @@ fn put_job(job: Job, input: &[u8], out: &mut Printed)
     let pending = &mut pending[..p];
     let breakpoints = &mut breakpoints[..b];
     let numbers = input::behind_lists(input, 6);
-    let start = input::least(13, numbers.len());
+    let start = numbers.len().min(13);
     let setup = Setup {
         job,
         labels: input::list_of(input, 0),

@@ -48,8 +48,8 @@ fn put_state(out: &mut Printed, state: u32)
     ensures { out.new ≡ out.old ++ state_text state }
 {
     match state {
-        0 => out.push(b"state running\n"),
-        1 => out.push(b"state ended\n"),
+        patching_outcome::RUNNING => out.push(b"state running\n"),
+        patching_outcome::ENDED => out.push(b"state ended\n"),
         _ => out.push(b"state refused\n"),
     }
 }

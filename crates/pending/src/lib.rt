@@ -24,6 +24,22 @@ pub enum InstructionLabelKind {
     Full = 4,
 }
 
+// The kind of a number; a number over 4 gives the last.
+impl From<u8> for InstructionLabelKind {
+    ghost from_gives = { λ n kind. kind ≡ kind_from n };
+
+    #[tactic(auto, unfolding(crate::specs::Pendings::kind_from))]
+    fn from(n: u8) -> Self {
+        match n {
+            0 => InstructionLabelKind::Branch,
+            1 => InstructionLabelKind::Jump,
+            2 => InstructionLabelKind::Lower,
+            3 => InstructionLabelKind::Upper,
+            _ => InstructionLabelKind::Full,
+        }
+    }
+}
+
 #[derive(Clone, Copy)]
 pub struct Pending {
     pub region: usize,
@@ -84,19 +100,6 @@ pub fn first_bad_pending(list: &[u8], regions: usize) -> Option<usize>
     record::first_bad_within(&Pendings { regions }, list)
 }
 
-#[tactic(auto, unfolding(crate::specs::Pendings::kind_from))]
-fn kind_from(n: u8) -> InstructionLabelKind
-    ensures { result ≡ kind_from n }
-{
-    match n {
-        0 => InstructionLabelKind::Branch,
-        1 => InstructionLabelKind::Jump,
-        2 => InstructionLabelKind::Lower,
-        3 => InstructionLabelKind::Upper,
-        _ => InstructionLabelKind::Full,
-    }
-}
-
 // The pending at `at`, of a list that keeps its layout.
 pub fn read_pending(list: &[u8], at: usize) -> Pending
     requires { PendingIs list.now at }
@@ -106,7 +109,7 @@ pub fn read_pending(list: &[u8], at: usize) -> Pending
     let region = region_of(list, at);
     let offset = record::word_at(list, at + 6);
     let location = record::location_at(list, at + 10);
-    let kind = kind_from(list[at + 18]);
+    let kind = InstructionLabelKind::from(list[at + 18]);
     let label = address_label::address_label_at(list, at + 19, end);
     Pending {
         region,

@@ -157,13 +157,16 @@ pub layout_none : (s : List ℕ) → length s ≡ 0 → region_layout s ≡ Some
 unfolding region_layout region_records
 layout_none s h = limit_kept s (region_records s (places s)) (omega arith) ∙ rw (places_all s ∙ places_end s 0 (omega arith)) (ap Some h)
 
-pub layout_some : (s : List ℕ) → 0 < length s → length s ≤ limit → region_layout s ≡ first_bad_of 16 (region_ok s) (places_from s 0)
-unfolding region_layout
-layout_some s h l = limit_kept s (region_records s (places s)) l ∙ rw (places_all s) (go (places_from s 0) (places_some s 0 h))
+pub layout_first : (s : List ℕ) → 0 < length s → region_layout s ≡ within_limit s (first_bad_of 16 (region_ok s) (places s))
+unfolding region_layout region_records
+layout_first s h = ap (within_limit s) (go (places s) (rw (places_all s) (places_some s 0 h)))
   where
     go : (ps : List ℕ) → 0 < length ps → region_records s ps ≡ first_bad_of 16 (region_ok s) ps
     go [] h = absurd (omega arith)
     go (p ∷ ps) h = refl
+
+pub layout_some : (s : List ℕ) → 0 < length s → length s ≤ limit → region_layout s ≡ first_bad_of 16 (region_ok s) (places_from s 0)
+layout_some s h l = layout_first s h ∙ limit_kept s (first_bad_of 16 (region_ok s) (places s)) l ∙ ap (first_bad_of 16 (region_ok s)) (places_all s)
 
 -- a region's data is in the list
 pub region_within : (s : List ℕ) (r : ℕ) → region_layout s ≡ None → r < region_count s

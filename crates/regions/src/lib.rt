@@ -74,10 +74,7 @@ impl<'a> Regions<'a> {
         ensures { result ≡ region_at self.now (region_place self.now number) }
     {
         let list = self.bytes;
-        let mut at = 0;
-        for _ in 0..number {
-            at = record::next(list, at);
-        }
+        let at = self.places().nth(number).unwrap_or(0);
         let address = record::word_at(list, at + 4);
         let size = record::half_at(list, at) - 4;
         Region {
@@ -88,31 +85,28 @@ impl<'a> Regions<'a> {
     }
 }
 
-// Whether the record at `at` is a region.
-#[tactic(auto, unfolding(crate::specs::Regions::region_ok))]
-fn region_ok(regions: &[u8], at: usize) -> bool
-    requires { at ≤ length regions.now }
-    ensures { result ≡ region_ok regions.now at }
-{
-    record::whole_at(regions, at)
-        && record::half_at(regions, at + 2) == REGION
-        && record::half_at(regions, at) >= 4
+// The layout of a region.
+#[derive(Clone, Copy)]
+struct RegionLayout;
+
+impl record::Layout for RegionLayout {
+    ghost keeps = { λ self s at. region_ok s at };
+
+    #[tactic(auto, unfolding(crate::specs::Regions::region_ok))]
+    fn keeps(&self, list: &[u8], at: usize) -> bool {
+        record::whole_at(list, at)
+            && record::half_at(list, at + 2) == REGION
+            && record::half_at(list, at) >= 4
+    }
 }
 
 // The place of the first record that breaks the layout, the list's end where there is none, or the limit.
+#[tactic(auto, using(crate::proofs::RegionsLaws::layout_none, crate::proofs::RegionsLaws::layout_first))]
 pub fn first_bad_region(regions: &[u8]) -> Option<usize>
     ensures { result ≡ region_layout regions.now }
 {
-    if regions.len() > record::LIMIT {
-        return Some(record::LIMIT);
-    }
     if regions.is_empty() {
         return Some(0);
     }
-    for (n, at) in record::places(regions).enumerate() {
-        if n >= MOST || !region_ok(regions, at) {
-            return Some(at);
-        }
-    }
-    None
+    record::first_bad_of_within(&RegionLayout, regions, MOST)
 }

@@ -1,7 +1,9 @@
 -- Laws of a name's place in the list of names, and of the register there. Assumes nothing.
-use Rattle.std.specs.Prelude.{Option, Some, None, ℕ, zero, suc, ◌+◌, ◌-◌, ◌≤◌, ◌<◌, List, [], ◌∷◌, ◌++◌, Bool, true, false, ◌&&◌, ◌≡◌, refl, length, get_or, drop, leb, ltb}
+use Rattle.std.specs.Prelude.{Option, Some, None, ℕ, zero, suc, ◌+◌, ◌-◌, ◌≤◌, ◌<◌, List, [], ◌∷◌, ◌++◌, Bool, true, false, ◌&&◌, ◌≡◌, refl, length, get_or, drop, leb, ltb, eqb, unwrap_or}
 use Rattle.std.proofs.Common.{not-suc-le-zero, add-one, arith, sym, ap, ◌∙◌, drop_of_length-le, drop-cons, leb-true, lt-ltb, le-ltb}
-use Rattle.std.proofs.Math.Bool.{and-eq-true_iff}
+use Rattle.std.specs.List.{position_or_len, range_with_len}
+use Rattle.std.proofs.Math.Bool.{cond, and-eq-true_iff}
+use borrow.Author.Tests.{eqb-true, eqb-false, ltb-false}
 use Rattle.record.specs.Bytes.{all, same_bytes}
 use Rattle.record.proofs.BytesLaws.{eq_same, same_eq, same_refused}
 use Rattle.byte_class.specs.Class.{class_of, word_byte}
@@ -46,6 +48,10 @@ hit : (name n : List ℕ) (ns : List (List ℕ)) → same_bytes name n ≡ true 
 unfolding place_of
 hit name n ns e = rw (e, place_of)
 
+place_none : (name : List ℕ) → place_of name [] ≡ 0
+unfolding place_of
+place_none name = refl
+
 -- the name at i has another key, and the place is further on; or it has the key, and that is the place
 module _ (name : List ℕ) (w : Word name) (i : ℕ) (h : i < length names) where
   abbrev here : List ℕ
@@ -69,6 +75,39 @@ module _ (name : List ℕ) (w : Word name) (i : ℕ) (h : i < length names) wher
 pub place_end : (name : List ℕ) (i : ℕ) → length names ≤ i → place_of name (drop i names) ≡ 0
 unfolding place_of
 place_end name i h = rw (drop_of_length-le names h)
+
+-- the place is that of the first name with the key
+abbrev pub has_key : List ℕ → ℕ → Bool
+has_key name i = eqb (key_of (get_or names i [])) (key_of name)
+
+by_key : (name : List ℕ) → Word name → (i n : ℕ) → i + n ≡ length names → position_or_len (has_key name) (range_with_len i n) ≡ place_of name (drop i names)
+by_key name w i zero e = sym (place_end name i (omega arith))
+by_key name w i (suc n) e = go (has_key name i) refl (by_key name w (i + 1) n (omega arith))
+  where
+    go : (t : Bool) → has_key name i ≡ t → position_or_len (has_key name) (range_with_len (i + 1) n) ≡ place_of name (drop (i + 1) names)
+        → position_or_len (has_key name) (i ∷ range_with_len (i + 1) n) ≡ place_of name (drop i names)
+    go true t ih = rw t (sym (place_found name w i (omega arith) (eqb-true _ _ t)))
+    go false t ih = rw t (omega (arith, ih, place_next name w i (omega arith) (eqb-false _ _ t)))
+
+few : (name : List ℕ) (ns : List (List ℕ)) → place_of name ns ≤ length ns
+few name [] = omega (arith, place_none name)
+few name (n ∷ ns) = go (same_bytes name n) refl (few name ns)
+  where
+    go : (t : Bool) → same_bytes name n ≡ t → place_of name ns ≤ length ns → place_of name (n ∷ ns) ≤ length (n ∷ ns)
+    go true e ih = omega (arith, hit name n ns e)
+    go false e ih = omega (arith, step name n ns e)
+
+-- by what a search for the key finds
+pub place_searched : (name : List ℕ) → Word name → (found : Option ℕ) → let p = position_or_len (has_key name) (range_with_len 0 96) in
+    found ≡ cond (ltb p 96) (Some p) None → unwrap_or found 96 ≡ place_of name names
+place_searched name w found e = ap (λ (o : Option ℕ). unwrap_or o 96) e ∙ go (ltb p 96) refl
+  where
+    p : ℕ
+    p = position_or_len (has_key name) (range_with_len 0 96)
+
+    go : (b : Bool) → ltb p 96 ≡ b → unwrap_or (cond (ltb p 96) (Some p) None) 96 ≡ place_of name names
+    go true b = rw b (by_key name w 0 96 (omega (arith, name_count)))
+    go false b = rw b (omega (arith, ltb-false p 96 b, by_key name w 0 96 (omega (arith, name_count)), few name names, name_count))
 
 -- a longer name is none of them
 longer : (name : List ℕ) (ns : List (List ℕ)) → 4 < length name → all_short ns ≡ true → place_of name ns ≡ length ns

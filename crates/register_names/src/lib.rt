@@ -67,12 +67,9 @@ impl RegisterNames {
             return COUNT;
         }
         let key = key_of(name);
-        for place in 0..COUNT {
-            if self.key_at(place) == key {
-                return place;
-            }
-        }
-        COUNT
+        (0..COUNT)
+            .position(move |place| self.key_at(place) == key)
+            .unwrap_or(COUNT)
     }
 
     // The register of a name of letters and digits.

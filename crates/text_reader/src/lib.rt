@@ -78,9 +78,6 @@ pub fn read_text(text: &[u8], source: u32, tokens: &mut [u8]) -> Result<u32, Ref
     if tokens.len() > record::LIMIT {
         return Err(Refusal::BadLayout(1, 65536));
     }
-    let answer = pass(text, source, tokens, false);
-    if answer.is_ok() {
-        return pass(text, source, tokens, true);
-    }
-    answer
+    pass(text, source, &mut *tokens, false)?;
+    pass(text, source, tokens, true)
 }

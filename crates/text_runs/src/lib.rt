@@ -1,7 +1,7 @@
 // What a text begins with: letters and digits, bytes of a text, a number.
 #![tactic(auto)]
 
-ghost use Rattle.std.specs.Prelude.{◌≡◌, ◌<◌, ◌≤◌, length};
+ghost use Rattle.std.specs.Prelude.{◌≡◌, ◌<◌, ◌≤◌, MatchOption, length};
 ghost use Rattle.byte_class.specs.Class.{word_byte};
 ghost use Rattle.text_runs.specs.Leading.{leading, plain};
 ghost use Rattle.text_runs.specs.Numbers.{digit_value, number_in};
@@ -26,17 +26,19 @@ pub fn text_len(text: &[u8], end: u8) -> usize
         .unwrap_or(text.len())
 }
 
-// A digit's value, in either case of its letter; 16 for a byte that is no digit.
+// The value of a digit below `base`, in either case of its letter; none for another byte.
 #[tactic(auto, unfolding(crate::specs::Numbers::digit_value))]
-fn digit_value(byte: u8) -> u64
-    ensures { (result ≡ digit_value byte) × (result ≤ 16) }
+fn digit_below(base: u64, byte: u8) -> Option<u64>
+    requires { base ≤ 16 }
+    ensures { MatchOption result (base ≤ digit_value byte) (λ d. (d ≡ digit_value byte) × (d < base)) }
 {
-    u64::from(match byte {
+    let value = u64::from(match byte {
         b'0'..=b'9' => byte - b'0',
         b'a'..=b'f' => byte - b'a' + 10,
         b'A'..=b'F' => byte - b'A' + 10,
-        _ => 16,
-    })
+        _ => return None,
+    });
+    if value < base { Some(value) } else { None }
 }
 
 // The number of the digits below `base` that the text begins with, and how many these are; none where it is over 64 bits.
@@ -46,10 +48,9 @@ pub fn number_in(text: &[u8], base: u64) -> Option<(u64, usize)>
 {
     let mut value: u64 = 0;
     for (i, byte) in text.iter().enumerate() {
-        let digit = digit_value(*byte);
-        if digit >= base {
+        let Some(digit) = digit_below(base, *byte) else {
             return Some((value, i));
-        }
+        };
         value = value.checked_mul(base)?.checked_add(digit)?;
     }
     Some((value, text.len()))

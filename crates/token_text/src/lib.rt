@@ -5,19 +5,19 @@ ghost use Rattle.std.specs.Prelude.{◌≡◌, ◌++◌, ◌+◌, ◌≤◌, len
 ghost use Rattle.token_text.specs.TokenText.{tokens_line, read_text_text};
 
 use program::Program;
-use text::{MOST, Printed};
+use text::{Printed, Text};
 
 // The text, which stands behind the two numbers.
 fn text_of(input: &[u8]) -> &[u8]
     ensures { result.now ≡ drop 8 input.now }
 {
-    let start = input::least(8, input.len());
+    let start = input.len().min(8);
     &input[start..]
 }
 
 // A line of a token list.
-pub fn put_tokens(out: &mut Printed, list: &[u8])
-    requires { length out.old + length (tokens_line list.now) ≤ MOST }
+pub fn put_tokens<const N: usize>(out: &mut Text<N>, list: &[u8])
+    requires { length out.old + length (tokens_line list.now) ≤ N }
     ensures { out.new ≡ out.old ++ tokens_line list.now }
 {
     out.push(b"tokens ");
@@ -34,7 +34,7 @@ pub fn read_text(input: &[u8], out: &mut Printed)
     let source = input::word_or_zero(input, 0);
     let asked = input::word_or_zero(input, 4);
     let mut space = [0u8; record::LIMIT + 1];
-    let room = input::least(asked as usize, record::LIMIT + 1);
+    let room = (asked as usize).min(record::LIMIT + 1);
     let tokens = &mut space[..room];
     out.clear();
     match text_reader::read_text(text_of(input), source, &mut *tokens) {

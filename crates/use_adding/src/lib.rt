@@ -1,7 +1,7 @@
 // The key of a use, an index of uses as it is read, one use more in place, and an index made afresh.
 #![tactic(auto)]
 
-ghost use Rattle.std.specs.Prelude.{◌≡◌, [], ◌∷◌, ◌+◌, ◌*◌, ◌-◌, ◌≤◌, ◌<◌, ◌^◌, ℕ, List, length, get_or};
+ghost use Rattle.std.specs.Prelude.{◌≡◌, ◌+◌, ◌*◌, ◌-◌, ◌≤◌, ◌<◌, ◌^◌, ℕ, List, length, get_or};
 ghost use Rattle.std.specs.Option.{is_some};
 ghost use Rattle.record.specs.Bytes.{le16, part};
 ghost use Rattle.record.specs.Records.{places, first_bad, limit};
@@ -15,7 +15,7 @@ ghost use Rattle.labels.specs.Lookup.{most_labels};
 ghost use Rattle.pending.specs.Pendings.{label_of, pending_ok};
 ghost use Rattle.pending.specs.Pendings.{PendingIs};
 ghost use Rattle.label_uses.specs.Uses.{use_order, one_use, key_for, kept_of, is_known, known_order};
-ghost use Rattle.label_uses.specs.UseBytes.{flag_of, use_bytes};
+ghost use Rattle.label_uses.specs.UseBytes.{use_bytes};
 ghost use Rattle.label_uses.specs.ReadUse.{key_with, key_read, owner_place};
 ghost use Rattle.use_adding.specs.Adding.{AnIndex, AnIndexWithRoom, FindsIn, UseAt, AddsTo, SizeWith, grown_at};
 ghost use Rattle.use_adding.specs.Making.{AddsOneTo, KeepsOwners, RoomForOne, Made};
@@ -133,8 +133,7 @@ impl<'a> LabelIndex<'a> {
         requires most_labels_in_bounds { (most_labels ≤ length order.old) × (most_labels ≤ length spare.old) }
         ensures { result ≡ labels.now }
     {
-        let index = NameIndex::make(Named::new(labels), order, spare);
-        LabelIndex { index }
+        LabelIndex::new(labels::make_index(labels, order, spare))
     }
 
     // The first label that shares its name and owner with an earlier one.
@@ -165,6 +164,7 @@ impl<'a> Labels for Named<'a, 4> {
 impl<'a> Labels for LabelIndex<'a> {
     ghost list = { λ labels. labels };
 
+    #[tactic(auto, using(crate::proofs::LabelsLaws::index_has))]
     fn has(&self, owner: u32, name: &[u8]) -> bool {
         self.index.find(owner, name).named.is_some()
     }
@@ -198,6 +198,7 @@ fn same(a: Standing, b: Standing) -> bool
 }
 
 // Whether a key's name, from that source, stands for what the key says.
+#[tactic(auto, using(label_uses::proofs::UseOrderLaws::standings_decide))]
 pub fn stands<L: Labels>(labels: &L, source: u32, key: &Key<'_>) -> bool
     ensures { result ≡ is_eq (use_order key.now (key_for (L.list labels.now) source key.now.name)) }
 {
@@ -309,6 +310,7 @@ impl<'a> Uses<'a> {
 // kept: what writes takes the whole buffer and its fill count, since the bytes behind the count are room for one use more.
 
 // The bytes from `at` to `fill`, moved up by n.
+#[tactic(auto, using(std::proofs::lemmas::Grind::common_steps), unfolding(record::specs::Stores::append))]
 pub fn move_up(d: &mut [u8], at: usize, fill: usize, n: usize)
     requires { (at ≤ fill) × (fill + n ≤ length d.old) }
     ensures { d.new ≡ append d.old (at + n) (part d.old at (fill - at)) }
@@ -330,14 +332,6 @@ fn put_number(d: &mut [u8], fill: usize, at: usize, n: u16)
     record::put16(&mut *d, at + 5, (count + 1) as u16);
 }
 
-// The known flag at `at`.
-fn put_flag(d: &mut [u8], at: usize, known: bool)
-    requires { at + 1 ≤ length d.old }
-    ensures { d.new ≡ append d.old at (flag_of known ∷ []) }
-{
-    d[at] = u8::from(known);
-}
-
 // A record of one use, put in at `at`.
 fn put_use(d: &mut [u8], fill: usize, at: usize, key: &Key<'_>, n: u16)
     requires { (at ≤ fill) × (fill + 13 + length key.now.name ≤ length d.old) × (length d.old ≤ 65536) }
@@ -346,7 +340,7 @@ fn put_use(d: &mut [u8], fill: usize, at: usize, key: &Key<'_>, n: u16)
     let name = key.name;
     move_up(&mut *d, at, fill, 13 + name.len());
     record::put_head(&mut *d, at, (9 + name.len()) as u16, USE);
-    put_flag(&mut *d, at + 4, key.standing.is_known());
+    d[at + 4] = u8::from(key.standing.is_known());
     record::put16(&mut *d, at + 5, 1);
     record::put16(&mut *d, at + 7, n);
     record::put32(&mut *d, at + 9, key.standing.kept());

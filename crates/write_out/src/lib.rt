@@ -41,9 +41,10 @@ fn call_verdict(
     Ok(())
 }
 
-// A body that is written out. It may call the macros before the place `most`, on so many levels.
+// A body that is written out, with the two lists. It may call the macros before the place `most`, on so many levels.
 #[derive(Clone, Copy)]
 struct Frame<'a> {
+    source: Source<'a>,
     reading: Reading<'a>,
     most: usize,
     levels: usize,
@@ -58,11 +59,12 @@ struct Met {
 }
 
 // The call of the macro at k by the token that is met: the body that it is replaced by.
-fn call_at(source: &Source<'_>, frame: &Frame<'_>, met: &Met, k: usize) -> Result<Body, Refusal>
-    requires token_in { TokenIn source.now.text.now source.now.macros.now met.now.place × ReadableFrom source.now.text.now source.now.macros.now frame.now.reading.list.now frame.now.reading.body met.now.next }
-    requires text_len_bound { (length source.now.text.now ≤ limit) × (macro_layout source.now.macros.now ≡ None) × (macro_at_ok source.now.macros.now k ≡ true) }
-    ensures { CallIs source.now.text.now source.now.macros.now frame.now.levels k (replaced frame.now.levels (location_at (token_record source.now.text.now source.now.macros.now met.now.place) 4) (macro_at source.now.macros.now k) (above source.now.macros.now k) (arguments_from source.now.text.now source.now.macros.now frame.now.reading.list.now frame.now.reading.body met.now.next)) result }
+fn call_at(frame: &Frame<'_>, met: &Met, k: usize) -> Result<Body, Refusal>
+    requires token_in { TokenIn frame.now.source.text.now frame.now.source.macros.now met.now.place × ReadableFrom frame.now.source.text.now frame.now.source.macros.now frame.now.reading.list.now frame.now.reading.body met.now.next }
+    requires text_len_bound { (length frame.now.source.text.now ≤ limit) × (macro_layout frame.now.source.macros.now ≡ None) × (macro_at_ok frame.now.source.macros.now k ≡ true) }
+    ensures { CallIs frame.now.source.text.now frame.now.source.macros.now frame.now.levels k (replaced frame.now.levels (location_at (token_record frame.now.source.text.now frame.now.source.macros.now met.now.place) 4) (macro_at frame.now.source.macros.now k) (above frame.now.source.macros.now k) (arguments_from frame.now.source.text.now frame.now.source.macros.now frame.now.reading.list.now frame.now.reading.body met.now.next)) result }
 {
+    let source = &frame.source;
     let end = record::next(source.macros, k);
     let head = macros::head_of(&source.macros[k + 4..end]);
     let taken = macro_tokens::arguments_from(source, &frame.reading, met.next);
@@ -101,33 +103,33 @@ fn write_token(
 // kept: `out` and `fill` are two parameters, since a struct that holds a `&mut` needs a clause on its `ghost_name` in each contract.
 #[cycle(write_act_write_body)]
 fn write_act(
-    source: &Source<'_>,
     frame: &Frame<'_>,
     met: &Met,
     really: bool,
     out: &mut [u8],
     fill: usize,
 ) -> Result<usize, Refusal>
-    requires { Acting source.now.text.now source.now.macros.now frame.now.most frame.now.reading.list.now frame.now.reading.body met.now.place met.now.next met.now.act × (fill ≤ length out.old) }
-    ensures value { result ≡ answer_from (length out.old) fill (act_steps source.now.text.now source.now.macros.now frame.now.levels frame.now.reading.list.now frame.now.reading.body met.now.place met.now.next met.now.act) }
-    ensures out_after { out.new ≡ append out.old fill (only really (written_from (length out.old) fill (act_steps source.now.text.now source.now.macros.now frame.now.levels frame.now.reading.list.now frame.now.reading.body met.now.place met.now.next met.now.act))) }
+    requires { Acting frame.now.source.text.now frame.now.source.macros.now frame.now.most frame.now.reading.list.now frame.now.reading.body met.now.place met.now.next met.now.act × (fill ≤ length out.old) }
+    ensures value { result ≡ answer_from (length out.old) fill (act_steps frame.now.source.text.now frame.now.source.macros.now frame.now.levels frame.now.reading.list.now frame.now.reading.body met.now.place met.now.next met.now.act) }
+    ensures out_after { out.new ≡ append out.old fill (only really (written_from (length out.old) fill (act_steps frame.now.source.text.now frame.now.source.macros.now frame.now.levels frame.now.reading.list.now frame.now.reading.body met.now.place met.now.next met.now.act))) }
 {
     match met.act {
         Act::Write(_) => {
-            let token = macro_tokens::token_at(source, met.place);
+            let token = macro_tokens::token_at(&frame.source, met.place);
             write_token(token, really, out, fill)
         }
         Act::Pass => Ok(fill),
         Act::Call(k) => {
-            let body = call_at(source, frame, met, k)?;
-            let end = record::next(source.macros, k);
-            let list = &source.macros[k + 4..end];
+            let body = call_at(frame, met, k)?;
+            let end = record::next(frame.source.macros, k);
+            let list = &frame.source.macros[k + 4..end];
             let called = Frame {
+                source: frame.source,
                 reading: Reading { list, body },
                 most: k,
                 levels: frame.levels - 1,
             };
-            write_body(source, &called, really, out, fill)
+            write_body(&called, really, out, fill)
         }
     }
 }
@@ -146,22 +148,20 @@ fn mode_after(act: Act) -> Mode
 // kept: `really` is a flag, as the rule on speed has it: measuring and writing are one function that is run twice.
 #[cycle(write_act_write_body)]
 fn write_body(
-    source: &Source<'_>,
     frame: &Frame<'_>,
     really: bool,
     out: &mut [u8],
     from: usize,
 ) -> Result<usize, Refusal>
-    requires { Ready source.now.text.now source.now.macros.now frame.now.most frame.now.reading.list.now frame.now.reading.body × (from ≤ length out.old) }
-    ensures value { result ≡ answer_from (length out.old) from (steps_from source.now.text.now source.now.macros.now frame.now.most frame.now.levels frame.now.reading.list.now frame.now.reading.body Leading frame.now.reading.body.start) }
-    ensures out_after { out.new ≡ append out.old from (only really (written_from (length out.old) from (steps_from source.now.text.now source.now.macros.now frame.now.most frame.now.levels frame.now.reading.list.now frame.now.reading.body Leading frame.now.reading.body.start))) }
+    requires { Ready frame.now.source.text.now frame.now.source.macros.now frame.now.most frame.now.reading.list.now frame.now.reading.body × (from ≤ length out.old) }
+    ensures value { result ≡ answer_from (length out.old) from (steps_from frame.now.source.text.now frame.now.source.macros.now frame.now.most frame.now.levels frame.now.reading.list.now frame.now.reading.body Leading frame.now.reading.body.start) }
+    ensures out_after { out.new ≡ append out.old from (only really (written_from (length out.old) from (steps_from frame.now.source.text.now frame.now.source.macros.now frame.now.most frame.now.levels frame.now.reading.list.now frame.now.reading.body Leading frame.now.reading.body.start))) }
 {
-    // copies of its own: a write to `out` then asks for no field to be read again
-    let source = *source;
+    // a copy of its own: a write to `out` then asks for no field to be read again
     let frame = *frame;
     let reading = frame.reading;
     let callable = Callable {
-        source,
+        source: frame.source,
         limit: frame.most,
     };
     let mut at = reading.body.start;
@@ -171,10 +171,9 @@ fn write_body(
     while at < reading.list.len() {
         let next = record::next(reading.list, at);
         let place = macro_tokens::place_at(&reading, at);
-        let token = macro_tokens::token_at(&source, place);
-        let act = macro_tokens::act_at(&callable, &reading, mode, token, next);
+        let act = macro_tokens::act_at(&callable, &reading, mode, place, next);
         let met = Met { place, next, act };
-        fill = write_act(&source, &frame, &met, really, &mut *out, fill)?;
+        fill = write_act(&frame, &met, really, &mut *out, fill)?;
         mode = mode_after(act);
         at = next;
     }
@@ -195,6 +194,7 @@ fn write_all(source: &Source<'_>, really: bool, out: &mut [u8]) -> Result<usize,
         args: [0; 8],
     };
     let frame = Frame {
+        source: *source,
         reading: Reading {
             list: source.text,
             body,
@@ -202,7 +202,7 @@ fn write_all(source: &Source<'_>, really: bool, out: &mut [u8]) -> Result<usize,
         most: source.macros.len(),
         levels: 8,
     };
-    write_body(source, &frame, really, out, 0)
+    write_body(&frame, really, out, 0)
 }
 
 // Refusals 1 and 2, for a buffer of `room` bytes.

@@ -1,9 +1,8 @@
-use Rattle.std.specs.Char.{to_ascii_lowercase}
-use Rattle.std.proofs.lemmas.Bool.Decides.{nat_tests}
-use Rattle.std.proofs.Common.{ℕ, ◌+◌, ◌-◌, ◌≡◌, ◌≤◌, take, drop, map, length, sym, ap, ◌∙◌, arith, length-drop, length-set, get_or, get_or-drop}
+use Rattle.std.proofs.Common.{ℕ, ◌+◌, ◌-◌, ◌≡◌, ◌≤◌, List, rules, take, drop, map, length, sym, ap, ◌∙◌, arith, length-drop, length-take-le, replicate, get_or-drop}
+use Rattle.record.specs.Bytes.{byte_at}
 use Rattle.record.specs.Records.{body_len}
-use Rattle.descriptors.specs.Mnemonics.{lower, mnemonic_name}
-use Rattle.descriptors.proofs.MnemonicsLaws.{mnemonic_good, lowered_next, zero_next}
+use Rattle.descriptors.specs.Mnemonics.{lower, mnemonic_bytes, mnemonic_name}
+use Rattle.descriptors.proofs.MnemonicsLaws.{mnemonic_good, zeros, name_lowered, rest_lowered}
 use Rattle.descriptors.proofs.read_mnemonic.Goals as goal
 use Rattle.descriptors.proofs.read_mnemonic.Goals.{After-half_at-len}
 
@@ -14,10 +13,6 @@ room c =
     let m = mnemonic_good c.args.list.now c.requires in
     (c.half_at-len.ensures.0, omega arith, omega arith, omega arith)
 
--- std's lower case is the papers'
-lowered : (b : ℕ) → to_ascii_lowercase b ≡ lower b
-lowered b = grind (arith, nat_tests)
-
 pub half_at-len-requires : goal.half_at-len-requires
 half_at-len-requires c = omega (arith, mnemonic_good c.args.list.now c.requires)
 
@@ -27,37 +22,39 @@ overflow_sub-len c = omega (arith, room (goal.at.overflow_sub-len c).After-half_
 pub location_at-location-requires : goal.location_at-location-requires
 location_at-location-requires c = omega (arith, room (goal.at.location_at-location-requires c).After-half_at-len)
 
-pub bounds-list-i : goal.bounds-list-i
-bounds-list-i c = omega (arith, room (goal.at.bounds-list-i c).After-half_at-len)
+pub slice_bounds-bytes-end : goal.slice_bounds-bytes-end
+slice_bounds-bytes-end c = omega (arith, room (goal.at.slice_bounds-bytes-end c).After-half_at-len)
 
-pub bounds-bytes-i : goal.bounds-bytes-i
-bounds-bytes-i c = omega (arith, room (goal.at.bounds-bytes-i c).After-half_at-len)
+pub slice_bounds-copy_from_slice-end : goal.slice_bounds-copy_from_slice-end
+slice_bounds-copy_from_slice-end c =
+    let r = room (goal.at.slice_bounds-copy_from_slice-end c).After-half_at-len in
+    sym (length-take-le (c.half_at-len.result - 8) (replicate 16 0) (omega arith))
 
-pub loop-i-preserved : goal.loop-i-preserved
-loop-i-preserved c =
-    let bytes = c.loop-i.bytes in
-    let i = c.loop-i.i in
-    let b = c.to_ascii_lowercase.result in
-    let s = c.args.list.now in
-    let r = room (goal.at.loop-i-preserved c).After-half_at-len in
-    record {
-      size = length-set bytes i b ∙ c.loop-i.invariant.size;
-      lowered =
-          lowered_next bytes (drop 12 s) i b (omega arith) (omega (arith, length-drop 12 s)) c.loop-i.invariant.lowered
-          (c.to_ascii_lowercase.ensures.value ∙ lowered (get_or s (12 + i) 0) ∙ ap lower (sym (get_or-drop 12 s i 0)));
-      zeros = zero_next bytes i b c.loop-i.invariant.zeros;
-    }
+pub slice_bounds-copy_from_slice-end-2 : goal.slice_bounds-copy_from_slice-end-2
+slice_bounds-copy_from_slice-end-2 c =
+    let r = room (goal.at.slice_bounds-copy_from_slice-end-2 c).After-half_at-len in
+    search rules
+
+pub copy_from_slice-requires : goal.copy_from_slice-requires
+copy_from_slice-requires c =
+    let r = room (goal.at.copy_from_slice-requires c).After-half_at-len in
+    let n = c.half_at-len.result - 8 in
+    let s = drop 12 c.args.list.now in
+    length-take-le n (replicate 16 0) (omega arith) ∙ sym (length-take-le (12 + n - 12) s (omega (arith, length-drop 12 c.args.list.now)) ∙ omega arith)
 
 pub returns : goal.returns
 unfolding mnemonic_name
 returns c =
-    let bytes = c.loop-i.bytes in
     let s = c.args.list.now in
     let r = room (goal.at.returns c).After-half_at-len in
-    let e : c.half_at-len.result - 8 ≡ c.loop-i.i = omega arith in
-    let f : c.loop-i.i ≡ body_len s 0 - 8 = omega arith in (
-      ap (λ (n : ℕ). take n bytes) e ∙ c.loop-i.invariant.lowered ∙ ap (λ (n : ℕ). map lower (take n (drop 12 s))) f,
+    let n = c.half_at-len.result - 8 in
+    let name = c.copy_from_slice.new.self in
+    let after = c.make_ascii_lowercase.ensures.after in
+    let same : 12 + n - 12 ≡ body_len s 0 - 8 = omega arith in
+    let is : name ≡ mnemonic_bytes s 0 = c.copy_from_slice.ensures.after ∙ ap (λ (m : ℕ). take m (drop 12 s)) same in
+    let size : length name ≡ n = ap length is ∙ length-take-le (body_len s 0 - 8) (drop 12 s) (omega (arith, length-drop 12 s)) ∙ omega arith in (
+      ap (take n) after ∙ name_lowered name _ n size ∙ ap (map lower) is,
       omega arith,
       c.location_at-location.ensures,
-      λ k g. c.loop-i.invariant.zeros k (omega arith),
+      λ i h. ap (λ (l : List ℕ). byte_at l i) after ∙ rest_lowered name _ n size (λ k. get_or-drop n (replicate 16 0) k 0 ∙ zeros 16 _) i h,
     )

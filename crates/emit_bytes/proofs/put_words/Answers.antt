@@ -1,4 +1,4 @@
-use Rattle.std.proofs.Common.{◌≡◌, ℕ, ◌+◌, ◌*◌, ◌<◌, List, [], ◌++◌, map, length, get_or, take, sym, ap, ◌∙◌, arith, rules}
+use Rattle.std.proofs.Common.{◌≡◌, ℕ, ◌+◌, ◌*◌, ◌<◌, List, [], ◌++◌, map, length, length-take, get_or, get_or-take, take, sym, ap, ◌∙◌, arith, rules}
 use Rattle.record.specs.Stores.{append}
 use Rattle.record.proofs.StoresLaws.{append_none, append_then}
 use Rattle.emit_pairs.specs.declared.InstructionPair.{InstructionPair}
@@ -16,17 +16,7 @@ module _ (words : List (List ℕ)) (ps : List InstructionPair) (i : ℕ) (e : wo
 
 pub loop-i-init : goal.loop-i-init
 unfolding word_bytes
-loop-i-init c = append_none _ _
-
-pub slice_bounds-put_all-end : goal.slice_bounds-put_all-end
-slice_bounds-put_all-end c =
-    let h : length c.args.e.instructions ≡ 5 = search rules in
-    sym (four c.words_of-words.result c.args.e.instructions c.loop-i.i c.words_of-words.ensures (omega arith))
-
-pub put_all-requires : goal.put_all-requires
-put_all-requires c =
-    let h : length c.args.e.instructions ≡ 5 = search rules in
-    omega (arith, four c.words_of-words.result c.args.e.instructions c.loop-i.i c.words_of-words.ensures (omega arith))
+loop-i-init c = (omega arith, append_none _ _)
 
 pub loop-i-preserved : goal.loop-i-preserved
 loop-i-preserved c =
@@ -34,8 +24,13 @@ loop-i-preserved c =
     let l = c.loop-i in
     let ps = a.e.instructions in
     let w = c.words_of-words in
-    let h : length ps ≡ 5 = search rules in
-    let k = four w.result ps l.i w.ensures (omega arith) in
-    append_then a.d.now a.at (word_bytes (take l.i ps)) (a.at + 4 * l.i) (get_or w.result l.i []) l.invariant c.put_all.ensures
-    (omega (arith, words_upto ps l.i (omega arith))) (omega arith)
-    ∙ ap (append a.d.now a.at) (sym (next w.result ps l.i w.ensures (omega arith)))
+    let five : length ps ≡ 5 = search rules in
+    let here : l.i < a.e.count = omega (arith, length-take a.e.count w.result) in
+    let among : l.i < length ps = omega (arith, a.e.few) in
+    let put = rw (get_or-take a.e.count w.result l.i [] here) at c.put_all.ensures in
+    let k = four w.result ps l.i w.ensures among in (
+      omega arith,
+      append_then a.d.now a.at (word_bytes (take l.i ps)) (a.at + 4 * l.i) (get_or w.result l.i []) l.invariant.1 put
+          (omega (arith, words_upto ps l.i (omega arith))) (omega arith)
+          ∙ ap (append a.d.now a.at) (sym (next w.result ps l.i w.ensures among)),
+    )

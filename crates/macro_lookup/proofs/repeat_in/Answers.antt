@@ -1,7 +1,7 @@
 use Rattle.std.specs.Prelude.{MatchOption, Option, None, Some, min}
 use Rattle.std.specs.Option.{unwrap_or}
-use Rattle.std.proofs.Common.{eqb-true, ◌<◌, ◌≤◌, refl, ◌≡◌, ℕ, List, length, get_or, true, sym, ap, ap₂, subst, ◌∙◌, arith}
-use Rattle.std.proofs.lemmas.Bool.{eqb-false, false≢true}
+use Rattle.std.proofs.Common.{◌<◌, ◌≤◌, refl, ◌≡◌, ◌∷◌, ◌+◌, add-one, ℕ, List, length, get_or, true, sym, ap, ap₂, subst, ◌∙◌, arith}
+use Rattle.std.proofs.lemmas.Bool.{false≢true}
 use Rattle.record.specs.Bytes.{same_bytes}
 use Rattle.record.proofs.BytesLaws.{same_eq, eq_same}
 use Rattle.macros.specs.Macros.{name_at, name_ok, body_at, macro_at_ok, macro_layout, macro_repeat}
@@ -14,16 +14,27 @@ use Rattle.macro_lookup.proofs.RepeatLaws.{scan_start, low_listed, low_ok, here_
 use Rattle.macro_lookup.proofs.repeat_in.Goals as goal
 use Rattle.macro_lookup.proofs.repeat_in.Goals.{After-widened-p, After-same_name, then-not-same_name, else-not-same_name+then-p-low, else-not-same_name+else-p-low}
 
-pub returns-then-is_empty : goal.returns-then-is_empty
-returns-then-is_empty c =
-    let e : length c.args.index.now ≡ 0 = eqb-true _ _ (sym c.if-is_empty.ensures) in
-    sym (none_listed c.args.macros.now.bytes.now c.args.index.now c.args.macros.now.good c.requires (omega (arith, e)))
+pub returns-in_err-first : goal.returns-in_err-first
+returns-in_err-first c =
+    c.from_residual.ensures ∙
+    (sym (none_listed c.args.macros.now.bytes.now c.args.index.now c.args.macros.now.good c.requires (omega (arith, c.in_err-first.ensures.cases))))
 
-pub loop-i-init : goal.loop-i-init
-loop-i-init c =
+pub loop-other-init : goal.loop-other-init
+loop-other-init c =
     let s = c.args.macros.now.bytes.now in
     let l = c.args.index.now in
-    record { scanned = subst (λ (low : ℕ). Scanned s l 1 low (length s)) (sym c.widened-low.ensures) (scan_start s l c.args.macros.now.good c.requires (omega (arith, eqb-false _ _ (sym c.if-is_empty.ensures)))); within = tt }
+    let f = c.in_ok-first.ensures.cases in
+    let low : c.widened-low.result ≡ get_or l 0 0 = c.widened-low.ensures ∙ sym (ap (λ (x : List ℕ). get_or x 0 0) f.0) in
+    record { scanned = subst (λ (p : ℕ). Scanned s l 1 p (length s)) (sym low) (scan_start s l c.args.macros.now.good c.requires (omega (arith, f.1))); within = tt }
+
+-- where the walk stands in the index
+there : (c : After-widened-p) → let i = c.loop-other.other-index + 1 in (i < length c.args.index.now) × (c.widened-p.result ≡ get_or c.args.index.now i 0)
+there c =
+    let f = c.in_ok-first.ensures.cases in
+    (omega (arith, f.1, c.loop-other-test.true), c.widened-p.ensures ∙ behind c.args.index.now _ c.in_ok-first.others.now c.loop-other.other-index f.0)
+  where
+    behind : (l : List ℕ) (x : ℕ) (xs : List ℕ) (j : ℕ) → l ≡ x ∷ xs → get_or xs j 0 ≡ get_or l (j + 1) 0
+    behind l x xs j e = rw (e, add-one j)
 
 -- the least so far or a place within the list
 least_so : (o : Option ℕ) (n p : ℕ) → p < n → min (unwrap_or o p) p ≡ min (unwrap_or o n) p
@@ -33,71 +44,73 @@ least_so (Some q) n p h = refl
 -- the two macros that are compared
 ok_here : (c : After-widened-p) → macro_at_ok c.args.macros.now.bytes.now c.widened-p.result ≡ true
 ok_here c =
-    let l = c.loop-i in
-    subst (λ (p : ℕ). macro_at_ok c.args.macros.now.bytes.now p ≡ true) (sym c.widened-p.ensures) (here_ok c.args.macros.now.bytes.now c.args.index.now c.args.macros.now.good c.requires l.i l.low _ l.invariant.scanned (omega arith))
+    let l = c.loop-other in
+    subst (λ (p : ℕ). macro_at_ok c.args.macros.now.bytes.now p ≡ true) (sym (there c).1) (here_ok c.args.macros.now.bytes.now c.args.index.now c.args.macros.now.good c.requires (l.other-index + 1) l.low _ l.invariant.scanned (there c).0)
 
-ok_low : (c : After-widened-p) → macro_at_ok c.args.macros.now.bytes.now c.loop-i.low ≡ true
+ok_low : (c : After-widened-p) → macro_at_ok c.args.macros.now.bytes.now c.loop-other.low ≡ true
 ok_low c =
-    let l = c.loop-i in
-    low_ok c.args.macros.now.bytes.now c.args.index.now c.args.macros.now.good c.requires l.i l.low _ l.invariant.scanned
+    let l = c.loop-other in
+    low_ok c.args.macros.now.bytes.now c.args.index.now c.args.macros.now.good c.requires (l.other-index + 1) l.low _ l.invariant.scanned
 
 pub body_at-requires : goal.body_at-requires
 body_at-requires c = ok_here (goal.at.body_at-requires c).After-widened-p
 
-pub body_at-requires-in-loop-i : goal.body_at-requires-in-loop-i
-body_at-requires-in-loop-i c = ok_low (goal.at.body_at-requires-in-loop-i c).After-widened-p
+pub body_at-requires-in-loop-other : goal.body_at-requires-in-loop-other
+body_at-requires-in-loop-other c = ok_low (goal.at.body_at-requires-in-loop-other c).After-widened-p
 
 pub same_name-requires : goal.same_name-requires
 same_name-requires c =
     let w = (goal.at.same_name-requires c).After-widened-p in
     let s = c.args.macros.now.bytes.now in
     let ok : (p : ℕ) (b : List ℕ) → macro_at_ok s p ≡ true → b ≡ body_at s p → name_ok b 0 ≡ true = λ p b h e. ap (λ (x : List ℕ). name_ok x 0) e ∙ name_ok_lem s p (macro_is s p h) in
-    (ok c.widened-p.result _ (ok_here w) c.body_at.ensures, ok c.loop-i.low _ (ok_low w) c.body_at-in-loop-i.ensures)
+    (ok c.widened-p.result _ (ok_here w) c.body_at.ensures, ok c.loop-other.low _ (ok_low w) c.body_at-in-loop-other.ensures)
 
 -- what the test says
-tested : (c : After-same_name) → c.same_name.result ≡ same_bytes (own_name c.args.macros.now.bytes.now (get_or c.args.index.now c.loop-i.i 0)) (own_name c.args.macros.now.bytes.now c.loop-i.low)
-tested c =
+tested : (c : After-same_name) → c.widened-p.result ≡ get_or c.args.index.now (c.loop-other.other-index + 1) 0
+    → c.same_name.result ≡ same_bytes (own_name c.args.macros.now.bytes.now (get_or c.args.index.now (c.loop-other.other-index + 1) 0)) (own_name c.args.macros.now.bytes.now c.loop-other.low)
+tested c e =
     c.same_name.ensures
     ∙ ap₂ (λ (x y : List ℕ). same_bytes (name_at x 0) (name_at y 0))
-    (c.body_at.ensures ∙ ap (body_at c.args.macros.now.bytes.now) c.widened-p.ensures)
-    c.body_at-in-loop-i.ensures
+    (c.body_at.ensures ∙ ap (body_at c.args.macros.now.bytes.now) e)
+    c.body_at-in-loop-other.ensures
 
-pub loop-i-preserved : goal.loop-i-preserved
-loop-i-preserved c =
-    let l = c.loop-i in
+pub loop-other-preserved : goal.loop-other-preserved
+loop-other-preserved c =
+    let l = c.loop-other in
     let s = c.args.macros.now.bytes.now in
     let index = c.args.index.now in
-    let g = goal.at.loop-i-preserved c in
-    let test = tested g.After-same_name in
+    let g = goal.at.loop-other-preserved c in
+    let p = there g.After-widened-p in
+    let test = tested g.After-same_name p.1 in
     let scan = l.invariant.scanned in
     elim c.if-not-same_name.branch [
       | then-not-same_name w ↦
-          rw (w.best-is, w.low-is, c.widened-p.ensures)
+          rw (w.best-is, w.low-is, p.1)
           (record {
             scanned =
-                scan_other s index c.args.macros.now.good c.requires l.i l.low _ scan (omega arith)
+                scan_other s index c.args.macros.now.good c.requires (l.other-index + 1) l.low _ scan p.0
                 (λ e. false≢true (sym w.if-not-same_name.true ∙ test ∙ ap (λ (n : List ℕ). same_bytes n (own_name s l.low)) e ∙ eq_same (own_name s l.low)));
             within = l.invariant.within;
           })
       | else-not-same_name+then-p-low w ↦
           let e = same_eq _ _ (sym test ∙ w.if-not-same_name.false) in
-          let m : l.low < length s = within s l.low (low_listed s index c.args.macros.now.good c.requires l.i l.low _ scan) in
-          rw (w.best-is, w.low-is, w.smaller.ensures, w.unwrap_or.ensures, c.widened-p.ensures)
+          let m : l.low < length s = within s l.low (low_listed s index c.args.macros.now.good c.requires (l.other-index + 1) l.low _ scan) in
+          rw (w.best-is, w.low-is, w.min.ensures, w.unwrap_or.ensures, p.1)
           (record {
             scanned =
                 rw (least_so l.best (length s) l.low m)
-                (scan_lower s index c.args.macros.now.good c.requires l.i l.low _ scan (omega arith) e (omega (arith, w.if-p-low.true, c.widened-p.ensures)));
+                (scan_lower s index c.args.macros.now.good c.requires (l.other-index + 1) l.low _ scan p.0 e (omega (arith, w.if-p-low.true, p.1)));
             within = omega arith;
           })
       | else-not-same_name+else-p-low w ↦
           let e = same_eq _ _ (sym test ∙ w.if-not-same_name.false) in
-          let p = get_or index l.i 0 in
-          let m : p < length s = within s p (at_list 0 s index c.requires l.i (omega arith)) in
-          rw (w.best-is, w.low-is, w.smaller-else-p-low.ensures, w.unwrap_or-else-p-low.ensures, c.widened-p.ensures)
+          let q = get_or index (l.other-index + 1) 0 in
+          let m : q < length s = within s q (at_list 0 s index c.requires (l.other-index + 1) p.0) in
+          rw (w.best-is, w.low-is, w.min-else-p-low.ensures, w.unwrap_or-else-p-low.ensures, p.1)
           (record {
             scanned =
-                rw (least_so l.best (length s) p m)
-                (scan_higher s index c.args.macros.now.good c.requires l.i l.low _ scan (omega arith) e (omega (arith, w.if-p-low.false, c.widened-p.ensures)));
+                rw (least_so l.best (length s) q m)
+                (scan_higher s index c.args.macros.now.good c.requires (l.other-index + 1) l.low _ scan p.0 e (omega (arith, w.if-p-low.false, p.1)));
             within = omega arith;
           })
     ]
@@ -110,5 +123,5 @@ found s l g ix i low (Some p) b w h = sym (scan_found s l g ix i low _ b h w)
 
 pub returns : goal.returns
 returns c =
-    let l = c.loop-i in
-    found _ _ c.args.macros.now.good c.requires l.i l.low _ l.invariant.scanned l.invariant.within (omega arith)
+    let l = c.loop-other in
+    found _ _ c.args.macros.now.good c.requires (l.other-index + 1) l.low _ l.invariant.scanned l.invariant.within (omega (arith, c.in_ok-first.ensures.cases.1, c.loop-other-test.false))

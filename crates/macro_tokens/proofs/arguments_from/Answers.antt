@@ -1,6 +1,5 @@
 use Rattle.std.proofs.Common.{◌≡◌, ◌<◌, ◌≤◌, ℕ, List, Bool, true, false, refl, [], length, sym, ap, subst, ◌∙◌, arith, ltb, ltb-true, ltb-false}
 use Rattle.record.specs.Records.{kind_at, next, whole, places_from}
-use Rattle.record.specs.Left.{places_left}
 use Rattle.record.proofs.RecordsLaws.{places_step, places_cons}
 use Rattle.macro_tokens.specs.Places.{token_record, TokenIn, place_of}
 use Rattle.macro_tokens.proofs.PlacesLaws.{token, place_in}
@@ -13,13 +12,13 @@ use Rattle.macro_tokens.proofs.arguments_from.Goals.{In-Some, After-kind-kind}
 turn : (c : In-Some) → let a = c.args in
     Took a.source.now.text.now a.source.now.macros.now a.reading.now.list.now a.reading.now.body a.from c.in-Some.at c.loop-at.taken
     × (c.in-Some.at < length a.reading.now.list.now)
-    × (places_left c.next.new.self ≡ places_from a.reading.now.list.now (next a.reading.now.list.now c.in-Some.at))
+    × (places_from c.next.new.self.list.now c.next.new.self.at ≡ places_from a.reading.now.list.now (next a.reading.now.list.now c.in-Some.at))
 turn c =
     let a = c.args in
     let list = a.reading.now.list.now in
     let i = c.loop-at.invariant in
     let e = sym i.left ∙ c.in-Some.ensures.steps in
-    let first = places_cons list i.here c.in-Some.at (places_left c.next.new.self) e in
+    let first = places_cons list i.here c.in-Some.at (places_from c.next.new.self.list.now c.next.new.self.at) e in
     let n = places_step list i.here first.0 (token a.source.now.text.now a.source.now.macros.now list a.reading.now.body i.here i.took.rest first.0).whole_at in
     let here = first.1 in
     (rw here i.took, rw here first.0, cc)

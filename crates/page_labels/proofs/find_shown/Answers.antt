@@ -2,10 +2,10 @@ use Rattle.std.specs.Prelude.{slice_index}
 use Rattle.std.proofs.Common.{◌+◌, ◌-◌, length, arith, length-set}
 use Rattle.record.specs.Bytes.{le32}
 use Rattle.labels.proofs.LabelsLaws.{LabelIs, labels_within}
-use Rattle.page_labels.specs.Slots.{WordOf}
+use Rattle.page_labels.specs.Slots.{WordIs}
 use Rattle.page_labels.proofs.SlotsLaws.{Last, last_of, label_at_lem, slotted_end, slotted_pass, slotted_hit}
 use Rattle.page_labels.proofs.find_shown.Goals as goal
-use Rattle.page_labels.proofs.find_shown.Goals.{After-widened, After-word_of-k}
+use Rattle.page_labels.proofs.find_shown.Goals.{After-widened, After-word_of}
 
 -- the place of a turn is the last of the index's that are left
 last : (c : After-widened) → Last c.args.labels.now.order c.loop-at.at-iterator.iter.rest.now c.next.new.self.iter.rest.now c.in-Some.field-0.now
@@ -27,25 +27,25 @@ overflow_add-slots c =
     omega (arith, t.body, t.least, labels_within _ c.loop-at.invariant.good, c.widened.ensures)
 
 -- the word that its address is of
-word : (c : After-word_of-k) → WordOf c.args.address c.args.size (le32 c.bytes-list.result.now (slice_index c.args.labels.now.order (length c.loop-at.at-iterator.iter.rest.now - 1) + 4)) c.word_of-k.result
+word : (c : After-word_of) → WordIs c.args.address c.args.size (le32 c.bytes-list.result.now (slice_index c.args.labels.now.order (length c.loop-at.at-iterator.iter.rest.now - 1) + 4)) c.word_of.result
 word c =
-    let t = last (goal.at.After-word_of-k c).After-widened in
-    rw (c.word_at-target.ensures, c.widened.ensures, t.is) at c.word_of-k.ensures
+    let t = last (goal.at.After-word_of c).After-widened in
+    rw (c.word_at-target.ensures, c.widened.ensures, t.is) at c.word_of.ensures
 
-pub loop-at-preserved-then-k-lt-MOST_WORDS : goal.loop-at-preserved-then-k-lt-MOST_WORDS
-loop-at-preserved-then-k-lt-MOST_WORDS c =
+pub loop-at-preserved-in-Some-word_of : goal.loop-at-preserved-in-Some-word_of
+loop-at-preserved-in-Some-word_of c =
     let a = c.args in
     let i = c.loop-at.invariant in
-    let g = goal.at.loop-at-preserved-then-k-lt-MOST_WORDS c in
+    let g = goal.at.loop-at-preserved-in-Some-word_of c in
     let t = last g.After-widened in
-    let w = word g.After-word_of-k in
+    let w = rw c.in-Some-word_of.is at (word g.After-word_of) in
     record {
       good = i.good;
       indexed = i.indexed;
       left = t.rest_left;
       slotted = rw (t.fewer, t.is)
-          (slotted_hit _ _ i.good i.indexed a.address a.size c.loop-at.slots (length c.loop-at.at-iterator.iter.rest.now) i.slotted t.some c.word_of-k.result w c.if-k-lt-MOST_WORDS.true
-          (omega (arith, (w.hit c.if-k-lt-MOST_WORDS.true).0, c.requires.size_bound.1, i.long, c.empty.auto.slots)));
+          (slotted_hit _ _ i.good i.indexed a.address a.size c.loop-at.slots (length c.loop-at.at-iterator.iter.rest.now) i.slotted t.some c.in-Some-word_of.k w.0 w.1
+          (omega (arith, (w.0.hit w.1).0, c.requires.size_bound.1, i.long, c.empty.auto.slots)));
       long = simp length-set i.long;
     }
 
@@ -60,8 +60,8 @@ loop-at-preserved c =
       indexed = i.indexed;
       left = t.rest_left;
       slotted = rw t.fewer
-          (slotted_pass _ _ i.good i.indexed a.address a.size c.loop-at.slots (length c.loop-at.at-iterator.iter.rest.now) i.slotted t.some c.word_of-k.result c.requires.size_bound.0
-          (word g.After-word_of-k) c.if-k-lt-MOST_WORDS.false);
+          (slotted_pass _ _ i.good i.indexed a.address a.size c.loop-at.slots (length c.loop-at.at-iterator.iter.rest.now) i.slotted t.some 16384 c.requires.size_bound.0
+          (rw c.in_default.is at (word g.After-word_of)) (omega arith));
       long = i.long;
     }
 

@@ -6,7 +6,7 @@ pub emit_found-out-requires : goal.emit_found-out-requires
 emit_found-out-requires c =
     let a = c.args in
     let l = a.line.lists in
-    inside a.job l.tokens.now l.mnemonic.now l.descriptors.now _ _ a.breakpoints.now _ a.line.position _ c.requires.0 c.requires.1 _ (rw c.new.ensures at c.region-found.ensures)
+    inside a.line.job l.tokens.now l.mnemonic.now l.descriptors.now _ _ a.breakpoints.now _ a.line.position _ c.requires.0 c.requires.1 _ (rw c.new.ensures at c.region-found.ensures)
 
 pub grow-counts-requires : goal.grow-counts-requires
 grow-counts-requires c =

@@ -65,14 +65,14 @@ returns-in_err-address c =
     (step_refuses t a.entry.now a.regions.now a.pending.now a.kept.now a.counts a.job _
     (checks_are t a.entry.now a.regions.now a.pending.now a.kept.now a.counts (Ok tt) (Ok tt) (Err _) c.requires.layouts_are (ap (name_verdict 0) c.bytes.ensures.indexed.distinct) e))
 
-pub returns-then-counts-eq0 : goal.returns-then-counts-eq0
-returns-then-counts-eq0 c =
+pub returns-then-counts-eq-RUNNING : goal.returns-then-counts-eq-RUNNING
+returns-then-counts-eq-RUNNING c =
     let a = c.args in
     let t = table_of a.labels.now.list in
     let e = entry_passes t a.entry.now (entry_of a.entry.now (places a.entry.now)) _ (sym c.in_ok-address.ensures) in
     step_runs t a.entry.now a.regions.now a.pending.now a.kept.now a.counts a.job
     (checks_are t a.entry.now a.regions.now a.pending.now a.kept.now a.counts (Ok tt) (Ok tt) (Ok tt) c.requires.layouts_are (ap (name_verdict 0) c.bytes.ensures.indexed.distinct) e.0)
-    _ e.1 c.if-counts-eq0.true _ _ _ _ c.running_step.ensures
+    _ e.1 c.if-counts-eq-RUNNING.true _ _ _ _ c.running_step.ensures
 
 pub returns : goal.returns
 returns c =
@@ -81,4 +81,4 @@ returns c =
     let e = entry_passes t a.entry.now (entry_of a.entry.now (places a.entry.now)) _ (sym c.in_ok-address.ensures) in
     step_stopped t a.entry.now a.regions.now a.pending.now a.kept.now a.counts a.job
     (checks_are t a.entry.now a.regions.now a.pending.now a.kept.now a.counts (Ok tt) (Ok tt) (Ok tt) c.requires.layouts_are (ap (name_verdict 0) c.bytes.ensures.indexed.distinct) e.0)
-    _ e.1 c.if-counts-eq0.false _ c.stopped_step-answer.ensures
+    _ e.1 c.if-counts-eq-RUNNING.false _ c.stopped_step-answer.ensures

@@ -31,6 +31,6 @@ returns c =
       ← c.list_of-5.ensures,
       ← c.list_of-6.ensures,
       ← n.ensures,
-      ← rest_is n.result.now 13 c.least-start.result c.least-start.ensures,
+      ← rest_is n.result.now 13 c.min-start.result (omega (arith, c.min-start.ensures)),
       ← c.counts_in.ensures,
     ) (c.put_end.ensures ∙ sym c.put_turns-counts.ensures.text))

@@ -38,8 +38,8 @@ pub write_act-write_body-requires : goal.write_act-write_body-requires
 write_act-write_body-requires t c = (
   omega (arith, c.decreases, (above_it c.requires.0 c.in-Call.is).0),
   (
-    subst (λ (x : List ℕ). Ready c.args.source.now.text.now c.args.source.now.macros.now c.in-Call.k x c.in_ok-body-in-Call.body)
-        (sym (body_part c.args.source.now.macros.now c.in-Call.k c.next-end.result c.next-end.ensures.0)) (c.call_at.ensures.opened _ c.in_ok-body-in-Call.was).ready,
+    subst (λ (x : List ℕ). Ready c.args.frame.now.source.text.now c.args.frame.now.source.macros.now c.in-Call.k x c.in_ok-body-in-Call.body)
+        (sym (body_part c.args.frame.now.source.macros.now c.in-Call.k c.next-end.result c.next-end.ensures.0)) (c.call_at.ensures.opened _ c.in_ok-body-in-Call.was).ready,
     c.requires.1,
   ),
 )
@@ -54,7 +54,7 @@ pub write_act-returns-in_err-body-in-Call : goal.write_act-returns-in_err-body-i
 write_act-returns-in_err-body-in-Call t c =
     let p = err_from_is_err_and c.from_residual.result c.from_residual.ensures.1 in
     let a = c.args in
-    let steps = act_steps a.source.now.text.now a.source.now.macros.now a.frame.now.levels a.frame.now.reading.list.now a.frame.now.reading.body a.met.now.place a.met.now.next in
+    let steps = act_steps a.frame.now.source.text.now a.frame.now.source.macros.now a.frame.now.levels a.frame.now.reading.list.now a.frame.now.reading.body a.met.now.place a.met.now.next in
     let s = stop_left a.really a.out.now a.fill _ (steps a.met.now.act) (ap steps c.in-Call.is ∙ c.call_at.ensures.stopped _ c.in_err-body-in-Call.was) in
     rw (p.1, p.2) (record { value = s.0; out_after = s.1 })
 
@@ -67,27 +67,28 @@ turn r i n p a = record { rest = r; inside = i; next_is = n; place_is = p; act_i
 pub write_body-next-next-requires : goal.write_body-next-next-requires
 write_body-next-next-requires t c =
     let a = c.args in
-    omega (arith, token a.source.now.text.now a.source.now.macros.now a.frame.now.reading.list.now a.frame.now.reading.body c.loop-at.at c.loop-at.invariant.0 c.loop-at-test.true)
+    omega (arith, token a.frame.now.source.text.now a.frame.now.source.macros.now a.frame.now.reading.list.now a.frame.now.reading.body c.loop-at.at c.loop-at.invariant.0 c.loop-at-test.true)
 
 pub write_body-place_at-place-requires : goal.write_body-place_at-place-requires
 write_body-place_at-place-requires t c =
     let a = c.args in
-    (c.loop-at.invariant.0.readable, token a.source.now.text.now a.source.now.macros.now a.frame.now.reading.list.now a.frame.now.reading.body c.loop-at.at c.loop-at.invariant.0 c.loop-at-test.true)
-
-pub write_body-token_at-token-requires : goal.write_body-token_at-token-requires
-write_body-token_at-token-requires t c =
-    let a = c.args in
-    subst (TokenIn a.source.now.text.now a.source.now.macros.now) (sym c.place_at-place.ensures) (place_in a.source.now.text.now a.source.now.macros.now a.frame.now.reading.list.now a.frame.now.reading.body c.loop-at.at c.loop-at.invariant.0 c.loop-at-test.true)
+    (c.loop-at.invariant.0.readable, token a.frame.now.source.text.now a.frame.now.source.macros.now a.frame.now.reading.list.now a.frame.now.reading.body c.loop-at.at c.loop-at.invariant.0 c.loop-at-test.true)
 
 pub write_body-act_at-act-requires : goal.write_body-act_at-act-requires
 write_body-act_at-act-requires t c =
     let a = c.args in
-    subst (ReadableFrom a.source.now.text.now a.source.now.macros.now a.frame.now.reading.list.now a.frame.now.reading.body) (sym c.next-next.ensures.0) (read_on a.source.now.text.now a.source.now.macros.now a.frame.now.reading.list.now a.frame.now.reading.body c.loop-at.at c.loop-at.invariant.0 c.loop-at-test.true)
+    let s = a.frame.now.source in
+    let r = a.frame.now.reading in
+    let h = c.loop-at-test.true in
+    record {
+      token_in = subst (TokenIn s.text.now s.macros.now) (sym c.place_at-place.ensures) (place_in s.text.now s.macros.now r.list.now r.body c.loop-at.at c.loop-at.invariant.0 h);
+      readable_from = subst (ReadableFrom s.text.now s.macros.now r.list.now r.body) (sym c.next-next.ensures.0) (read_on s.text.now s.macros.now r.list.now r.body c.loop-at.at c.loop-at.invariant.0 h);
+    }
 
 pub write_body-write_act-requires : goal.write_body-write_act-requires
 write_body-write_act-requires t c =
     let l = c.loop-at in
-    let g = turn l.invariant.0 c.loop-at-test.true c.next-next.ensures.0 c.place_at-place.ensures (rw c.token_at-token.ensures at c.act_at-act.ensures) in (
+    let g = turn l.invariant.0 c.loop-at-test.true c.next-next.ensures.0 c.place_at-place.ensures c.act_at-act.ensures in (
       omega (arith, c.decreases),
       (
         record {
@@ -107,11 +108,11 @@ write_body-loop-at-preserved t c =
     let a = c.args in
     let w = c.write_act in
     let n = c.next-next.result in
-    let g = turn l.invariant.0 c.loop-at-test.true c.next-next.ensures.0 c.place_at-place.ensures (rw c.token_at-token.ensures at c.act_at-act.ensures) in
-    let steps = steps_from a.source.now.text.now a.source.now.macros.now a.frame.now.most a.frame.now.levels a.frame.now.reading.list.now a.frame.now.reading.body in (
+    let g = turn l.invariant.0 c.loop-at-test.true c.next-next.ensures.0 c.place_at-place.ensures c.act_at-act.ensures in
+    let steps = steps_from a.frame.now.source.text.now a.frame.now.source.macros.now a.frame.now.most a.frame.now.levels a.frame.now.reading.list.now a.frame.now.reading.body in (
       turn_rest g,
       rw c.mode_after-mode.ensures
-          (same_call a.really a.out.now a.from (steps Leading a.frame.now.reading.body.start) l.out l.fill (steps l.mode l.at) l.invariant.1 (act_steps a.source.now.text.now a.source.now.macros.now a.frame.now.levels a.frame.now.reading.list.now a.frame.now.reading.body c.place_at-place.result n c.act_at-act.result) (steps (mode_after c.act_at-act.result) n) (turn_act g a.frame.now.levels) w.result w.new.out w.ensures.value w.ensures.out_after
+          (same_call a.really a.out.now a.from (steps Leading a.frame.now.reading.body.start) l.out l.fill (steps l.mode l.at) l.invariant.1 (act_steps a.frame.now.source.text.now a.frame.now.source.macros.now a.frame.now.levels a.frame.now.reading.list.now a.frame.now.reading.body c.place_at-place.result n c.act_at-act.result) (steps (mode_after c.act_at-act.result) n) (turn_act g a.frame.now.levels) w.result w.new.out w.ensures.value w.ensures.out_after
           _ c.in_ok-fill.was w.auto.out),
     )
 
@@ -122,9 +123,9 @@ write_body-returns-in_err-fill t c =
     let a = c.args in
     let w = c.write_act in
     let n = c.next-next.result in
-    let g = turn l.invariant.0 c.loop-at-test.true c.next-next.ensures.0 c.place_at-place.ensures (rw c.token_at-token.ensures at c.act_at-act.ensures) in
-    let steps = steps_from a.source.now.text.now a.source.now.macros.now a.frame.now.most a.frame.now.levels a.frame.now.reading.list.now a.frame.now.reading.body in
-    let e = ends_call a.really a.out.now a.from (steps Leading a.frame.now.reading.body.start) l.out l.fill (steps l.mode l.at) l.invariant.1 (act_steps a.source.now.text.now a.source.now.macros.now a.frame.now.levels a.frame.now.reading.list.now a.frame.now.reading.body c.place_at-place.result n c.act_at-act.result) (steps (mode_after c.act_at-act.result) n) (turn_act g a.frame.now.levels) w.result w.new.out w.ensures.value w.ensures.out_after
+    let g = turn l.invariant.0 c.loop-at-test.true c.next-next.ensures.0 c.place_at-place.ensures c.act_at-act.ensures in
+    let steps = steps_from a.frame.now.source.text.now a.frame.now.source.macros.now a.frame.now.most a.frame.now.levels a.frame.now.reading.list.now a.frame.now.reading.body in
+    let e = ends_call a.really a.out.now a.from (steps Leading a.frame.now.reading.body.start) l.out l.fill (steps l.mode l.at) l.invariant.1 (act_steps a.frame.now.source.text.now a.frame.now.source.macros.now a.frame.now.levels a.frame.now.reading.list.now a.frame.now.reading.body c.place_at-place.result n c.act_at-act.result) (steps (mode_after c.act_at-act.result) n) (turn_act g a.frame.now.levels) w.result w.new.out w.ensures.value w.ensures.out_after
     _ c.in_err-fill.was in
     rw (p.1, p.2) (record { value = e.answered; out_after = e.left })
 
@@ -132,6 +133,6 @@ pub write_body-returns : goal.write_body-returns
 write_body-returns t c =
     let l = c.loop-at in
     let a = c.args in
-    let steps = steps_from a.source.now.text.now a.source.now.macros.now a.frame.now.most a.frame.now.levels a.frame.now.reading.list.now a.frame.now.reading.body in
-    let e = ends_all a.really a.out.now a.from (steps Leading a.frame.now.reading.body.start) l.out l.fill (steps l.mode l.at) l.invariant.1 (turn_end a.source.now.text.now a.source.now.macros.now a.frame.now.most a.frame.now.levels a.frame.now.reading.list.now a.frame.now.reading.body l.mode l.at c.loop-at-test.false) in
+    let steps = steps_from a.frame.now.source.text.now a.frame.now.source.macros.now a.frame.now.most a.frame.now.levels a.frame.now.reading.list.now a.frame.now.reading.body in
+    let e = ends_all a.really a.out.now a.from (steps Leading a.frame.now.reading.body.start) l.out l.fill (steps l.mode l.at) l.invariant.1 (turn_end a.frame.now.source.text.now a.frame.now.source.macros.now a.frame.now.most a.frame.now.levels a.frame.now.reading.list.now a.frame.now.reading.body l.mode l.at c.loop-at-test.false) in
     record { value = e.answered; out_after = e.left }

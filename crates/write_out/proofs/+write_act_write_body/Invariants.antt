@@ -14,8 +14,8 @@ decreases-write_body l = 2 * l.frame.now.most + 1
 
 abbrev pub invariant-write_body-loop-at : goal.invariant-write_body-loop-at
 invariant-write_body-loop-at l =
-    ReadableFrom l.source.text.now l.source.macros.now l.reading.list.now l.reading.body l.at
-    × Same l.really l.initial.out l.from (steps_from l.source.text.now l.source.macros.now l.frame.most l.frame.levels l.reading.list.now l.reading.body Leading l.reading.body.start) l.out l.fill (steps_from l.source.text.now l.source.macros.now l.frame.most l.frame.levels l.reading.list.now l.reading.body l.mode l.at)
+    ReadableFrom l.frame.source.text.now l.frame.source.macros.now l.reading.list.now l.reading.body l.at
+    × Same l.really l.initial.out l.from (steps_from l.frame.source.text.now l.frame.source.macros.now l.frame.most l.frame.levels l.reading.list.now l.reading.body Leading l.reading.body.start) l.out l.fill (steps_from l.frame.source.text.now l.frame.source.macros.now l.frame.most l.frame.levels l.reading.list.now l.reading.body l.mode l.at)
 
 abbrev pub decreases-write_body-loop-at : goal.decreases-write_body-loop-at
 decreases-write_body-loop-at l = length l.reading.list.now - l.at

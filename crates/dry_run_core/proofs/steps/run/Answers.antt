@@ -1,4 +1,4 @@
-use Rattle.std.proofs.Common.{◌≡◌, ℕ, get_or, ap, ◌∙◌}
+use Rattle.std.proofs.Common.{◌≡◌, ℕ, get_or, ap, ◌∙◌, arith}
 use Rattle.machine.specs.declared.Effect.{Effect}
 use Rattle.machine.specs.declared.Effect.TheVariants.{SetRt, SetRd, Go, Overflows, Unknown}
 use Rattle.machine.specs.declared.Reason.TheVariants.{Pc, Word, Overflow}
@@ -7,7 +7,7 @@ use Rattle.machine.specs.Step.{apply}
 use Rattle.dry_run_outcome.specs.Run.{step}
 use Rattle.dry_run_core.proofs.StepsLaws.{here_start, here_end, here_goes, here_stops, step_none, step_word_lem, step_sets}
 use Rattle.dry_run_core.proofs.steps.run.Goals as goal
-use Rattle.dry_run_core.proofs.steps.run.Goals.{After-effect}
+use Rattle.dry_run_core.proofs.steps.run.Goals.{After-effect, in-SetRt, in-SetRd, in-Go}
 
 -- an effect that is told is that of the step
 told : (c : After-effect) (e : Effect) → c.effect.result ≡ e → step c.args.image.now c.loop-steps.m ≡ apply e c.in-Some.word c.loop-steps.m
@@ -28,21 +28,21 @@ returns-in_default c =
     ∙ here_stops _ _ _ _ _ c.loop-steps.invariant c.loop-steps-test.true Pc
     (step_none c.args.image.now c.loop-steps.m c.fetch.result c.fetch.ensures c.in_default.is)
 
-pub loop-steps-preserved-in-SetRt : goal.loop-steps-preserved-in-SetRt
-loop-steps-preserved-in-SetRt c =
-    here_goes _ _ _ _ _ c.loop-steps.invariant c.loop-steps-test.true _
-    (step_sets c.args.image.now c.loop-steps.m (rt c.in-Some.word) _ c.in-SetRt.value _ c.loop-steps.invariant.zero_held c.rt-j.ensures.0 c.next_pc.ensures
-    (told (goal.at.loop-steps-preserved-in-SetRt c).After-effect (SetRt c.in-SetRt.value) c.in-SetRt.is))
-
-pub loop-steps-preserved-in-SetRd : goal.loop-steps-preserved-in-SetRd
-loop-steps-preserved-in-SetRd c =
-    here_goes _ _ _ _ _ c.loop-steps.invariant c.loop-steps-test.true _
-    (step_sets c.args.image.now c.loop-steps.m (rd c.in-Some.word) _ c.in-SetRd.value _ c.loop-steps.invariant.zero_held c.rd-k.ensures.0 c.next_pc-in-SetRd.ensures
-    (told (goal.at.loop-steps-preserved-in-SetRd c).After-effect (SetRd c.in-SetRd.value) c.in-SetRd.is))
-
 pub loop-steps-preserved : goal.loop-steps-preserved
 loop-steps-preserved c =
-    here_goes _ _ _ _ _ c.loop-steps.invariant c.loop-steps-test.true _ (told (goal.at.loop-steps-preserved c).After-effect (Go c.in-Go.target) c.in-Go.is)
+    let i = c.loop-steps.invariant in
+    let effect = (goal.at.loop-steps-preserved c).After-effect in
+    elim c.match-effect.branch [
+      | in-SetRt w ↦ rw (w.m-is)
+          (here_goes _ _ _ _ _ i c.loop-steps-test.true _
+          (step_sets c.args.image.now c.loop-steps.m (rt c.in-Some.word) _ w.in-SetRt.value _ i.zero_held c.rt-j.ensures.0 w.next_pc.ensures
+          (told effect (SetRt w.in-SetRt.value) w.in-SetRt.is)))
+      | in-SetRd w ↦ rw (w.m-is)
+          (here_goes _ _ _ _ _ i c.loop-steps-test.true _
+          (step_sets c.args.image.now c.loop-steps.m (rd c.in-Some.word) _ w.in-SetRd.value _ i.zero_held w.rd-k.ensures.0 w.next_pc-in-SetRd.ensures
+          (told effect (SetRd w.in-SetRd.value) w.in-SetRd.is)))
+      | in-Go w ↦ rw (w.m-is) (here_goes _ _ _ _ _ i c.loop-steps-test.true _ (told effect (Go w.in-Go.target) w.in-Go.is))
+    ]
 
 pub returns-in-Overflows : goal.returns-in-Overflows
 returns-in-Overflows c =
@@ -55,4 +55,6 @@ returns-in-Unknown c =
     ∙ here_stops _ _ _ _ _ c.loop-steps.invariant c.loop-steps-test.true Word (told (goal.at.returns-in-Unknown c).After-effect Unknown c.in-Unknown.is)
 
 pub returns : goal.returns
-returns c = c.ran-2.ensures ∙ here_end _ _ _ _ _ c.loop-steps.invariant c.loop-steps-test.false
+returns c =
+    let n : c.loop-steps.steps ≡ c.args.allowance = omega (arith, c.loop-steps.invariant.within) in
+    c.ran-2.ensures ∙ rw n at (here_end _ _ _ _ _ c.loop-steps.invariant c.loop-steps-test.false)

@@ -1,9 +1,5 @@
-use Rattle.std.proofs.Common.{◌-◌}
 use Rattle.dry_run_core.proofs.StepsLaws.{Here}
 use Rattle.dry_run_core.proofs.steps.run.Given as goal
 
 abbrev pub invariant-loop-steps : goal.invariant-loop-steps
 invariant-loop-steps l = Here l.image l.allowance l.initial.m l.m l.steps
-
-abbrev pub decreases-loop-steps : goal.decreases-loop-steps
-decreases-loop-steps l = l.allowance - l.steps

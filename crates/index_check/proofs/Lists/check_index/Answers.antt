@@ -1,19 +1,36 @@
-use Rattle.std.proofs.Common.{sym}
-use Rattle.label_uses.proofs.IndexLaws.{layout_long, layout_over, layout_by}
+use Rattle.std.specs.Prelude.{None}
+use Rattle.std.proofs.Common.{◌≤◌, length, sym, ◌∙◌, arith, length-take-le}
+use Rattle.record.specs.Records.{limit}
+use Rattle.breakpoints.proofs.BreakpointsLaws.{filled_good, filled_bad}
+use Rattle.label_uses.specs.UseBytes.{index_layout}
+use Rattle.label_uses.proofs.IndexLaws.{layout_by}
 use Rattle.index_check.proofs.Lists.check_index.Goals as goal
+use Rattle.index_check.proofs.Lists.check_index.Goals.{In_default}
 
-pub returns-then-index-gt-LIMIT : goal.returns-then-index-gt-LIMIT
-returns-then-index-gt-LIMIT c = let v = c.args.self.now in sym (layout_long v.labels v.pending c.args.fill c.args.index.now c.if-index-gt-LIMIT.true)
+-- the buffer is within the limit, and the fill count within the buffer
+kept : (c : In_default) → (length c.args.index.now ≤ limit) × (c.args.fill ≤ length c.args.index.now)
+kept c = let k = filled_good c.args.fill c.args.index.now None (sym c.filled.ensures ∙ c.in_default.is) in (k.0, k.1)
 
-pub returns-then-fill-index : goal.returns-then-fill-index
-returns-then-fill-index c = let v = c.args.self.now in sym (layout_over v.labels v.pending c.args.fill c.args.index.now c.if-index-gt-LIMIT.false c.if-fill-index.true)
+pub returns-in-Some : goal.returns-in-Some
+unfolding index_layout
+returns-in-Some c = sym (filled_bad c.args.fill c.args.index.now _ _ (sym c.filled.ensures ∙ c.in-Some.is))
+
+pub slice_bounds-is_index-end : goal.slice_bounds-is_index-end
+slice_bounds-is_index-end c = sym (length-take-le c.args.fill c.args.index.now (kept (goal.at.slice_bounds-is_index-end c).In_default).1)
+
+pub is_index-requires : goal.is_index-requires
+is_index-requires c =
+    let k = kept (goal.at.is_index-requires c).In_default in
+    omega (arith, k.0, k.1, length-take-le c.args.fill c.args.index.now k.1)
 
 pub returns-then-is_index : goal.returns-then-is_index
 returns-then-is_index c =
     let v = c.args.self.now in
-    sym (layout_by v.labels v.pending c.args.fill c.args.index.now c.if-index-gt-LIMIT.false c.if-fill-index.false (sym c.if-is_index.ensures))
+    let k = kept (goal.at.returns-then-is_index c).In_default in
+    sym (layout_by v.labels v.pending c.args.fill c.args.index.now k.0 k.1 (sym c.if-is_index.ensures))
 
 pub returns-else-is_index : goal.returns-else-is_index
 returns-else-is_index c =
     let v = c.args.self.now in
-    sym (layout_by v.labels v.pending c.args.fill c.args.index.now c.if-index-gt-LIMIT.false c.if-fill-index.false (sym c.if-is_index.ensures))
+    let k = kept (goal.at.returns-else-is_index c).In_default in
+    sym (layout_by v.labels v.pending c.args.fill c.args.index.now k.0 k.1 (sym c.if-is_index.ensures))

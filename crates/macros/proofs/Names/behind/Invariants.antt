@@ -1,8 +1,12 @@
-use Rattle.std.proofs.Common.{◌≡◌, true, ◌-◌, ◌≤◌, length}
+use Rattle.std.proofs.Common.{◌≡◌, ◌≤◌, length}
 use Rattle.macros.specs.Macros.{behind_names}
-use Rattle.macros.proofs.NamesLaws.{all_ok}
 use Rattle.macros.proofs.Names.behind.Given as goal
 
-abbrev pub invariant-loop : goal.invariant-loop
-invariant-loop l =
-    (l.from ≤ length l.self.list.now) × (all_ok l.self.list.now (l.self.count - l.counter) l.from ≡ true) × (behind_names l.self.count l.self.list.now l.self.at ≡ behind_names (l.self.count - l.counter) l.self.list.now l.from)
+-- `end` is where the names that are left begin
+abbrev pub invariant-loop-rest : goal.invariant-loop-rest
+invariant-loop-rest l = record {
+  list : l.rest-iterator.list.now ≡ l.self.list.now;
+  here : l.end ≡ l.rest-iterator.at;
+  within : l.end ≤ length l.self.list.now;
+  left : behind_names l.self.count l.self.list.now l.self.at ≡ behind_names l.rest-iterator.count l.self.list.now l.end;
+}

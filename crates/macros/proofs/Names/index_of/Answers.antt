@@ -1,40 +1,30 @@
-use Rattle.std.proofs.Common.{◌≡◌, ℕ, ◌+◌, ◌-◌, List, sym, ap, ap₂, ◌∙◌, arith}
-use Rattle.record.specs.Bytes.{same_bytes}
-use Rattle.macros.proofs.NamesLaws.{name_part, all_ok, first_ok, others_ok, index_from, index_end, index_hit, index_miss}
+use Rattle.std.proofs.Common.{sym, arith}
+use Rattle.macros.proofs.NamesLaws.{index_end}
+use Rattle.macros.proofs.WalkLaws.{list_on, index_first, index_behind}
 use Rattle.macros.proofs.Names.index_of.Goals as goal
-
-pub behind_name-next-requires : goal.behind_name-next-requires
-behind_name-next-requires c =
-    let l = c.loop-i in
-    omega (arith, (first_ok c.args.self.now.list.now (c.args.self.now.count - l.i) l.from (omega arith) l.invariant.0).start)
-
-pub slice_bounds-same-end : goal.slice_bounds-same-end
-slice_bounds-same-end c =
-    let l = c.loop-i in
-    omega (arith, c.behind_name-next.ensures.0, (first_ok c.args.self.now.list.now (c.args.self.now.count - l.i) l.from (omega arith) l.invariant.0).within)
 
 pub returns-then-same : goal.returns-then-same
 returns-then-same c =
-    let l = c.loop-i in
-    let a = c.args in
-    let e = sym (ap (λ (x : List ℕ). same_bytes x a.name.now) (name_part a.self.now.list.now l.from _ c.behind_name-next.ensures.0)) ∙ sym c.if-same.ensures in
-    let z = index_hit a.self.now.list.now a.name.now (a.self.now.count - l.i) l.from (omega arith) e in
-    omega (arith, l.invariant.1, z)
+    let i = c.loop-i.invariant in
+    let h = c.in-Some.ensures.steps in
+    let z = index_first c.args.self.now.list.now c.loop-i.i-iterator.iter _ c.next.new.self.iter i.list h.0.1 c.args.name.now (sym c.if-same.ensures) in
+    omega (arith, i.left, z, h.1)
 
 pub loop-i-preserved : goal.loop-i-preserved
 loop-i-preserved c =
-    let l = c.loop-i in
-    let a = c.args in
-    let n = c.behind_name-next.ensures.0 in
-    let e = sym (ap (λ (x : List ℕ). same_bytes x a.name.now) (name_part a.self.now.list.now l.from _ n)) ∙ sym c.if-same.ensures in
-    let z = index_miss a.self.now.list.now a.name.now (a.self.now.count - l.i) l.from (omega arith) e in
-    let m : a.self.now.count - l.i - 1 ≡ a.self.now.count - (l.i + 1) = omega arith in
-    let f = ap₂ (index_from a.self.now.list.now a.name.now) m (sym n) in (
-      sym (ap₂ (all_ok a.self.now.list.now) m (sym n)) ∙ others_ok a.self.now.list.now (a.self.now.count - l.i) l.from (omega arith) l.invariant.0,
-      omega (arith, l.invariant.1, z, f),
-    )
+    let b = c.args.self.now.list.now in
+    let i = c.loop-i.invariant in
+    let s = c.loop-i.i-iterator.iter in
+    let h = c.in-Some.ensures.steps in
+    let z = index_behind b s _ c.next.new.self.iter i.list h.0.1 c.args.name.now (sym c.if-same.ensures) in
+    record {
+      list = list_on b s _ c.next.new.self.iter i.list h.0.1;
+      few = omega (arith, i.few, h.0.1.more, h.2);
+      left = omega (arith, i.left, z, h.2);
+    }
 
 pub returns : goal.returns
 returns c =
-    let l = c.loop-i in
-    omega (arith, l.invariant.1, index_end c.args.self.now.list.now c.args.name.now (c.args.self.now.count - l.i) l.from (omega arith))
+    let i = c.loop-i.invariant in
+    let n = c.in-None.ensures.steps.0.0 in
+    omega (arith, i.left, i.few, n, index_end c.args.self.now.list.now c.args.name.now c.loop-i.i-iterator.iter.count c.loop-i.i-iterator.iter.at n)

@@ -1,0 +1,48 @@
+-- Laws of one step of a walk over a macro's names. Assumes nothing.
+use Rattle.std.proofs.Common.{ℕ, suc, ◌-◌, ◌≤◌, ◌<◌, List, Bool, true, false, ◌≡◌, length, sym, ap, ap₂, ◌∙◌, arith}
+use Rattle.record.specs.Bytes.{same_bytes}
+use Rattle.macros.specs.Macros.{name_at, behind_name, behind_names}
+use Rattle.macros.specs.Walk.{NameFirst}
+use Rattle.macros.specs.declared.Names.{Names}
+use Rattle.macros.proofs.NamesLaws.{first_ok, index_from, index_hit, index_miss, behind_more, differ_from, differ_stop, differ_next}
+
+module _ (b : List ℕ) (s : Names) (x : List ℕ) (t : Names) (e : s.list.now ≡ b) (f : NameFirst s x t) where
+  pub list_on : t.list.now ≡ b
+  list_on = f.list ∙ e
+
+  some : 0 < s.count
+  some = omega (arith, f.more)
+
+  fewer : s.count - 1 ≡ t.count
+  fewer = omega (arith, f.more)
+
+  at_is : behind_name b s.at ≡ t.at
+  at_is = sym (f.behind ∙ ap (λ (l : List ℕ). behind_name l s.at) e)
+
+  name_is : name_at b s.at ≡ x
+  name_is = sym (f.name ∙ ap (λ (l : List ℕ). name_at l s.at) e)
+
+  pub behind_on : behind_names s.count b s.at ≡ behind_names t.count b t.at
+  behind_on = behind_more b s.count s.at some ∙ ap₂ (λ (n i : ℕ). behind_names n b i) fewer at_is
+
+  pub end_within : t.at ≤ length b
+  end_within = omega (arith, f.behind, (first_ok s.list.now s.count s.at some s.ok).within, ap length e)
+
+  module _ (name : List ℕ) where
+    is_same : (y : Bool) → same_bytes x name ≡ y → same_bytes (name_at b s.at) name ≡ y
+    is_same y h = ap (λ (l : List ℕ). same_bytes l name) name_is ∙ h
+
+    pub index_first : same_bytes x name ≡ true → index_from b name s.count s.at ≡ 0
+    index_first h = index_hit b name s.count s.at some (is_same true h)
+
+    pub index_behind : same_bytes x name ≡ false → index_from b name s.count s.at ≡ suc (index_from b name t.count t.at)
+    index_behind h = index_miss b name s.count s.at some (is_same false h) ∙ ap suc (ap₂ (index_from b name) fewer at_is)
+
+  index_is : index_from b (name_at b s.at) t.count (behind_name b s.at) ≡ index_from b x t.count t.at
+  index_is = ap₂ (λ (l : List ℕ) (i : ℕ). index_from b l t.count i) name_is at_is
+
+  pub differ_first : index_from b x t.count t.at < t.count → differ_from b s.count s.at ≡ false
+  differ_first h = differ_stop b s.count s.at t.count f.more (omega (arith, index_is))
+
+  pub differ_behind : t.count ≤ index_from b x t.count t.at → differ_from b s.count s.at ≡ differ_from b t.count t.at
+  differ_behind h = differ_next b s.count s.at t.count f.more (omega (arith, index_is)) ∙ ap (differ_from b t.count) at_is

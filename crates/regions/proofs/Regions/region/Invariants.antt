@@ -1,7 +1,0 @@
-use Rattle.std.proofs.Common.{◌≡◌}
-use Rattle.regions.specs.Regions.{region_place}
-use Rattle.regions.proofs.Regions.region.Given as goal
-
--- `at` is the place of the record that the loop has come to
-abbrev pub invariant-loop : goal.invariant-loop
-invariant-loop l = l.at ≡ region_place l.list l.counter
