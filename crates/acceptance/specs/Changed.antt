@@ -1,5 +1,5 @@
--- Where a line for a Release 6 board has one of the points that document 02 lists, P9: "A Release 6 job changes function 8 under the Source
--- encoding to 9, and otherwise follows P5. New numbers: 27, an Inputs line with a third operand or a Func 18 line". Assumes nothing.
+-- Which lines a Release 6 job treats in its own way (document 02, P9): "A Release 6 job changes function 8 under the Source encoding to 9, and
+-- otherwise follows P5. New numbers: 27, an Inputs line with a third operand or a Func 18 line". Assumes nothing.
 use Rattle.std.specs.Prelude.{ℕ, ◌≡◌, Bool, true, false, ◌||◌, Err, Ok}
 use Rattle.instructions.specs.declared.Opcode.{Opcode}
 use Rattle.instructions.specs.declared.Encoding.{Encoding}
@@ -49,7 +49,7 @@ third_given (FPBranch flag) x = false
 abbrev pub is_listed27 : (e : Encoding) → Opcode → AskedAll (encoding_wants e) → Bool
 is_listed27 e op x = third_given e x || is_function 18 op
 
--- "tested straight after 20", and so before 9: what becomes of a manual job's range
+-- a manual job's range, with 27 "tested straight after 20", and so before 9
 abbrev pub dropped_or : (dropped : Bool) → Range → Range
 dropped_or dropped (Ok tt) = elim dropped [ true ↦ Err Dropped | false ↦ Ok tt ]
 dropped_or dropped (Err ShiftAmount) = Err ShiftAmount
@@ -57,12 +57,12 @@ dropped_or dropped (Err ConditionCode) = Err ConditionCode
 dropped_or dropped (Err Dropped) = Err Dropped
 dropped_or dropped (Err ImmediateFault) = elim dropped [ true ↦ Err Dropped | false ↦ Err ImmediateFault ]
 
--- ---- a line with neither point: no 27, and no "function 8 under the Source encoding"
+-- ---- a line that a Release 6 job does not change: no 27, and no "function 8 under the Source encoding"
 
 abbrev pub Unchanged : (e : Encoding) → Opcode → AskedAll (encoding_wants e) → Type 0
 Unchanged e op x = (is_listed27 e op x ≡ false) × (e ≡ Source → is_function 8 op ≡ false)
 
--- a line whose operands were not read has none
+-- a line whose operands could not be read is unchanged
 abbrev pub UnchangedRead : (e : Encoding) → Opcode → Answer (AskedAll (encoding_wants e)) → Type 0
 UnchangedRead e op (Got x) = Unchanged e op x
 UnchangedRead e op (Missed m) = Unit {0}
@@ -77,7 +77,7 @@ UnchangedMeaning c Neither = Unit {0}
 abbrev pub UnchangedCall : Call → Type 0
 UnchangedCall c = UnchangedMeaning c (meaning c.descriptors (mnemonic_name c.mnemonic))
 
--- ---- a line of the table, its descriptor at p, in a call whose lists have no fault
+-- ---- a call whose lists have no fault, and whose mnemonic has its descriptor at p
 
 pub record TableCall (c : Call) (p : ℕ) : Type 0 where
   pub lists_pass : list_stop c.token_list c.mnemonic c.descriptors c.lent c.numbers.place.region c.numbers.counts ≡ Ok tt

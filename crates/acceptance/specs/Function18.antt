@@ -1,4 +1,4 @@
--- Words of opcode 0 and function 18, mflo's, in the lines of a Release 6 job: where they still are. "It also dropped mflo" (document 02, P9).
+-- Which lines of a Release 6 job still have a word of opcode 0 and function 18, as mflo has: "It also dropped mflo" (document 02, P9).
 -- Assumes nothing.
 use Rattle.std.specs.Prelude.{ℕ, ◌%◌, ◌≡◌, true, false, None, Option, Some}
 use Rattle.field.specs.Field.{get_field}
@@ -16,20 +16,20 @@ use Rattle.emit_pairs.specs.Pairs.{is_immediate}
 use Rattle.emit_dispatch.specs.Wants.{encoding_wants}
 use Rattle.formats.specs.Operations.{Operation, encoded, pseudo, wants_of}
 
--- opcode 31..26 and function 5..0
+-- opcode in bits 31..26, function in bits 5..0
 abbrev pub IsMflo : ℕ → Type 0
 IsMflo w = (get_field w 26 6 ≡ 0) × (get_field w 0 6 ≡ 18)
 
--- a constant that stands in the word's own immediate field, of an opcode whose word starts with 0: class Func, or Op with a key of 0 modulo 64
+-- the word's opcode is 0 (class Func, or Op with a key of 0 modulo 64), and the constant in its immediate field puts 18 into its function field
 abbrev pub Lands : Opcode → ℕ → Type 0
 Lands op c = ((base_fields op).opcode ≡ 0) × (c % 64 ≡ 18)
 
--- the constant in range, or the alternative of one that is not
+-- what gives the 18: without an alternative, the constant; with one, the constant if it is in range, else the function of the alternative
 abbrev pub ImmediateHolds : Opcode → Option Opcode → ℕ → Type 0
 ImmediateHolds op None c = Lands op c
 ImmediateHolds op (Some alt) c = elim (is_immediate c) [ true ↦ Lands op c | false ↦ is_function 18 alt ≡ true ]
 
--- an offset in range before a brace
+-- a constant offset before a brace, and in range
 abbrev pub OffsetHolds : Opcode → OffsetOrLabel → Type 0
 OffsetHolds op (Based (Constant c) base) = elim (is_immediate c) [ true ↦ Lands op c | false ↦ ⊥ ]
 OffsetHolds op (Based (Label name) base) = ⊥
@@ -59,12 +59,12 @@ EncodingHolds (FPCond fmt) op x = ⊥
 EncodingHolds (FPCrossMove flag) op x = ⊥
 EncodingHolds (FPBranch flag) op x = ⊥
 
--- no pseudo-instruction has one
+-- no pseudo-instruction has such a word
 abbrev pub Holds : (o : Operation) → AskedAll (wants_of o) → Type 0
 Holds (encoded e op) x = EncodingHolds e op x
 Holds (pseudo p) x = ⊥
 
--- the operands that were read, and by which the line holds such a word
+-- operands were read, and with them the line has such a word
 pub record HeldBy (o : Operation) (read : Answer (AskedAll (wants_of o))) : Type 0 where
   pub operands : AskedAll (wants_of o)
   pub operands_are : read ≡ Got operands

@@ -1,4 +1,4 @@
--- Which number of a line a job by the manual tests, and against what (document 02, P5: "19, a shift amount outside 0 to 31; 20, a condition code
+-- Which operand of a line a job by the manual tests, and its range (document 02, P5: "19, a shift amount outside 0 to 31; 20, a condition code
 -- outside 0 to 7; both tested on the full 64-bit operand"). Assumes nothing.
 use Rattle.std.specs.Prelude.{ℕ, true, false, leb, Err, Option, None, Some}
 use Rattle.instructions.specs.declared.Encoding.{Encoding}
@@ -8,7 +8,7 @@ use Rattle.emit_pairs.specs.declared.Fault.TheVariants.{ShiftAmount, ConditionCo
 use Rattle.emit_dispatch.specs.Wants.{encoding_wants}
 use Rattle.emit_pairs.specs.Pairs.{Range}
 
--- the line's shift amount
+-- the line's shift amount, if its encoding has one
 abbrev pub shift_amount : (e : Encoding) → AskedAll (encoding_wants e) → Option ℕ
 shift_amount Register x = None
 shift_amount RegisterShift x = None
@@ -32,7 +32,7 @@ shift_amount (FPCond fmt) x = None
 shift_amount (FPCrossMove flag) x = None
 shift_amount (FPBranch flag) x = None
 
--- its condition code
+-- the line's condition code, if its encoding has one
 abbrev pub condition_code : (e : Encoding) → AskedAll (encoding_wants e) → Option ℕ
 condition_code Register x = None
 condition_code RegisterShift x = None

@@ -1,5 +1,5 @@
--- Where a job by the manual has none of the points that document 02 lists, P5: "equality is with the Rust except for what is listed here".
--- Assumes nothing.
+-- Which lines and builds of a job by the manual have none of the exceptions in document 02, P5:
+-- "equality is with the Rust except for what is listed here". Assumes nothing.
 use Rattle.std.specs.Prelude.{Ok, Err, ℕ, ◌+◌, ◌/◌, ◌≤◌, ◌≡◌, List, Some}
 use Rattle.instructions.specs.declared.Size.{Size}
 use Rattle.instructions.specs.declared.Size.TheVariants.{Word}
@@ -25,7 +25,7 @@ use Rattle.emit_outcome.specs.Answer.{EmitAnswer}
 use Rattle.emit_outcome.specs.declared.Meaning.{Meaning}
 use Rattle.emit_outcome.specs.declared.Meaning.TheVariants.{Table, Builtin, Neither}
 
--- ---- of a line: size Word, abs, "a shift amount outside 0 to 31", "a condition code outside 0 to 7"
+-- ---- the exceptions in a line: size Word, abs, "a shift amount outside 0 to 31", "a condition code outside 0 to 7"
 
 abbrev pub NotWord : Size → Type 0
 NotWord size = size ≡ Word → ⊥
@@ -53,7 +53,7 @@ Unlisted (FPCond fmt) x = NotWord fmt × (x.0 ≤ 7)
 Unlisted (FPCrossMove flag) x = Unit {0}
 Unlisted (FPBranch flag) x = x.0 ≤ 7
 
--- a line whose operands were not read has none
+-- a line whose operands could not be read has no exception
 abbrev pub UnlistedRead : (e : Encoding) → Answer (AskedAll (encoding_wants e)) → Type 0
 UnlistedRead e (Got x) = Unlisted e x
 UnlistedRead e (Missed m) = Unit {0}
@@ -73,7 +73,7 @@ UnlistedMeaning c Neither = Unit {0}
 abbrev pub UnlistedCall : Call → Type 0
 UnlistedCall c = UnlistedMeaning c (meaning c.descriptors (mnemonic_name c.mnemonic))
 
--- ---- of a build: "a branch distance outside -32,768 to 32,767"
+-- ---- the exception in a build: "a branch distance outside -32,768 to 32,767"
 
 abbrev pub UnlistedBuild : (labels : LabelTable) (regions pending : List ℕ) → Type 0
 UnlistedBuild labels regions pending = (p dest : ℕ) → In pending p → (pending_at pending p).kind ≡ BranchKind → destination labels pending (pending_at pending p).label ≡ Some dest

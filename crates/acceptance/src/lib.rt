@@ -1,2 +1,3 @@
-// What the customer accepts the work by: document 01's table 'Marked for proof' as one statement, and the tender's three demands. This crate has no functions.
+// The statements by which the customer accepts the work: document 01's table 'Marked for proof' as one, and the tender's three demands. This crate
+// has no functions.
 #![tactic(auto)]

@@ -1,4 +1,4 @@
--- A constant or a name with an offset as bytes, the twin of AddressLabels (document 01, 'Pending 36'). Assumes nothing.
+-- A constant or a name with an offset as bytes, the reverse of AddressLabels (document 01, 'Pending 36'). Assumes nothing.
 use Rattle.std.specs.Prelude.{ℕ, ◌^◌, ◌≤◌, ◌<◌, List, [], ◌∷◌, ◌++◌, true, ◌≡◌, length}
 use Rattle.record.specs.Bytes.{part, is_text, all}
 use Rattle.record.specs.Stores.{le64_bytes, location_bytes, LocationFits}
@@ -6,7 +6,7 @@ use Rattle.address_label.specs.declared.NamedLabel.{NamedLabel}
 use Rattle.address_label.specs.declared.AddressLabel.{AddressLabel}
 use Rattle.address_label.specs.declared.AddressLabel.TheVariants.{Constant, Label}
 
--- a label's name, a part of the list it was read from; a constant has none
+-- a label's name, as a part of the list it was read from; a constant has none
 abbrev pub name_bytes : (names : List ℕ) → AddressLabel → List ℕ
 name_bytes names (Constant value) = []
 name_bytes names (Label name) = part names name.name_at name.name_len

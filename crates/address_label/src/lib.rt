@@ -1,4 +1,4 @@
-// A constant, or a name with an offset (AddressLabel of binary.rs), as pending and entry records hold it; and the entry record.
+// A constant, or a name with an offset (AddressLabel of binary.rs), as pending and entry records hold it. Also the entry record.
 #![tactic(auto)]
 
 ghost use Rattle.std.specs.Prelude.{◌≡◌, ◌+◌, ◌≤◌, length};
@@ -13,7 +13,7 @@ use record::Location;
 // The record kind.
 const ENTRY: usize = 38;
 
-// A name in the list that holds it.
+// A name with an offset; where the name stands in its list.
 #[derive(Clone, Copy)]
 pub struct NamedLabel {
     pub name_at: usize,
@@ -28,7 +28,7 @@ pub enum AddressLabel {
     Label(NamedLabel),
 }
 
-// Whether the bytes from `at` on, up to the record's end, are a constant or a name.
+// Whether the bytes from `at` to the record's end are a constant or a name.
 #[tactic(auto, unfolding(crate::specs::AddressLabels::address_label_ok))]
 pub fn address_label_ok(list: &[u8], at: usize, end: usize) -> bool
     requires { (at + 17 ≤ end) × (end ≤ length list.now) }
@@ -77,7 +77,7 @@ impl record::Layout for EntryLayout {
     }
 }
 
-// "at most one": the place of the first record that breaks the layout, or the limit.
+// Returns the place of the first record that breaks the layout ("at most one"), or the limit if the list is longer.
 #[tactic(auto, unfolding(crate::specs::Entries::entry_layout))]
 pub fn first_bad_entry(entry: &[u8]) -> Option<usize>
     ensures { result ≡ entry_layout entry.now }
@@ -95,7 +95,7 @@ pub fn read_entry(entry: &[u8]) -> Option<AddressLabel>
     Some(address_label_at(entry, 4, record::next(entry, 0)))
 }
 
-// A label's name, a part of the list it was read from; a constant has none. A part that would run past the list ends with it.
+// Returns a label's name as a part of the list it was read from, cut at the list's end. A constant has none.
 pub fn name_of(names: &[u8], label: AddressLabel) -> &[u8]
     ensures { result.now ≡ name_bytes names.now label }
 {
@@ -108,7 +108,7 @@ pub fn name_of(names: &[u8], label: AddressLabel) -> &[u8]
     }
 }
 
-// Form, value, the name's location and the name from `at` on.
+// Writes a label from `at` on: form, value, the name's location and the name.
 pub fn put_label(d: &mut [u8], names: &[u8], at: usize, label: AddressLabel)
     requires { at + 17 + length (name_bytes names.now label) ≤ length d.old }
     ensures { d.new ≡ append d.old at (label_bytes names.now label) }

@@ -15,7 +15,7 @@ use Rattle.operand.specs.declared.OffsetOrLabel.{OffsetOrLabel}
 use Rattle.operand.specs.declared.OffsetOrLabel.TheVariants.{Label as LabelAlone, Offset}
 use Rattle.operand.specs.Answers.{Answer, Got, Missed, here}
 
--- a token of the kind with that number is met
+-- whether there is a token, and its kind has that number
 abbrev pub is_met : ℕ → Option Token → Bool
 is_met n None = false
 is_met n (Some t) = is_kind n t
@@ -29,7 +29,7 @@ abbrev pub plus_constant : Text → Location → Answer ℕ → Answer AddressLa
 plus_constant x l (Got n) = Got (named x l n)
 plus_constant x l (Missed m) = Missed m
 
--- the Symbol x at l, with i the index behind it and what is met ahead
+-- a label that begins with the Symbol x at l; i is the index after x, and `ahead` the next token that is not passed over
 abbrev pub plus_seen : Text → Location → List Token → ℕ → At (Option Token) → At (Answer AddressLabel)
 plus_seen x l ts i ahead =
     elim (is_met 9 ahead.answer) [
@@ -50,7 +50,7 @@ abbrev pub label_met : Token → List Token → ℕ → Option ℕ → At (Answe
 label_met t ts i (Some n) = here (Got (Constant n)) i
 label_met t ts i None = symbol_met t ts i (as_symbol t.kind)
 
--- the label whose first token is t, with i the index behind it
+-- the label that begins with the token t; i is the index after t
 unfoldable pub to_label : Token → List Token → ℕ → At (Answer AddressLabel)
 unfolding get_integer symbol_label
 to_label t ts i = label_met t ts (get_integer t ts i).index (get_integer t ts i).answer
@@ -98,7 +98,7 @@ unfoldable pub after_label : Answer AddressLabel → List Token → ℕ → At (
 unfolding peek_adjacent step braced
 after_label label ts i = brace_seen label ts (peek_adjacent ts i)
 
--- a label, and what follows it: nothing does where the tokens end
+-- a label, and what follows it; where the tokens end, nothing follows
 unfoldable pub get_offset_or_label : List Token → ℕ → At (Answer OffsetOrLabel)
 unfolding get_label after_label
 get_offset_or_label ts i = after_label (get_label ts i).answer ts (get_label ts i).index

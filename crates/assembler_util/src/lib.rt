@@ -1,4 +1,4 @@
-// Labels and offsets: the operand readers that build on registers and numbers (assembler_util.rs).
+// Reads labels and offsets: the operand readers that build on registers and numbers (assembler_util.rs).
 #![tactic(auto)]
 
 ghost use Rattle.std.specs.Prelude.{◌≡◌};
@@ -27,14 +27,14 @@ fn named(text: Text, location: Location, offset: u64) -> AddressLabel
     })
 }
 
-// Whether a token of the kind with that number was met.
+// Whether there is a token, and its kind has that number.
 fn is_met(number: u8, seen: Option<Token>) -> bool
     ensures { result ≡ is_met number seen }
 {
     seen.is_some_and(|token| lexer::strip(token.kind) == number)
 }
 
-// The Symbol `text` at `location`, which the cursor stands behind: an optional Plus and constant follow.
+// Reads the rest of a label after the Symbol `text` at `location`: an optional Plus and constant.
 #[tactic(auto, unfolding(crate::specs::LabelOperands::symbol_label))]
 fn symbol_label(
     text: Text,
@@ -65,7 +65,7 @@ fn plus_constant(
     Ok(Operand::Label(named(text, location, offset)))
 }
 
-// The label whose first token is `first`, which the cursor stands behind.
+// Reads the label that begins with `first`; the cursor is just after that token.
 #[tactic(auto, unfolding(crate::specs::LabelOperands::to_label))]
 fn to_label(first: Token, cursor: &mut LexerCursor<'_>) -> Result<Operand, Miss>
     ensures { Reads cursor.old (given Want.Label (to_label first (tokens cursor.old.list) cursor.old.index)) result cursor.new }
@@ -99,7 +99,7 @@ fn unbraced(label: Result<Operand, Miss>) -> Result<Operand, Miss>
     Ok(Operand::Label(operand::label_in(label?)))
 }
 
-// The register and the right brace behind a left brace.
+// Reads the register and the right brace after a left brace.
 #[tactic(auto, unfolding(crate::specs::LabelOperands::braced))]
 fn braced(label: AddressLabel, cursor: &mut LexerCursor<'_>) -> Result<Operand, Miss>
     ensures { Reads cursor.old (given Want.OffsetOrLabel (braced label (tokens cursor.old.list) cursor.old.index)) result cursor.new }

@@ -21,29 +21,29 @@ abbrev pub entry_answer : (labels : Table) (entry : List ℕ) → Option Address
 entry_answer labels entry None = Ok 0x00400000
 entry_answer labels entry (Some label) = reached_entry label (destination labels entry label)
 
--- a list of pendings, of whatever number of regions
+-- a list of pendings, for some number of regions
 pub record PendingList (pending : List ℕ) : Type 0 where
   pub regions : ℕ
   pub kept : pending_layout regions pending ≡ None
 
--- the most pendings of a list: 65,536 bytes have no more records of 36
+-- the most pendings that a list can hold: 65,536 bytes have room for no more records of 36
 abbrev pub most_pendings : ℕ
 most_pendings = 1820
 
--- the places are the first n of a list
+-- the first n numbers of `order` are the places ps
 pub record Ordered (ps : List ℕ) (n : ℕ) (order : List ℕ) : Type 0 where
   pub count : n ≡ length ps
   pub places_are : take n order ≡ ps
 
--- patch order, of as many regions as the pendings may be of
+-- the first n numbers of `order` are the patch order, for each number of regions that the pendings are good for
 abbrev pub InPatchOrder : (pending : List ℕ) (n : ℕ) (order : List ℕ) → Type 0
 InPatchOrder pending n order = (count : ℕ) → count ≤ 16 → pending_layout count pending ≡ None → Ordered (order_from count pending 0) n order
 
--- a pending stands at each of the places
+-- there is a pending at each of the places
 abbrev pub EachPending : (pending ps : List ℕ) → Type 0
 EachPending pending ps = (i : ℕ) → i < length ps → PendingIs pending (get_or ps i 0)
 
--- the place of the label of each patch
+-- the place of each patch's label
 unfoldable pub label_places : (labels pending ps : List ℕ) → List ℕ
 unfolding label_place
 label_places labels pending ps = map (λ (p : ℕ). label_place labels pending (pending_at pending p).label) ps
@@ -57,7 +57,7 @@ pub record BuildLists (labels regions pending order found : List ℕ) : Type 0 w
   pub few : length order ≤ most_pendings
   pub found_are : found ≡ label_places labels pending order
 
--- patches at these places have passed their checks, in whichever job
+-- the patches at these places have passed their checks, in some job
 pub record PatchesPass (labels : Table) (regions pending ps : List ℕ) : Type 0 where
   pub job : Job
   pub pass : first_stop (patch_verdict job labels regions pending) ps ≡ Ok tt

@@ -3,7 +3,7 @@ use Rattle.std.specs.Prelude.{ℕ, zero, suc, ◌+◌, ◌*◌, ◌^◌, ◌≤�
 use Rattle.record.specs.Stores.{le32_bytes, location_bytes, record_bytes, LocationFits}
 use Rattle.record.specs.declared.Location.{Location}
 
--- the pcs of n words, of which the first is `pc`
+-- the pcs of n words; the first is `pc`
 unfoldable pub pcs_from : (n pc : ℕ) → List ℕ
 pcs_from zero pc = []
 pcs_from (suc n) pc = pc ∷ pcs_from n (pc + 4)
@@ -17,7 +17,7 @@ pcs_bytes (suc n) pc = le32_bytes pc ++ pcs_bytes n (pc + 4)
 abbrev pub breakpoint_bytes : Location → (pc n : ℕ) → List ℕ
 breakpoint_bytes location pc n = record_bytes 37 (location_bytes location ++ pcs_bytes n pc)
 
--- a breakpoint that its list takes: of one to five words, whose parts fit the record's fields
+-- a breakpoint that a list can hold: it has one to five words, and its parts fit the record's fields
 pub record BreakpointFits (location : Location) (pc n : ℕ) : Type 0 where
   pub location_fits : LocationFits location
   pub least : 1 ≤ n

@@ -21,7 +21,7 @@ breakpoint_location s at = location_at s (at + 4)
 abbrev pub breakpoint_pcs : List ℕ → ℕ → List ℕ
 breakpoint_pcs s at = words_at ((body_len s at - 8) / 4) s (at + 12)
 
--- "a buffer is over 65,536 bytes, or a fill count over its buffer's length": the limit is then the place, and the records are unread
+-- "a buffer is over 65,536 bytes, or a fill count over its buffer's length": the bad place is then the limit or that length, and no record is read
 unfoldable pub filled_layout : ℕ → List ℕ → Option ℕ → Option ℕ
 unfolding within_limit
 filled_layout fill s l = within_limit s (elim (leb fill (length s)) [ true ↦ l | false ↦ Some (length s) ])

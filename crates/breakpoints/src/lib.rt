@@ -11,7 +11,7 @@ use record::Location;
 // The record kind.
 const BREAKPOINT: u16 = 37;
 
-// The pcs of a line's words, a word apart.
+// The pcs of a line's words: `count` of them, four apart.
 #[derive(Clone, Copy)]
 pub struct Pcs {
     pub first: u32,
@@ -35,7 +35,7 @@ impl record::Layout for Breakpoints {
     }
 }
 
-// Whether the buffer is within the limit and the fill count within the buffer.
+// Returns None if the buffer is within the limit and the fill count within the buffer, else the limit or the buffer's length.
 #[tactic(auto, unfolding(crate::specs::Breakpoints::filled_layout, record::specs::Records::within_limit))]
 pub fn filled(buffer: &[u8], fill: usize) -> Option<usize>
     ensures { result ≡ filled_layout fill buffer.now None }
@@ -43,21 +43,21 @@ pub fn filled(buffer: &[u8], fill: usize) -> Option<usize>
     record::past_limit(buffer).or_else(|| (fill > buffer.len()).then_some(buffer.len()))
 }
 
-// The layout of the first `fill` bytes as a list of pendings.
+// Checks the first `fill` bytes as a list of pendings, and returns the first bad place.
 pub fn check_pending_buffer(buffer: &[u8], fill: usize) -> Option<usize>
     ensures { result ≡ pending_buffer_layout fill buffer.now }
 {
     filled(buffer, fill).or_else(|| pending::first_bad_pending(&buffer[..fill], 16))
 }
 
-// The layout of the first `fill` bytes as a list of breakpoints.
+// Checks the first `fill` bytes as a list of breakpoints, and returns the first bad place.
 pub fn check_breakpoint_buffer(buffer: &[u8], fill: usize) -> Option<usize>
     ensures { result ≡ breakpoint_buffer_layout fill buffer.now }
 {
     filled(buffer, fill).or_else(|| record::first_bad(&Breakpoints, &buffer[..fill]))
 }
 
-// The region's number, and the data's length and fill count.
+// Checks the region's number, then the data's length and fill count. A bad number gives place 0.
 pub fn check_data_buffer(buffer: &[u8], fill: usize, region: u16) -> Option<usize>
     ensures { result ≡ data_buffer_layout region fill buffer.now }
 {
@@ -67,7 +67,7 @@ pub fn check_data_buffer(buffer: &[u8], fill: usize, region: u16) -> Option<usiz
     filled(buffer, fill)
 }
 
-// A breakpoint record from `at` on.
+// Writes a breakpoint record from `at` on.
 pub fn put_breakpoint(d: &mut [u8], at: usize, location: Location, pcs: Pcs)
     requires { (pcs.count ≤ 5) × (at + 12 + 4 * pcs.count ≤ length d.old) × (pcs.first + 4 * pcs.count ≤ 2 ^ 32 + 3) }
     ensures { d.new ≡ append d.old at (breakpoint_bytes location pcs.first pcs.count) }

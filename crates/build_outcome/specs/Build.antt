@@ -15,12 +15,12 @@ use Rattle.refusal.specs.declared.Refusal.{Refusal}
 
 -- ---- patch order: "region by region in rising number, and list order inside a region"
 
--- those of the places whose pending is of region r
+-- the places whose pending is in region r
 unfoldable pub keep : List ℕ → ℕ → List ℕ → List ℕ
 keep pending r [] = []
 keep pending r (p ∷ ps) = elim (eqb (region_of pending p) r) [ true ↦ p ∷ keep pending r ps | false ↦ keep pending r ps ]
 
--- the places of the pendings of n regions from r on
+-- the places of the pendings in n regions, from region r on
 unfoldable pub order_from : ℕ → List ℕ → ℕ → List ℕ
 unfolding keep places
 order_from zero pending r = []
@@ -72,14 +72,14 @@ build_verdict job labels entry regions pending =
 
 -- ---- the patches written
 
--- the region list with the patches at the places written, in order
+-- the region list after the patches at these places are written, in order
 unfoldable pub write_patches : (labels : Table) (regions pending : List ℕ) → List ℕ → List ℕ → List ℕ
 unfolding write_pending
 write_patches labels regions pending [] d = d
 write_patches labels regions pending (p ∷ ps) d =
     write_patches labels regions pending ps (write_pending labels pending (region_for regions (pending_at pending p)) (pending_at pending p) d)
 
--- the region list with every patch written, in patch order
+-- the region list after every patch is written, in patch order
 abbrev pub patched_regions : (labels : Table) (regions pending : List ℕ) → List ℕ
 patched_regions labels regions pending = write_patches labels regions pending (patch_order regions pending) regions
 

@@ -23,7 +23,7 @@ is_letter b = between "A" "Z" b || between "a" "z" b || is "_" b
 unfoldable pub is_digit : ℕ → Bool
 is_digit b = between "0" "9" b
 
--- the class of the first test that passes, and the last where none does
+-- for a chain of tests: the first that passes gives the class; if none does, the last class counts
 abbrev pub or_else : Bool → Class → Class → Class
 or_else true k later = k
 or_else false k later = later
@@ -62,7 +62,7 @@ is_word Nothing = false
 abbrev pub word_byte : ℕ → Bool
 word_byte b = is_word (class_of b)
 
--- "blank (space, tab, carriage return)", of a class
+-- whether a class is "blank (space, tab, carriage return)"
 abbrev pub is_blank_class : Class → Bool
 is_blank_class Blank = true
 is_blank_class Newline = false

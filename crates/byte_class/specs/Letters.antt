@@ -1,4 +1,4 @@
--- The letter by which the table of classes names a class. Assumes nothing.
+-- The letter that stands for a class in the table of classes. Assumes nothing.
 use Rattle.std.specs.Prelude.{ℕ, zero, suc, List, [], ◌∷◌}
 use Prim.Native.Char.{code}
 use Rattle.byte_class.specs.Class.{class_of}

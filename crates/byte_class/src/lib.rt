@@ -16,7 +16,7 @@ pub enum Class {
     Nothing,
 }
 
-// What a mark begins or is.
+// The marks, by what each begins or is.
 #[derive(Clone, Copy)]
 pub enum Mark {
     Comment,
@@ -32,7 +32,7 @@ pub enum Mark {
     RightBrace,
 }
 
-// b blank, n newline, 0 digit, a letter, ~ nothing, and a mark is itself: 32 bytes to a row.
+// b means blank, n newline, 0 digit, a letter, ~ nothing; a mark stands for itself. 32 bytes to a row.
 const CLASSES: [u8; 256] = *b"\
     ~~~~~~~~~bn~~b~~~~~~~~~~~~~~~~~~\
     b~\"#$%~~()~+,-.~0000000000:~~~~~\
@@ -43,7 +43,7 @@ const CLASSES: [u8; 256] = *b"\
     ~~~~~~~~~~~~~~~~~~~~~~~~~~~~~~~~\
     ~~~~~~~~~~~~~~~~~~~~~~~~~~~~~~~~";
 
-// The table as a value: a constant is made anew wherever it stands, so whoever reads a text makes one and lends it.
+// The table as a value. A constant array is made anew at each use, so a reader of a text makes one value and lends it.
 #[derive(Clone, Copy)]
 pub struct ByteClasses {
     table: [u8; 256],
@@ -55,7 +55,7 @@ impl ByteClasses {
         ByteClasses { table: CLASSES }
     }
 
-    // The table's letter for a byte.
+    // Returns the table's letter for a byte.
     fn letter_of(&self, byte: u8) -> u8
         ensures { result ≡ letter_of (class_of byte) }
     {

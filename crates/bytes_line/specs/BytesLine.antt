@@ -1,4 +1,4 @@
--- A line of a buffer's bytes. Assumes nothing.
+-- The line that shows a buffer's bytes. Assumes nothing.
 use Rattle.std.specs.Prelude.{ℕ, List, ◌++◌}
 use Rattle.pseudo_names.specs.PseudoNames.{bytes_of}
 use Rattle.text.specs.Text.{hex_bytes}

@@ -1,4 +1,4 @@
-// A line of a buffer's name and all its bytes in hexadecimal.
+// Appends to a text the line of a buffer: its name, and all its bytes in hexadecimal.
 #![tactic(auto)]
 
 ghost use Rattle.std.specs.Prelude.{◌≡◌, ◌++◌, ◌+◌, ◌≤◌, length};
@@ -6,7 +6,7 @@ ghost use Rattle.bytes_line.specs.BytesLine.{bytes_line};
 
 use text::{MOST, Printed};
 
-// A buffer's name with a blank, and all its bytes.
+// Appends the line of a buffer. Its name comes with the blank after it.
 #[tactic(auto, unfolding(crate::specs::BytesLine::bytes_line))]
 pub fn push_bytes(out: &mut Printed, name: &[u8], bytes: &[u8])
     requires { length out.old + length (bytes_line name.now bytes.now) ≤ MOST }

@@ -1,4 +1,4 @@
-// Counts the constants of standard input's range by their forms (document 02, P14).
+// Counts the constants in the range on standard input, by form (document 02, P14).
 #![tactic(auto)]
 
 use count_text::CountFormsText;

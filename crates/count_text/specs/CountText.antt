@@ -18,6 +18,6 @@ abbrev pub answer_text : Result FormCounts Refusal → List ℕ
 answer_text (Ok c) = count_lines c
 answer_text (Err r) = refused_line (numbered r)
 
--- an input is the range's start and its end
+-- an input is the range's start and its end, four bytes each
 unfoldable pub count_text : List ℕ → List ℕ
 count_text s = answer_text (count_forms (word_or_zero s 0) (word_or_zero s 4))

@@ -1,4 +1,4 @@
-// What `count_forms` does (document 02, P14), from the bytes that it reads to those that it prints.
+// What `count_forms` does (document 02, P14), from its input bytes to the bytes that it prints.
 #![tactic(auto)]
 
 ghost use Rattle.std.specs.Prelude.{◌≡◌};
@@ -7,7 +7,7 @@ ghost use Rattle.count_text.specs.CountText.{count_text};
 use program::Program;
 use text::Printed;
 
-// The text that `count_forms` prints for an input: the four counts, or the refusal alone.
+// Writes what `count_forms` prints for an input: the four counts, or the refusal alone.
 #[tactic(auto, using(text::proofs::TextLaws::refused_most, text::proofs::TextLaws::last_most, std::proofs::lemmas::Grind::common_steps), unfolding(crate::specs::CountText::count_text))]
 pub fn count_forms(input: &[u8], out: &mut Printed)
     ensures { out.new ≡ count_text input.now }

@@ -7,7 +7,7 @@ use Rattle.lexer.specs.declared.TokenKind.TheVariants.{NewLine}
 use Rattle.lexer.specs.Tokens.{strip}
 use Rattle.cursor.specs.declared.Cursor.{Cursor}
 
--- an answer, and the index at which reading stands then
+-- an answer, and the index where reading goes on
 pub record At (A : Type 0) : Type 0 where
   pub answer : A
   pub index : ℕ
@@ -28,25 +28,25 @@ seek ts i = i + passed (drop i ts)
 abbrev pub no_token : Token
 no_token = record { location = record { source = 0; index = 0 }; kind = NewLine }
 
--- what stands at an index
+-- the token at an index
 unfoldable pub peek : List Token → ℕ → Option Token
 peek ts i = elim (ltb i (length ts)) [ true ↦ Some (get_or ts i no_token) | false ↦ None ]
 
--- the index behind it: "A position is a count of tokens: the smaller of the Rust's index and the list's length."
+-- the index after it: "A position is a count of tokens: the smaller of the Rust's index and the list's length."
 unfoldable pub step : List Token → ℕ → ℕ
 step ts i = elim (ltb i (length ts)) [ true ↦ i + 1 | false ↦ length ts ]
 
--- the next token that is not passed over, and the index behind it
+-- the next token that is not passed over, and the index after it
 unfoldable pub next_adjacent : List Token → ℕ → At (Option Token)
 unfolding peek step passed
 next_adjacent ts i = record { answer = peek ts (seek ts i); index = step ts (seek ts i) }
 
--- the same, and its own index
+-- the same token, and its own index
 unfoldable pub peek_adjacent : List Token → ℕ → At (Option Token)
 unfolding peek passed
 peek_adjacent ts i = record { answer = peek ts (seek ts i); index = seek ts i }
 
--- the byte place of an index in the list of records
+-- an index, with its byte place in the list of records
 abbrev pub cursor_at : List ℕ → ℕ → Cursor
 cursor_at s i = record { index = i; at = get_or (places s) i (length s) }
 

@@ -1,4 +1,4 @@
-// `LexerCursor`, made over a borrowed token list (cursor.rs). Its methods are thin: the work is done on slice and position.
+// `LexerCursor`: reads a borrowed token list from a position on (cursor.rs). Its methods are thin: the functions of lib.rt on slice and position do the work.
 ghost use Rattle.std.specs.Prelude.{◌≡◌};
 ghost use Rattle.lexer.specs.Tokens.{tokens};
 ghost use Rattle.cursor.specs.Cursors.{cursor_at, peek, step, seek, next_adjacent, peek_adjacent};
@@ -8,7 +8,7 @@ use crate::Cursor;
 use lexer::Token;
 use std::marker::Model;
 
-// The list, the count of tokens before the position, and its byte place.
+// A token list, the number of tokens before the position, and the position's byte place.
 #[derive(Drop)]
 pub struct LexerCursor<'a> {
     tokens: &'a [u8],
@@ -27,7 +27,7 @@ impl<'a> Model for LexerCursor<'a> {
 }
 
 impl<'a> LexerCursor<'a> {
-    // A cursor at a position of the list. The Rust starts at the first token, and is then set to a position.
+    // Returns a cursor at a position of the list. The Rust starts at the first token and then sets the position.
     pub fn new(tokens: &'a [u8], position: Cursor) -> Self
         requires { Placed tokens.now position }
         ensures { result ≡ (record { list = tokens.now; index = position.index }) }
@@ -56,14 +56,14 @@ impl<'a> LexerCursor<'a> {
         self.at = position.at;
     }
 
-    // What stands at its position.
+    // Returns the current token, or None at the list's end.
     pub fn peek(&self) -> Option<Token>
         ensures { result ≡ peek (tokens self.now.list) self.now.index }
     {
         crate::peek(self.tokens, self.position())
     }
 
-    // The token at its position, behind which it then stands; at the list's end it stays.
+    // Returns the current token and moves past it; at the list's end it stays.
     pub fn next(&mut self) -> Option<Token>
         ensures { Reads self.old (record { answer = peek (tokens self.old.list) self.old.index; index = step (tokens self.old.list) self.old.index })
             result self.new }
@@ -73,14 +73,14 @@ impl<'a> LexerCursor<'a> {
         seen
     }
 
-    // Moves to the next token that is not passed over, or to the list's end.
+    // Moves past Comment and Comma to the next other token, or to the list's end.
     fn seek(&mut self)
         ensures { self.new ≡ (record { list = self.old.list; index = seek (tokens self.old.list) self.old.index }) }
     {
         self.set_position(crate::seek_without(self.tokens, self.position()));
     }
 
-    // The next token that is not passed over, at which it then stands.
+    // Moves past Comment and Comma, and returns the token there.
     #[tactic(auto, unfolding(crate::specs::Cursors::peek_adjacent))]
     pub fn seek_without(&mut self) -> Option<Token>
         ensures { Reads self.old (peek_adjacent (tokens self.old.list) self.old.index) result self.new }
@@ -89,7 +89,7 @@ impl<'a> LexerCursor<'a> {
         self.peek()
     }
 
-    // The next token that is not passed over, behind which it then stands.
+    // Returns the next token other than Comment and Comma, and moves past it.
     #[tactic(auto, unfolding(crate::specs::Cursors::next_adjacent))]
     pub fn next_adjacent(&mut self) -> Option<Token>
         ensures { Reads self.old (next_adjacent (tokens self.old.list) self.old.index) result self.new }

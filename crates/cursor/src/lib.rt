@@ -1,4 +1,4 @@
-// A position in a token list, by value beside the list (cursor.rs): a read costs the tokens that it passes.
+// A position in a token list, held as a value beside the list (cursor.rs): a read costs only the tokens that it passes.
 #![tactic(auto)]
 
 ghost use Rattle.std.specs.Prelude.{◌≡◌};
@@ -11,14 +11,14 @@ mod lexer_cursor;
 use lexer::{Token, TokenKind};
 pub use lexer_cursor::LexerCursor;
 
-// The count of tokens before the position, and its byte place.
+// A position: the number of tokens before it, and its byte place.
 #[derive(Clone, Copy)]
 pub struct Cursor {
     pub index: usize,
     pub at: usize,
 }
 
-// The position of a token number, or the list's end.
+// Returns the position of the token with that number, or the list's end.
 pub fn start(list: &[u8], position: usize) -> Cursor
     requires { token_layout list.now ≡ None }
     ensures { (result ≡ cursor_at list.now (start_index (tokens list.now) position)) × Placed list.now result }
@@ -36,7 +36,7 @@ pub fn start(list: &[u8], position: usize) -> Cursor
     }
 }
 
-// What stands at the position.
+// Returns the token at the position.
 // kept: this and `next` beside the methods of `LexerCursor`, as document 01 wants "thin peek and next over covered functions on slice and position".
 fn peek(list: &[u8], position: Cursor) -> Option<Token>
     requires { Placed list.now position }
@@ -49,7 +49,7 @@ fn peek(list: &[u8], position: Cursor) -> Option<Token>
     }
 }
 
-// The position behind it; at the list's end it stays.
+// Returns the position past that token; at the list's end it stays.
 pub fn next(list: &[u8], position: Cursor) -> Cursor
     requires { Placed list.now position }
     ensures { (result ≡ cursor_at list.now (step (tokens list.now) position.index)) × Placed list.now result }
@@ -64,14 +64,14 @@ pub fn next(list: &[u8], position: Cursor) -> Cursor
     }
 }
 
-// Comment and Comma are passed over.
+// Whether operand reading stops at this kind: it passes over Comment and Comma.
 fn is_adjacent_kind(kind: TokenKind) -> bool
     ensures { result ≡ is_adjacent_kind kind }
 {
     !matches!(kind, TokenKind::Comment(_) | TokenKind::Comma)
 }
 
-// The position of the next token that is not passed over, or the list's end.
+// Returns the position of the next token that is neither Comment nor Comma, or the list's end.
 fn seek_without(list: &[u8], position: Cursor) -> Cursor
     requires { Placed list.now position }
     ensures { (result ≡ cursor_at list.now (seek (tokens list.now) position.index)) × Placed list.now result }

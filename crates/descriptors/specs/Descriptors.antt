@@ -37,7 +37,7 @@ alt_class_of s at = byte_at s (at + 10)
 abbrev pub alt_key_of : List ℕ → ℕ → ℕ
 alt_key_of s at = byte_at s (at + 11)
 
--- the greatest number that a field may hold, where the encoding has a use for it; else "A field that the encoding has no use for is 0."
+-- the greatest value of a field, if the encoding uses it; else "A field that the encoding has no use for is 0."
 -- Size is used by FP3Register, FP2Register, FPMove and FPCond, the flag by FPMove, FPCrossMove and FPBranch ("Flags are 0 or 1")
 abbrev pub most_size : ℕ → ℕ
 most_size e = elim (leb 15 e && leb e 18) [ true ↦ 2 | false ↦ 0 ]
@@ -45,7 +45,7 @@ most_size e = elim (leb 15 e && leb e 18) [ true ↦ 2 | false ↦ 0 ]
 abbrev pub most_flag : ℕ → ℕ
 most_flag e = elim (eqb e 17 || leb 19 e) [ true ↦ 1 | false ↦ 0 ]
 
--- the alternative is used by Immediate: its class and key are 0 where it is not present
+-- only Immediate uses the alternative; if there is none, its class and key are 0
 abbrev pub most_present : ℕ → ℕ
 most_present e = elim (eqb e 7) [ true ↦ 1 | false ↦ 0 ]
 
@@ -69,7 +69,7 @@ descriptor_layout s = within_limit s (first_bad (descriptor_ok s) (places s))
 abbrev pub descriptor_repeat : List ℕ → Option ℕ
 descriptor_repeat s = first_repeat 8 s
 
--- the place of the descriptor of a name
+-- the place of the descriptor with that name
 abbrev pub find_descriptor : List ℕ → List ℕ → Option ℕ
 find_descriptor s name = first_named 8 s name
 
@@ -83,7 +83,7 @@ size_from n = get_or (Single ∷ Double ∷ []) n Word
 abbrev pub alternative_at : List ℕ → ℕ → Option Opcode
 alternative_at s at = elim (eqb (present_of s at) 1) [ true ↦ Some (opcode_from (alt_class_of s at) (alt_key_of s at)) | false ↦ None ]
 
--- the twenty-one encodings in order, with what each carries
+-- the first twenty encodings in order, with what each carries; the last is FPBranch, in `instruction_at`
 abbrev pub encodings_at : List ℕ → ℕ → List Encoding
 encodings_at s at =
     Register ∷ RegisterShift ∷ Source ∷ Destination ∷ Inputs ∷ Sham ∷ SpecialBranch ∷ Immediate (alternative_at s at) ∷ LoadImmediate ∷ Jump ∷ Branch ∷ BranchZero

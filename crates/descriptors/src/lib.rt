@@ -18,17 +18,17 @@ const MNEMONIC: usize = 32;
 
 const DESCRIPTOR: usize = 33;
 
-// The most descriptors of a list: one has thirteen bytes at least.
+// The most descriptors that a list can hold: each has at least 13 bytes.
 const MOST: usize = 5041;
 
-// A row of the instruction table: how a mnemonic's word starts and is laid out.
+// A row of the instruction table: the opcode and the layout of a mnemonic's word.
 #[derive(Clone, Copy)]
 pub struct Instruction {
     pub opcode: Opcode,
     pub encoding: Encoding,
 }
 
-// The mnemonic in lower case: the first `len` bytes, and zeros behind them.
+// The mnemonic in lower case: its first `len` bytes, then zeros.
 #[derive(Clone, Copy)]
 pub struct Mnemonic {
     pub bytes: [u8; 16],
@@ -36,7 +36,7 @@ pub struct Mnemonic {
     pub location: Location,
 }
 
-// The layout of a mnemonic.
+// The layout of the mnemonic record.
 #[derive(Clone, Copy)]
 struct MnemonicLayout;
 
@@ -53,7 +53,7 @@ impl record::Layout for MnemonicLayout {
     }
 }
 
-// The place of the first record that breaks the layout, the list's end where there is none, or the limit.
+// Returns the place of the first record that breaks the layout: 0 if the list is empty, the limit if it is too long.
 #[tactic(auto, using(crate::proofs::MnemonicsLaws::mnemonic_none, crate::proofs::MnemonicsLaws::mnemonic_first))]
 pub fn first_bad_mnemonic(list: &[u8]) -> Option<usize>
     ensures { result ≡ mnemonic_layout list.now }
@@ -64,7 +64,7 @@ pub fn first_bad_mnemonic(list: &[u8]) -> Option<usize>
     record::first_bad_of_within(&MnemonicLayout, list, 1)
 }
 
-// The one mnemonic of a list that keeps its layout.
+// Reads the list's one mnemonic, in lower case.
 pub fn read_mnemonic(list: &[u8]) -> Mnemonic
     requires { mnemonic_layout list.now ≡ None }
     ensures { (take result.len result.bytes ≡ mnemonic_name list.now) × (result.len ≤ 16)
@@ -82,7 +82,7 @@ pub fn read_mnemonic(list: &[u8]) -> Mnemonic
     }
 }
 
-// The fixed fields of a descriptor, at its record's place in a list.
+// A descriptor's fixed fields: a list, and the place of the record in it.
 #[derive(Clone, Copy)]
 pub struct Descriptor<'a> {
     list: &'a [u8],
@@ -98,7 +98,7 @@ impl<'a> Descriptor<'a> {
         Descriptor { list, at }
     }
 
-    // Whether the fields are those of a descriptor.
+    // Whether each field holds a value that a descriptor may have.
     #[tactic(auto, unfolding(crate::specs::Descriptors::fields_ok))]
     fn fields_ok(self) -> bool
         ensures { result ≡ fields_ok self.entry.list.now self.entry.at }
@@ -124,7 +124,7 @@ impl<'a> Descriptor<'a> {
         }
     }
 
-    // The encoding, with what it carries.
+    // Returns the encoding, with the size, flag or alternative that it carries.
     fn encoding(self) -> Encoding
         ensures { result ≡ (instruction_at self.entry.list.now self.entry.at).encoding }
     {
@@ -190,7 +190,7 @@ fn most_present(encoding: u8) -> u8
     if encoding == numbers::IMMEDIATE { 1 } else { 0 }
 }
 
-// What the alternative's fields may hold at most: `most` where it is present, else 0.
+// Returns the greatest value of a field of the alternative: `most` if there is an alternative, else 0.
 fn most_alternative(present: u8, most: u8) -> u8
     ensures { result ≡ most_alternative present most }
 {
@@ -215,7 +215,7 @@ impl record::Layout for DescriptorLayout {
     }
 }
 
-// The place of the first record that is no descriptor, or the limit.
+// Returns the place of the first record that is no descriptor, or the limit if the list is too long.
 #[tactic(auto, unfolding(crate::specs::Descriptors::descriptor_layout))]
 pub fn first_bad_descriptor(list: &[u8]) -> Option<usize>
     ensures { result ≡ descriptor_layout list.now }
@@ -248,7 +248,7 @@ impl<'a> Descriptors<'a> {
         Descriptors { list }
     }
 
-    // The records with their names.
+    // Returns the records with their names.
     fn named(&self) -> Named<'a, 8>
         ensures value { result ≡ self.now }
         ensures layout { descriptor_layout self.now ≡ None }
@@ -256,7 +256,7 @@ impl<'a> Descriptors<'a> {
         Named::new(self.list)
     }
 
-    // The first descriptor that shares its name with an earlier one, by an index of the list.
+    // Returns the first descriptor that shares its name with an earlier one. Makes an index to find it.
     fn repeat_by_index(&self) -> Option<usize>
         ensures { result ≡ descriptor_repeat self.now }
     {
@@ -265,7 +265,7 @@ impl<'a> Descriptors<'a> {
         NameIndex::make(self.named(), &mut order, &mut spare).first_repeat()
     }
 
-    // The first descriptor that shares its name with an earlier one: there is none where the names rise.
+    // Returns the first descriptor that shares its name with an earlier one. If the names rise, there is none and no index is made.
     pub fn first_repeat(&self) -> Option<usize>
         ensures { result ≡ descriptor_repeat self.now }
     {
@@ -275,7 +275,7 @@ impl<'a> Descriptors<'a> {
         self.repeat_by_index()
     }
 
-    // The row of the descriptor at a place.
+    // Returns the row of the descriptor at `place`.
     pub fn instruction(&self, place: usize) -> Instruction
         requires { place + 12 ≤ length self.now }
         ensures { result ≡ instruction_at self.now place }
@@ -283,7 +283,7 @@ impl<'a> Descriptors<'a> {
         Descriptor::new(self.list, place).instruction()
     }
 
-    // The place of the descriptor of that name.
+    // Returns the place of the descriptor with that name.
     pub fn find(&self, name: &[u8]) -> Option<usize>
         ensures { result ≡ find_descriptor self.now name.now }
     {

@@ -1,4 +1,4 @@
-// Runs the image of standard input dry and prints the outcome (document 02, P10).
+// Dry-runs the image on standard input and prints the outcome (document 02, P10).
 #![tactic(auto)]
 
 use dry_run_text::DryRunText;

@@ -1,4 +1,4 @@
-// What `dry_run` prints for each case of standard input (vectors/make_dry_run). A case is an input after its 4-byte count.
+// Prints what `dry_run` prints for each case on standard input (vectors/make_dry_run). A case is an input after its 4-byte count.
 #![tactic(auto)]
 
 use dry_run_text::DryRunText;

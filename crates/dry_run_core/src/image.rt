@@ -1,4 +1,4 @@
-// The image of a region list: where its regions stand, found once, and the word at a pc.
+// The image of a region list: finds the regions' places once, then reads the word at a pc.
 #![tactic(auto)]
 
 ghost use Rattle.std.specs.Prelude.{◌≡◌, ◌≤◌, length, take};
@@ -42,7 +42,7 @@ impl<'a> Placed<'a> {
         Placed { regions, at, count }
     }
 
-    // The word at pc, of the first region that has it.
+    // Returns the word at pc, from the first region that has it.
     pub(crate) fn fetch(&self, pc: u32) -> Option<u32>
         ensures { result ≡ fetch self.now pc }
     {

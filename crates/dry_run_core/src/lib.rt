@@ -36,7 +36,7 @@ pub fn dry_run(regions: &[u8], machine: Machine, allowance: u32) -> DryRun
     }
 }
 
-// The image, where a run may start from that pc.
+// Returns the image if a run may start at this pc, else the refusal.
 fn check(regions: &[u8], pc: u32) -> Result<Placed<'_>, Refusal>
     ensures { MatchResult result
         (λ image. (dry_run_verdict regions.now pc ≡ Ok tt) × (image ≡ image_of regions.now))
@@ -56,7 +56,7 @@ fn can_start(image: &Placed<'_>, pc: u32) -> bool
     pc % 4 == 0 && image.fetch(pc).is_some()
 }
 
-// $zero is 0, whatever was given for it.
+// Sets $zero to 0, whatever was given for it.
 fn start(machine: Machine) -> Machine
     ensures { result ≡ started machine }
 {

@@ -20,7 +20,7 @@ fn ran(machine: Machine, reason: Reason, steps: u32) -> Ran
     }
 }
 
-// Runs the words from the machine's pc on, one a step, until the allowance is used up or a word stops the run.
+// Runs words from the machine's pc on, one a step, until the allowance is used up, the pc has no whole word, or a word stops the run.
 pub(crate) fn run(image: &Placed<'_>, machine: Machine, allowance: u32) -> Ran
     requires { Zero machine.registers }
     ensures { result ≡ run allowance image.now machine }

@@ -32,7 +32,7 @@ dry_run_verdict regions pc = and_then (layout_verdict 0 (region_layout regions))
 
 -- ---- the whole run
 
--- "$zero always 0": what was given for it is not taken
+-- "$zero always 0": a value given for it is ignored
 abbrev pub started : Machine → Machine
 started m = at m.pc (set m.registers 0 0)
 

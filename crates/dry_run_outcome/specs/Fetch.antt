@@ -3,7 +3,7 @@ use Rattle.std.specs.Prelude.{ℕ, ◌+◌, ◌-◌, ◌%◌, ◌^◌, [], ◌�
 use Rattle.record.specs.Bytes.{le32}
 use Rattle.reading.specs.Reading.{Image}
 
--- "pc, which is region address plus offset", wrapping: the offset of a pc
+-- "pc, which is region address plus offset", wrapping: the offset of a pc in a region
 abbrev pub offset_in : (address pc : ℕ) → ℕ
 offset_in address pc = (pc + 2 ^ 32 - address) % 2 ^ 32
 

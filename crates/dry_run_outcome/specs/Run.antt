@@ -12,7 +12,7 @@ abbrev pub step_fetched : Option ℕ → Machine → Step
 step_fetched None m = stops Pc
 step_fetched (Some w) m = step_word w m
 
--- "on a pc without a whole word", before the word is looked at
+-- a step stops "on a pc without a whole word" before any word is looked at
 unfoldable pub step : Image → Machine → Step
 unfolding fetch step_word
 step image m = step_fetched (fetch image m.pc) m
@@ -20,7 +20,7 @@ step image m = step_fetched (fetch image m.pc) m
 abbrev pub ended : Machine → Reason → Ran
 ended m reason = record { machine = m; reason = reason; steps = 0 }
 
--- the same run, n steps later
+-- the same run with n more steps counted, those taken before it began
 abbrev pub later : ℕ → Ran → Ran
 later n r = record { machine = r.machine; reason = r.reason; steps = n + r.steps }
 
@@ -31,6 +31,6 @@ unfolding step
 run zero image m = ended m Allowance
 run (suc n) image m = elim (step image m) [ goes m' ↦ later 1 (run n image m') | stops reason ↦ ended m reason ]
 
--- a run of so many steps
+-- a run that ended after n steps
 abbrev pub ran_for : ℕ → Machine → Reason → Ran
 ran_for n m reason = record { machine = m; reason = reason; steps = n }

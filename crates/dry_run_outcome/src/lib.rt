@@ -22,7 +22,7 @@ pub struct Stopped {
 // A dry run's answer: how it stopped, or why it does not start.
 pub type RunAnswer = Result<Stopped, Refusal>;
 
-// The answer, and the state: of a refused run the one that was given.
+// The answer and the final state; a refused run keeps the state that was given.
 #[derive(Clone, Copy)]
 pub struct DryRun {
     pub machine: Machine,

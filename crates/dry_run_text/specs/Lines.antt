@@ -12,7 +12,7 @@ use Rattle.input.specs.Input.{list_of, behind_lists, word_or_zero}
 use Rattle.text.specs.Text.{last_field, refused_line}
 use Rattle.register_bytes.specs.RegisterBytes.{registers_in}
 
--- `reason`, and `allowance`, `pc`, `word` or `overflow`
+-- the name after `reason`: `allowance`, `pc`, `word` or `overflow`
 abbrev pub reason_name : Reason → List ℕ
 reason_name Allowance = bytes_of "allowance"
 reason_name Pc = bytes_of "pc"
@@ -50,7 +50,7 @@ abbrev pub outcome_text : RunAnswer → Machine → List ℕ
 outcome_text (Ok s) m = run_text s.reason s.steps m
 outcome_text (Err r) m = refused_line (numbered r)
 
--- an input is the region list, behind it the 32 registers, the pc and the allowance, four bytes each
+-- an input is the region list, then the 32 registers, the pc and the allowance, four bytes each
 abbrev pub machine_in : List ℕ → Machine
 machine_in numbers = record { pc = word_or_zero numbers 128; registers = registers_in numbers }
 

@@ -1,4 +1,4 @@
-// What `dry_run` does (document 02, P10), from the bytes that it reads to those that it prints.
+// What `dry_run` does (document 02, P10), from its input bytes to the bytes that it prints.
 #![tactic(auto)]
 
 ghost use Rattle.std.specs.Prelude.{◌≡◌, ◌++◌, ◌+◌, ◌≤◌, length};
@@ -11,7 +11,7 @@ use text::{MOST, Printed};
 
 mod lines;
 
-// The machine that the numbers behind the regions give.
+// Reads the machine from the numbers that follow the regions.
 fn machine_in(numbers: &[u8]) -> Machine
     ensures { result ≡ machine_in numbers.now }
 {
@@ -21,7 +21,7 @@ fn machine_in(numbers: &[u8]) -> Machine
     }
 }
 
-// The four lines of a run.
+// Writes the four lines of a run.
 #[tactic(auto, using(std::proofs::lemmas::Grind::common_steps))]
 fn put_run(out: &mut Printed, reason: Reason, steps: u32, machine: Machine)
     requires { length out.old + length (run_text reason steps machine) ≤ MOST }
@@ -33,7 +33,7 @@ fn put_run(out: &mut Printed, reason: Reason, steps: u32, machine: Machine)
     lines::put_registers(out, &machine.registers);
 }
 
-// The text that `dry_run` prints for an input: the run's lines, or the refusal alone.
+// Writes what `dry_run` prints for an input: the run's lines, or the refusal alone.
 #[tactic(auto, using(text::proofs::TextLaws::refused_most, crate::proofs::LinesLaws::run_most), unfolding(crate::specs::Lines::dry_run_text))]
 pub fn dry_run(input: &[u8], out: &mut Printed)
     ensures { out.new ≡ dry_run_text input.now }

@@ -1,4 +1,4 @@
-// The lines of a dry run.
+// Writes the lines of a dry run.
 ghost use Rattle.std.specs.Prelude.{◌≡◌, ◌++◌, ◌+◌, ◌≤◌, length};
 ghost use Rattle.dry_run_text.specs.Lines.{reason_line, hex_field, hex_fields, pc_line, registers_line};
 
@@ -18,7 +18,7 @@ pub(crate) fn put_reason(out: &mut Printed, reason: Reason)
     }
 }
 
-// A blank and eight digits.
+// Writes a blank and eight hexadecimal digits.
 fn put_hex_field(out: &mut Printed, n: u32)
     requires { length out.old + length (hex_field n) ≤ MOST }
     ensures { out.new ≡ out.old ++ hex_field n }

@@ -1,4 +1,4 @@
-// The entries of an emit call: the caller's fill counts are lent, and the work is done by value below.
+// The entries of an emit call: they borrow the caller's fill counts, and emit_core works on a copy of them.
 #![tactic(auto)]
 
 ghost use Rattle.emit_outcome.specs.Call.{lent_of, call_of};
@@ -7,7 +7,7 @@ ghost use Rattle.emit_outcome.specs.Contract.{EmittedBy, EmittedIs};
 use emit_outcome::{EmitAnswer, FillCounts, LinePlace, Lists};
 use jobs::Job;
 
-// "three fill counts, which the emitter updates in the caller's record"
+// Assembles one line as the commit does; updates `counts` if accepted: "three fill counts, which the emitter updates in the caller's record".
 pub fn do_instruction(
     counts: &mut FillCounts,
     tokens: &[u8],
@@ -40,7 +40,7 @@ pub fn do_instruction(
     out.answer
 }
 
-// The entry of a job, whose counts are lent.
+// Assembles one line in the given job; updates `counts` if accepted.
 pub fn do_job(
     job: Job,
     counts: &mut FillCounts,

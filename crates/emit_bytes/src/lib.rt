@@ -10,7 +10,7 @@ ghost use Rattle.emit_bytes.specs.Appended.{word_bytes, onward, pair_bytes, pend
 use emit_pairs::{EmitInstruction, InstructionPair};
 use pending::{InstructionLabel, Origin};
 
-// "at most five words, each four little-endian bytes": how many of the five count is `count_of`'s answer.
+// "at most five words, each four little-endian bytes": `count_of` says how many of the five are the line's.
 pub fn words_of(instructions: [InstructionPair; 5]) -> [[u8; 4]; 5]
     ensures { result ≡ map (λ (p : InstructionPair). le32_bytes p.word) instructions }
 {
@@ -30,7 +30,7 @@ pub fn count_of(e: EmitInstruction) -> usize
     e.count
 }
 
-// The words that count, from `at` on.
+// Writes the line's words from `at` on.
 pub fn put_words(d: &mut [u8], at: usize, e: EmitInstruction)
     requires { at + 4 * e.count ≤ length d.old }
     ensures { d.new ≡ append d.old at (word_bytes (pairs_of e)) }
@@ -41,7 +41,7 @@ pub fn put_words(d: &mut [u8], at: usize, e: EmitInstruction)
     }
 }
 
-// The origin of the next word.
+// Returns the origin of the next word.
 fn onward(origin: Origin) -> Origin
     requires { origin.offset + 4 < 2 ^ 32 }
     ensures { result ≡ onward origin }
@@ -53,7 +53,7 @@ fn onward(origin: Origin) -> Origin
     }
 }
 
-// The pending records of a line: its words, and the token list in which the names stand that they wait for.
+// What a line's pending records are made from: its words, and the token list that holds the names they wait for.
 #[derive(Clone, Copy)]
 pub struct LinePendings<'a> {
     tokens: &'a [u8],
@@ -69,7 +69,7 @@ impl<'a> LinePendings<'a> {
         LinePendings { tokens, words }
     }
 
-    // How many bytes the record of one word takes.
+    // Returns how many bytes the record of one word takes: none if it waits for no label.
     fn pair_size(self, waits: Option<InstructionLabel>) -> usize
         ensures { (result ≡ pair_len self.entry.tokens.now waits) × (result ≤ 65572) }
     {
@@ -80,7 +80,7 @@ impl<'a> LinePendings<'a> {
         )
     }
 
-    // How many bytes they take.
+    // Returns how many bytes all records take.
     pub fn size(self) -> usize
         ensures { (result ≡ pendings_len self.entry.tokens.now (pairs_of self.entry.words)) × (result ≤ 327860) }
     {
@@ -91,7 +91,7 @@ impl<'a> LinePendings<'a> {
         size
     }
 
-    // The record of one word, if it waits for a label; gives the place behind it.
+    // Writes the record of one word, if it waits for a label. Returns the place after it.
     #[tactic(auto, using(record::proofs::StoresLaws::append_none))]
     fn put_pair(
         self,
@@ -110,7 +110,7 @@ impl<'a> LinePendings<'a> {
         at + self.pair_size(waits)
     }
 
-    // They go from `at` on, one for each word that waits for a label. `origin` is that of the first word.
+    // Writes the records from `at` on, one for each word that waits for a label. `origin` is the first word's.
     pub fn put(self, d: &mut [u8], at: usize, origin: Origin)
         requires offset_fits { origin.offset + 20 < 2 ^ 32 }
         requires in_bounds { at + pendings_len self.tokens.now (pairs_of self.words) ≤ length d.old }

@@ -1,4 +1,4 @@
--- What the steps of an emit call know of the lists that passed, and of the line that was read. Assumes nothing.
+-- What the steps of an emit call know about lists that passed their checks, and about the line that was read. Assumes nothing.
 use Rattle.std.specs.Prelude.{ℕ, ◌+◌, ◌*◌, ◌^◌, ◌≤◌, ◌<◌, ◌≡◌, List, [], length, None, Result, Ok, Err}
 use Rattle.lexer.specs.Tokens.{token_layout}
 use Rattle.descriptors.specs.Mnemonics.{mnemonic_layout}
@@ -36,7 +36,7 @@ pub record ListsGood (token_list mnemonic descriptors : List ℕ) (lent : Lent) 
   pub descriptors_good : descriptor_layout descriptors ≡ None
   pub filled : Filled token_list lent counts
 
--- the line that has these words, with the index behind it
+-- the line with these words; `index` is the token position after it
 abbrev pub words_line : EmitInstruction → (index : ℕ) → Line
 words_line words index = record { answer = Made; pairs = pairs_of words; form = words.loaded; index = index }
 
@@ -44,21 +44,21 @@ abbrev pub answer_line : Result EmitInstruction Unmade → (index : ℕ) → Lin
 answer_line (Ok words) index = words_line words index
 answer_line (Err unmade) index = record { answer = unmade_answer unmade; pairs = []; form = Unloaded; index = index }
 
--- the line that the code holds: its answer, its words, its form and the index behind it
+-- the line that the code has read: its answer, its words, its form and the token position after it
 abbrev pub made_line : LineRead → Line
 made_line read = answer_line read.answer read.position
 
--- what the checks of a line give: its words, or the refusal at which they stop
+-- the checks of a line give its words, or the refusal that stops them
 abbrev pub PassedBy : Verdict → LineRead → Result EmitInstruction Refusal → Type 0
 PassedBy stop read (Ok words) = (stop ≡ Ok tt) × (read.answer ≡ Ok words)
 PassedBy stop read (Err refusal) = stop ≡ Err refusal
 
--- what a check gives, a refusal with the position at which reading stands then
+-- adds to a refusal the token position that reading has reached
 abbrev pub stopped_at : {A : Type 0} → (position : ℕ) → Result A Refusal → Result A RefusedLine
 stopped_at position (Ok x) = Ok x
 stopped_at position (Err r) = Err (record { refusal = r; position = position })
 
--- what a call answers that gives this, and what it leaves: a refusal leaves the counts
+-- the answer of a call and its counts: a refusal leaves the counts as they were
 abbrev pub emitted_by : FillCounts → Result Appended RefusedLine → Emitted
 emitted_by counts (Ok appended) = record { answer = Ok appended.done; counts = appended.counts }
 emitted_by counts (Err refused) = record { answer = Err refused; counts = counts }
@@ -66,7 +66,7 @@ emitted_by counts (Err refused) = record { answer = Err refused; counts = counts
 abbrev pub left_by : FillCounts → Result Appended RefusedLine → Lent → EmitOutcome
 left_by counts given lent = let e = emitted_by counts given in outcome_of e.answer e.counts lent
 
--- the room that n words and `size` bytes of pending records have
+-- there is room for n words and for `size` bytes of pending records
 pub record RoomFor (numbers : LineNumbers) (lent : Lent) (n size : ℕ) : Type 0 where
   pub last_pc : 0 < n → numbers.place.address + numbers.counts.data_len + 4 * n ≤ 2 ^ 32 + 3
   pub data_fits : numbers.counts.data_len + 4 * n ≤ length lent.region_data

@@ -1,4 +1,4 @@
-// The checks of an emit call, over unchanged bytes: the lists (1, 2), and a line that was made (4 to 12, 19, 20 and 27).
+// The checks of an emit call, which change no bytes: of its lists (refusals 1 and 2), and of a line that was read (4 to 12, 19, 20 and 27).
 #![tactic(auto)]
 
 ghost use Rattle.std.specs.Prelude.{◌≡◌, ◌≤◌};
@@ -18,7 +18,7 @@ use operand::Miss;
 use record::Location;
 use refusal::Refusal;
 
-// A line that was read: where its mnemonic stands, its words or why there are none, and the position behind its operands.
+// A line that was read: the location of its mnemonic, its words or why there are none, and the token position after its operands.
 #[derive(Clone, Copy)]
 pub struct LineRead {
     pub line: Location,
@@ -26,14 +26,14 @@ pub struct LineRead {
     pub position: u32,
 }
 
-// What a check gives, a refusal with the position at which reading stands then.
+// Adds to a refusal the token position that reading has reached. An accepted value stays as it is.
 pub fn at_position<T>(position: u32, given: Result<T, Refusal>) -> Result<T, RefusedLine>
     ensures { result ≡ stopped_at position given }
 {
     given.map_err(|refusal| RefusedLine { refusal, position })
 }
 
-// Refusal 1: the first list or buffer that breaks its layout.
+// Refuses with 1 the first list or buffer that breaks its layout.
 pub fn check_layouts(
     lists: Lists<'_>,
     data: &[u8],
@@ -56,7 +56,7 @@ pub fn check_layouts(
     refusal::check_layout(5, breakpoints::check_breakpoint_buffer(breakpoints, filled))
 }
 
-// Refusals 1 and 2.
+// Checks the lists and buffers: refusals 1 and 2.
 pub fn check_lists(
     lists: Lists<'_>,
     data: &[u8],
@@ -72,7 +72,7 @@ pub fn check_lists(
     refusal::check_names(2, Descriptors::new(lists.descriptors).first_repeat())
 }
 
-// The refusal of an operand that was missed, on a line whose mnemonic stands at `line`.
+// Returns the refusal, 4 to 8, for an operand that could not be read. `line` is the location of the mnemonic.
 fn miss_refusal(line: Location, miss: Miss) -> Refusal
     ensures { result ≡ miss_refusal line miss }
 {
@@ -97,7 +97,7 @@ fn miss_refusal(line: Location, miss: Miss) -> Refusal
     }
 }
 
-// Refusals 9, 19, 20 and 27.
+// Returns the refusal for a fault of the line: 9, 19, 20 or 27.
 fn fault_refusal(line: Location, fault: Fault) -> Refusal
     ensures { result ≡ fault_refusal line fault }
 {
@@ -109,14 +109,14 @@ fn fault_refusal(line: Location, fault: Fault) -> Refusal
     }
 }
 
-// A NewLine gives the mnemonic's location.
+// Returns the location to report: the met token's, or the mnemonic's if that token is a NewLine.
 fn met_location(line: Location, kind: u8, met: Location) -> Location
     ensures { result ≡ met_location line kind met }
 {
     if kind == lexer::NEW_LINE { line } else { met }
 }
 
-// Refusal 11: the first of n words whose pc does not fit 32 bits.
+// Refuses with 11 at the first of the n words whose pc does not fit 32 bits.
 fn check_edge(numbers: LineNumbers, line: Location, n: usize) -> Result<(), Refusal>
     requires { (n ≤ 5) × (numbers.counts.data_len ≤ 65536) }
     ensures { result ≡ edge_stop line numbers.place.address n numbers.counts.data_len }
@@ -131,7 +131,7 @@ fn check_edge(numbers: LineNumbers, line: Location, n: usize) -> Result<(), Refu
     Ok(())
 }
 
-// Refusals 10, 11 and 12.
+// Checks that there is room for the line's words: refusals 10, 11 and 12.
 fn check_room(
     tokens: &[u8],
     data: &[u8],
@@ -168,7 +168,7 @@ fn check_room(
     Ok(())
 }
 
-// Refusals 4 to 12, 19, 20 and 27 of a line that was read, or its words.
+// Returns the words of a line that was read, or its refusal: 4 to 12, 19, 20 or 27.
 pub fn check_line(
     tokens: &[u8],
     data: &[u8],

@@ -1,4 +1,4 @@
--- A line that was read: what its mnemonic is, where that stands, and the line that is made of the operands. Assumes nothing.
+-- A line that was read: what its mnemonic means, the location of the mnemonic, and the line made from the operands. Assumes nothing.
 use Rattle.std.specs.Prelude.{ℕ, ◌≤◌, List, length, Bool, true, false, ◌≡◌, Result, Ok, Err}
 use Rattle.jobs.specs.declared.Job.{Job}
 use Rattle.lexer.specs.Tokens.{tokens}
@@ -13,11 +13,11 @@ use Rattle.emit_checks.specs.declared.LineRead.{LineRead}
 use Rattle.refusal.specs.declared.Refusal.{Refusal}
 use Rattle.refusal.specs.declared.Refusal.TheVariants.{UnknownInstruction}
 
--- what was made is the line: its words, or why there are none
+-- what the code has read is the line: its words, or why there are none
 abbrev pub LineMade : Line → LineRead → Type 0
 LineMade line read = MadeAs line read.answer × (line.index ≡ read.position)
 
--- the line of what a mnemonic is, read from a token position on; there is none of one that is neither descriptor nor pseudo-instruction
+-- the line by what its mnemonic means, read from a token position on; none if that is neither a descriptor nor a pseudo-instruction
 abbrev pub LineFor : Job → (token_list descriptors : List ℕ) → (position : ℕ) → Meaning → (known : Bool) → LineRead → Type 0
 LineFor job token_list descriptors position (Table p) known read =
     (known ≡ true) × LineMade (table_line job descriptors p (tokens token_list) (start_index (tokens token_list) position)) read
@@ -29,7 +29,7 @@ pub record ReadIs (job : Job) (token_list mnemonic descriptors : List ℕ) (posi
   pub line_is : LineFor job token_list descriptors position (meaning descriptors (mnemonic_name mnemonic)) known read
   pub within : read.position ≤ length (tokens token_list)
 
--- a line that was read, or the refusal of a mnemonic that is neither
+-- a line that was read, or the refusal of a mnemonic that is neither a descriptor nor a pseudo-instruction
 abbrev pub ReadBy : Job → (token_list mnemonic descriptors : List ℕ) → (position : ℕ) → Result LineRead Refusal → Type 0
 ReadBy job token_list mnemonic descriptors position (Ok read) = ReadIs job token_list mnemonic descriptors position true read
 ReadBy job token_list mnemonic descriptors position (Err refusal) = (meaning descriptors (mnemonic_name mnemonic) ≡ Neither) × (refusal ≡ UnknownInstruction (mnemonic_location mnemonic))

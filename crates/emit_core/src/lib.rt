@@ -1,4 +1,4 @@
-// The core of an emit call of each job, with the counts by value: emits one line, or refuses it and leaves every lent byte (emit.rs).
+// The core of an emit call, for every job and with the counts by value: emits one line, or refuses it and changes no lent byte (emit.rs).
 #![tactic(auto)]
 
 ghost use Rattle.std.specs.Prelude.{◌≡◌, ◌+◌, ◌≤◌, length};
@@ -26,8 +26,8 @@ use jobs::Job;
 use record::Location;
 use refusal::Refusal;
 
-// A descriptor goes before a pseudo-instruction of its name.
-// kept: Meaning has the three cases of the definition that the whole outcome is written from; an Option of the first two is no plainer.
+// Returns what a mnemonic means: the descriptor of that name, else the pseudo-instruction, else neither.
+// kept: Meaning has the same three cases as the definition that the whole outcome is written from; an Option of the first two is no plainer.
 #[tactic(auto, unfolding(emit_outcome::specs::Dispatch::meaning))]
 fn find_meaning(descriptors: &Descriptors<'_>, name: &[u8]) -> Meaning
     ensures { result ≡ meaning descriptors.now name.now }
@@ -41,7 +41,7 @@ fn find_meaning(descriptors: &Descriptors<'_>, name: &[u8]) -> Meaning
     }
 }
 
-// The line of the descriptor at a place.
+// Reads the line's operands as the descriptor at `place` asks, and makes its words.
 fn dispatch_instruction(
     job: Job,
     descriptors: &Descriptors<'_>,
@@ -56,7 +56,7 @@ fn dispatch_instruction(
     emit_dispatch::dispatch_encoding(job, instruction.encoding, instruction.opcode, cursor)
 }
 
-// A line whose operands end at the cursor.
+// Returns the line as read. The cursor stands after its operands.
 #[tactic(auto, using(crate::proofs::EmitLaws::index_most))]
 fn line_read(
     line: Location,
@@ -73,7 +73,7 @@ fn line_read(
     }
 }
 
-// Refusal 3, or the line that is made of the operands from the position on.
+// Reads the line whose operands start at `position`, or refuses its mnemonic with 3.
 pub fn read_line(job: Job, lists: Lists<'_>, position: u32) -> Result<LineRead, Refusal>
     requires { (token_layout lists.tokens.now ≡ None) × (mnemonic_layout lists.mnemonic.now ≡ None) × (descriptor_layout lists.descriptors.now ≡ None) }
     ensures { ReadBy job lists.entry.tokens.now lists.entry.mnemonic.now lists.entry.descriptors.now position result }
@@ -96,7 +96,7 @@ pub fn read_line(job: Job, lists: Lists<'_>, position: u32) -> Result<LineRead, 
     }
 }
 
-// Refusals 3 to 12, 19, 20 and 27 of lists that keep their layouts, or the line appended.
+// Appends the line, or refuses it with 3 to 12, 19, 20 or 27. The lists have passed the checks of 1 and 2.
 fn emit_named(
     job: Job,
     lists: Lists<'_>,
@@ -116,7 +116,7 @@ fn emit_named(
     emit_made::append_or_refuse(lists.tokens, data, pending, breakpoints, numbers, read)
 }
 
-// Refusals 1 to 12, 19, 20 and 27, or the line appended.
+// Appends the line, or refuses it with 1 to 12, 19, 20 or 27.
 fn emit_line(
     job: Job,
     lists: Lists<'_>,

@@ -13,17 +13,17 @@ use Rattle.emit_dispatch.specs.declared.Unmade.{Unmade}
 use Rattle.emit_dispatch.specs.LineAnswers.{Made, unmade_answer}
 use Rattle.emit_dispatch.specs.Lines.{Line}
 
--- what was read, by what the operands hold
+-- what was read, as the values that the operands hold
 abbrev pub held_answer : (w : Wants) → Result Operands Miss → Answer (AskedAll w)
 held_answer w (Ok operands) = Got (held_values w operands)
 held_answer w (Err miss) = Missed miss
 
--- words that are the line's, or why there are none
+-- the code's words are the line's, or so is the reason why there are none
 abbrev pub MadeAs : Line → Result EmitInstruction Unmade → Type 0
 MadeAs line (Ok emit) = (line.answer ≡ Made) × EmitIs emit line.pairs line.form
 MadeAs line (Err unmade) = line.answer ≡ unmade_answer unmade
 
--- the answer is the line's, and the cursor then stands in the same list behind the line's operands
+-- the answer is the line's, and the cursor is in the same list, after the line's operands
 pub record LineAs (before : CursorIn) (line : Line) (answer : Result EmitInstruction Unmade) (after : CursorIn) : Type 0 where
   pub made_as : MadeAs line answer
   pub after_is : after ≡ record { list = before.list; index = line.index }

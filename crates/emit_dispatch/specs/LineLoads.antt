@@ -1,5 +1,5 @@
--- Which constant a line loads, and into which register: at most one, before the words of its own instructions. A constant that stands in an
--- instruction's own immediate field is not loaded; nor is a name, whose halves wait for the build. Assumes nothing.
+-- Which constant a line loads, and into which register: at most one, before the words of its own instructions. A constant in an instruction's
+-- own immediate field is not loaded; nor is a name, whose halves wait for the build. Assumes nothing.
 use Rattle.std.specs.Prelude.{ℕ, true, false, List, [], Option, None, Some}
 use Rattle.registers.specs.Numbers.{register_number}
 use Rattle.registers.specs.declared.RegisterSlot.{RegisterSlot}
@@ -44,7 +44,7 @@ abbrev pub maybe_loads : Option InstructionValue → Option LoadedConstant
 maybe_loads None = None
 maybe_loads (Some value) = value_loads value
 
--- an immediate or an offset before a brace: "tested as signed 64-bit"; in range it stands in the instruction
+-- an immediate or an offset before a brace: "tested as signed 64-bit"; in range it is in the instruction itself
 abbrev pub immediate_loads : ℕ → Option LoadedConstant
 immediate_loads c = elim (is_immediate c) [ true ↦ None | false ↦ into_at c ]
 

@@ -1,5 +1,5 @@
--- A line: its operands read, and the words of its encoding or pseudo-instruction made of them. What words take is what is asked for, by their
--- types: words for other operands than `Wants` has are no definition. Assumes nothing.
+-- A line: its operands are read, and its encoding or pseudo-instruction makes words from them. The types let words take only the operands that
+-- `Wants` asks for. Assumes nothing.
 use Rattle.std.specs.Prelude.{ℕ, List, [], Bool, true, false, Err, Ok, Option, None, Some}
 use Rattle.registers.specs.Numbers.{register_number, fp_register_number}
 use Rattle.instructions.specs.declared.Opcode.{Opcode}
@@ -78,7 +78,7 @@ pseudo_pairs job Subiu x = subi_pairs (Op 9) (Func 33) x.0 x.1 x.2
 abbrev pub within_or : Fault → Bool → Range
 within_or fault b = elim b [ true ↦ Ok tt | false ↦ Err fault ]
 
--- the first that lies outside decides
+-- the first fault decides
 abbrev pub range_then : Range → Range → Range
 range_then (Ok tt) next = next
 range_then (Err fault) next = Err fault
@@ -96,12 +96,12 @@ abbrev pub is_given : Option InstructionValue → Bool
 is_given None = false
 is_given (Some value) = true
 
--- whether a third operand was given where it may be left out: under Inputs alone
+-- whether a third operand was given where it is optional: only under Inputs
 abbrev pub third_given : (e : Encoding) → AskedAll (encoding_wants e) → Bool
 third_given Inputs x = is_given x.2
 third_given e x = false
 
--- 27
+-- 27: a Release 6 job drops some instructions
 abbrev pub kept_range : Job → (third : Bool) → Opcode → Range
 kept_range job third op = elim (is_dropped job third op) [ true ↦ Err Dropped | false ↦ Ok tt ]
 
@@ -125,7 +125,7 @@ pseudo_form p x = form_from (pseudo_loads p x)
 
 -- ---- the line
 
--- the answer, the words with their labels, how its constant is loaded, and the index behind the operands
+-- the answer, the words with their labels, how its constant is loaded, and the index after the operands
 pub record Line : Type 0 where
   pub answer : LineAnswer
   pub pairs : List InstructionPair
@@ -136,19 +136,19 @@ abbrev pub range_answer : Range → LineAnswer
 range_answer (Ok tt) = Made
 range_answer (Err fault) = OutOfRange fault
 
--- operands that were read make the words; where one was missed there are none
+-- operands that were read make the words; if one was missed, there are no words
 abbrev pub line_by : {A : Type 0} → Answer A → ℕ → (A → Range) → (A → List InstructionPair) → (A → LoadForm) → Line
 line_by (Got x) i range pairs form = record { answer = range_answer (range x); pairs = pairs x; form = form x; index = i }
 line_by (Missed m) i range pairs form = record { answer = MissedOperand m; pairs = []; form = Unloaded; index = i }
 
--- the line of an instruction of the table
+-- the line of an instruction in the table
 unfoldable pub encoding_line : Job → Encoding → Opcode → List Token → ℕ → Line
 unfolding read_operands
 encoding_line job e op ts i =
     let read = read_operands (encoding_wants e) ts i in
     line_by read.answer read.index (encoding_range job e op) (encoding_pairs job e op) (encoding_form e)
 
--- the line of a pseudo-instruction: each immediate that it takes has an alternative
+-- the line of a pseudo-instruction: no range is checked, since each immediate that it takes has an alternative
 unfoldable pub pseudo_line : Job → Pseudo → List Token → ℕ → Line
 unfolding read_operands
 pseudo_line job p ts i =

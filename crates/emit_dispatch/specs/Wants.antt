@@ -1,4 +1,4 @@
--- What each encoding and each pseudo-instruction asks for, left to right: the one table of it (emit.rs, the top of each `do_..._instruction`).
+-- What each encoding and each pseudo-instruction asks for, left to right, in one table (emit.rs, the top of each `do_..._instruction`).
 -- Assumes nothing.
 use Rattle.std.specs.Prelude.{true, false}
 use Rattle.instructions.specs.declared.Encoding.{Encoding}

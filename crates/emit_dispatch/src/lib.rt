@@ -1,4 +1,4 @@
-// A line by its encoding or its pseudo-instruction (emit.rs): what it asks for, its operands read once, and the words made of them.
+// Makes a line's words by its encoding or pseudo-instruction (emit.rs): looks up what it asks for, and reads its operands once.
 #![tactic(auto)]
 
 ghost use Rattle.std.specs.Prelude.{◌≡◌, Ok};
@@ -21,7 +21,7 @@ use operand::{Miss, Operand, Want};
 use operand_list::{Operands, Wants};
 use pseudo_names::Pseudo;
 
-// Why a line's words are not made: an operand was missed, or one lies outside what the job takes.
+// Why a line has no words: an operand could not be read, or the job refuses the line.
 #[derive(Clone, Copy)]
 pub enum Unmade {
     Missed(Miss),
@@ -48,7 +48,7 @@ impl From<Fault> for Unmade {
     }
 }
 
-// kept: a constructor, for the table below to be read; it has the shape of others and not their meaning.
+// kept: a constructor that makes the table below readable; others look like it but mean something else.
 fn three(first: Want, second: Want, third: Want) -> Wants
     ensures { result ≡ (record { first = first; second = second; third = third }) }
 {
@@ -132,7 +132,7 @@ fn pseudo_wants(pseudo: Pseudo) -> Wants
     }
 }
 
-// The words of an encoding whose line the job takes.
+// Returns the words of a line that the job accepts.
 #[tactic(auto, using(crate::proofs::FormsLaws::value_form_lem, crate::proofs::FormsLaws::maybe_form_lem, crate::proofs::FormsLaws::offset_form_lem))]
 fn encoding_pairs(job: Job, encoding: Encoding, op: Opcode, operands: Operands) -> EmitInstruction
     requires taken { encoding_range job encoding op (held_values (encoding_wants encoding) operands) ≡ Ok tt }
@@ -186,7 +186,7 @@ fn encoding_pairs(job: Job, encoding: Encoding, op: Opcode, operands: Operands) 
     }
 }
 
-// kept: this and the next are two tests with two faults; one function over both would take the test, the operand's reader and the fault.
+// kept: this and the next have two tests and two faults; one function for both would take the test, the operand's reader and the fault.
 fn shift_range(job: Job, operand: Operand) -> Result<(), Fault>
     ensures { result ≡ within_or Fault.ShiftAmount (shift_within job (constant_in operand)) }
 {
@@ -201,7 +201,7 @@ fn code_range(job: Job, operand: Operand) -> Result<(), Fault>
     within.then_some(()).ok_or(Fault::ConditionCode)
 }
 
-// 19 or 20: the shift amount or the condition code, where the encoding has one.
+// Refusal 19 or 20: checks the shift amount or the condition code, if the encoding has one.
 fn amount_range(job: Job, encoding: Encoding, operands: Operands) -> Result<(), Fault>
     ensures { result ≡ amount_range job encoding (held_values (encoding_wants encoding) operands) }
 {
@@ -214,7 +214,7 @@ fn amount_range(job: Job, encoding: Encoding, operands: Operands) -> Result<(), 
     }
 }
 
-// Whether the optional operand was read, which Inputs alone has.
+// Whether the optional third operand was read. Only Inputs has one.
 fn third_given(encoding: Encoding, operands: Operands) -> bool
     ensures { result ≡ third_given encoding (held_values (encoding_wants encoding) operands) }
 {
@@ -224,7 +224,7 @@ fn third_given(encoding: Encoding, operands: Operands) -> bool
     }
 }
 
-// 27.
+// Refusal 27: a Release 6 job drops some instructions.
 fn kept_range(job: Job, third: bool, op: Opcode) -> Result<(), Fault>
     ensures { result ≡ kept_range job third op }
 {
@@ -235,7 +235,7 @@ fn kept_range(job: Job, third: bool, op: Opcode) -> Result<(), Fault>
     }
 }
 
-// 9: the immediate, where the encoding has one.
+// Refusal 9: checks the immediate, if the encoding has one.
 fn constant_range(encoding: Encoding, operands: Operands) -> Result<(), Fault>
     ensures { result ≡ constant_range encoding (held_values (encoding_wants encoding) operands) }
 {
@@ -247,7 +247,7 @@ fn constant_range(encoding: Encoding, operands: Operands) -> Result<(), Fault>
     }
 }
 
-// Whether the job takes the line: 19 or 20, then 27, then 9.
+// Checks whether the job accepts the line: refusal 19 or 20, then 27, then 9.
 #[tactic(auto, using(crate::proofs::LinesLaws::and_then_is))]
 fn encoding_range(job: Job, encoding: Encoding, op: Opcode, operands: Operands) -> Result<(), Fault>
     ensures { result ≡ encoding_range job encoding op (held_values (encoding_wants encoding) operands) }
@@ -313,7 +313,7 @@ fn subi_opcodes(op: u8, alternative: u8) -> ImmediateOpcodes
     }
 }
 
-// The words of what was read for an instruction of the table.
+// Makes the words of an instruction in the table from what was read.
 #[tactic(auto, using(std::proofs::lemmas::Result::err_from_is_err_and))]
 fn encoding_words(
     job: Job,
@@ -328,7 +328,7 @@ fn encoding_words(
     Ok(encoding_pairs(job, encoding, op, operands))
 }
 
-// The line of an instruction of the table, by its encoding.
+// Reads the line of an instruction in the table, by its encoding, and makes its words.
 pub fn dispatch_encoding(
     job: Job,
     encoding: Encoding,
@@ -341,7 +341,7 @@ pub fn dispatch_encoding(
     encoding_words(job, encoding, op, read)
 }
 
-// The words of what was read for a pseudo-instruction.
+// Makes the words of a pseudo-instruction from what was read.
 #[tactic(auto, using(std::proofs::lemmas::Result::err_from_is_err_and))]
 fn pseudo_words(
     job: Job,
@@ -353,7 +353,7 @@ fn pseudo_words(
     Ok(pseudo_pairs(job, pseudo, read?))
 }
 
-// The line of a pseudo-instruction.
+// Reads the line of a pseudo-instruction and makes its words.
 pub fn dispatch_pseudo(
     job: Job,
     pseudo: Pseudo,

@@ -23,7 +23,7 @@ module _ (op : Opcode) where
   abbrev pub fp_cond_pairs : Format → (code : ℕ) → (source target : FPRegisterSlot) → List InstructionPair
   fp_cond_pairs fmt code source target = plain (fp_cond_word op fmt code (fp_register_number source) (fp_register_number target)) ∷ []
 
-  -- the numbers of the first and the second register, of which one is a general and one a float register
+  -- the numbers of the first and the second register: one is general, one is float
   abbrev pub fp_cross_move_pairs : (first second : ℕ) → List InstructionPair
   fp_cross_move_pairs first second = plain (fp_cross_move_word op first second) ∷ []
 

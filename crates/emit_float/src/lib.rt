@@ -1,4 +1,4 @@
-// One function for each encoding of float registers (emit.rs): the words that it makes of its operands.
+// Makes the words of each encoding of float registers from its operands, in one function each (emit.rs).
 #![tactic(auto)]
 
 ghost use Rattle.registers.specs.Numbers.{register_number, fp_register_number};
@@ -24,7 +24,7 @@ pub struct MoveForm {
     pub flag: bool,
 }
 
-// kept beside emit_integer's do_offset_instruction: the two words are made by the builder's methods for the two files of registers.
+// kept beside emit_integer's do_offset_instruction: the builder has separate methods for the two register files.
 #[tactic(auto, using(emit_pairs::proofs::ValuesLaws::offset_length))]
 pub fn do_fp_offset_instruction(op: Opcode, operands: Operands) -> EmitInstruction
     ensures { EmitIs result (offset_line_pairs op (fp_register_number (fp_slot_in operands.first)) (offset_in operands.second))
@@ -89,7 +89,7 @@ pub fn do_fp_cond_instruction(op: Opcode, fmt: Format, operands: Operands) -> Em
     emit_pairs::with(emit_words::fp_cond_word(op, fmt, fields))
 }
 
-// A move between the two files of registers, in the line's order.
+// Makes a move between the two register files, with the registers in the line's order.
 fn cross_move<A: Slot, B: Slot>(op: Opcode, first: A, second: B) -> EmitInstruction
     ensures { EmitIs result (fp_cross_move_pairs op (A.number first) (B.number second)) LoadForm.Nothing }
 {
@@ -97,7 +97,7 @@ fn cross_move<A: Slot, B: Slot>(op: Opcode, first: A, second: B) -> EmitInstruct
     emit_pairs::with(word)
 }
 
-// A float register first, then a general one.
+// Makes a move whose line has a float register first, then a general one.
 pub fn do_fp_first_move_instruction(op: Opcode, operands: Operands) -> EmitInstruction
     ensures { EmitIs result (fp_cross_move_pairs op (fp_register_number (fp_slot_in operands.first)) (register_number (slot_in operands.second)))
         LoadForm.Nothing }
@@ -109,7 +109,7 @@ pub fn do_fp_first_move_instruction(op: Opcode, operands: Operands) -> EmitInstr
     )
 }
 
-// A general register first, then a float one.
+// Makes a move whose line has a general register first, then a float one.
 pub fn do_fp_last_move_instruction(op: Opcode, operands: Operands) -> EmitInstruction
     ensures { EmitIs result (fp_cross_move_pairs op (register_number (slot_in operands.first)) (fp_register_number (fp_slot_in operands.second)))
         LoadForm.Nothing }

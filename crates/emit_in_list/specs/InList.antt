@@ -1,4 +1,4 @@
--- What an emit call into a list promises: it is the emit call whose data buffer is the region's data with free bytes behind it. Assumes nothing.
+-- What an emit call into a list promises: it equals the emit call on a data buffer of the region's data and then free bytes. Assumes nothing.
 use Rattle.std.specs.Prelude.{ℕ, ◌+◌, List, ◌++◌, ◌≡◌, take}
 use Rattle.jobs.specs.declared.Job.{Job}
 use Rattle.record.specs.Bytes.{part}
@@ -19,7 +19,7 @@ abbrev pub list_call : (tokens mnemonic descriptors list pending breakpoints : L
 list_call tokens mnemonic descriptors list pending breakpoints counts place start fill room =
     call_of tokens mnemonic descriptors (lent_of (data_in list start counts.data_len fill room) pending breakpoints) counts place
 
--- the words stand behind the data, and what stood there behind them
+-- the words are inserted after the data; what stood there comes after them
 pub record EmittedIn (job : Job) (call : Call) (list : List ℕ) (start fill : ℕ) (answer : EmitAnswer) (counts : FillCounts) (list_after pending_after breakpoints_after : List ℕ) : Type 0 where
   pub answer_is : answer ≡ (emit_outcome job call).answer
   pub counts_are : counts ≡ (emit_outcome job call).counts

@@ -1,4 +1,4 @@
-// An emit call whose region data stands within a list, with other records behind it and free bytes behind these (document 02, P12).
+// An emit call whose region data lies inside a list: other records follow the data, and free bytes follow the records (document 02, P12).
 #![tactic(auto)]
 
 ghost use Rattle.std.specs.Prelude.{◌≡◌, ◌≤◌, ◌+◌, length};
@@ -8,7 +8,7 @@ ghost use Rattle.emit_in_list.specs.InList.{list_call, EmittedIn};
 use emit_outcome::{Emitted, FillCounts, LinePlace, Lists};
 use jobs::Job;
 
-// Where the region's data starts, where the list ends, and how many of the free bytes behind it may be taken.
+// Where the region's data starts, where the list ends, and how many of the free bytes after it may be used.
 #[derive(Clone, Copy)]
 pub struct Within {
     pub start: usize,
@@ -16,8 +16,8 @@ pub struct Within {
     pub room: usize,
 }
 
-// Emits a line into the region's data. Behind the data an emit call wants its free bytes: they change places with the records there, and
-// what is left of them changes back.
+// Emits a line into the region's data. An emit call needs free bytes right after the data, so these are swapped with the records there,
+// and the unused ones are swapped back.
 pub fn emit_in_list(
     job: Job,
     counts: FillCounts,

@@ -1,4 +1,4 @@
-// Makes the emit call with labels and an index of standard input and prints what it answers and leaves (document 02, P1).
+// Reads an emit call with labels and an index from standard input, makes it, and prints what it answers and leaves (document 02, P1).
 #![tactic(auto)]
 
 use indexed_text::EmitIndexedText;

@@ -1,4 +1,4 @@
-// What `emit_indexed` prints for each case of standard input (vectors/make_indexed). A case is an input after its 4-byte count.
+// Prints what `emit_indexed` prints, for each case on standard input (vectors/make_indexed). A case is a 4-byte count and then an input.
 #![tactic(auto)]
 
 use indexed_text::EmitIndexedText;

@@ -1,4 +1,4 @@
-// One function for each encoding of general registers (emit.rs): the words that it makes of its operands.
+// Makes the words of each encoding of general registers from its operands, in one function each (emit.rs).
 #![tactic(auto)]
 
 ghost use Rattle.std.specs.Prelude.{◌≡◌};
@@ -32,7 +32,7 @@ pub fn do_register_instruction(op: Opcode, operands: Operands) -> EmitInstructio
     unpacked.emit.push(word, None)
 }
 
-// The register with the shift amount comes last.
+// Makes one word; the register with the shift amount comes last in the line.
 pub fn do_register_shift_instruction(op: Opcode, operands: Operands) -> EmitInstruction
     ensures { EmitIs result (register_shift_pairs op (slot_in operands.first) (slot_in operands.second) (slot_in operands.third)) LoadForm.Nothing }
 {
@@ -58,7 +58,7 @@ pub fn do_destination_instruction(op: Opcode, operands: Operands) -> EmitInstruc
     emit_pairs::with(emit_words::destination_word(op, dest))
 }
 
-// The operation on the last two operands, and mflo into the first.
+// Makes the operation on the last two operands, then mflo into the first.
 #[tactic(auto, using(emit_pairs::proofs::ValuesLaws::value_length, emit_pairs::proofs::ValuesLaws::count_one))]
 fn inputs_into(op: Opcode, operands: Operands, value: InstructionValue) -> EmitInstruction
     ensures { EmitIs result (inputs_pairs op (slot_in operands.first) (slot_in operands.second) (Some value)) (value_form value) }
@@ -93,7 +93,7 @@ pub fn do_sham_instruction(op: Opcode, operands: Operands) -> EmitInstruction
     emit_pairs::with(emit_words::sham_word(op, fields))
 }
 
-// SpecialBranch and BranchZero.
+// Makes the word of SpecialBranch and of BranchZero.
 pub fn do_branch_zero_instruction(op: Opcode, operands: Operands) -> EmitInstruction
     ensures { EmitIs result (branch_zero_pairs op (slot_in operands.first) (label_in operands.second)) LoadForm.Nothing }
 {

@@ -1,4 +1,4 @@
-// What becomes of a line that was made: refused, or appended to the region data, the pending list and the breakpoints (emit.rs).
+// Refuses a line that was read, or appends it to the region data, the pending list and the breakpoints (emit.rs).
 #![tactic(auto)]
 
 ghost use Rattle.std.specs.Prelude.{◌≡◌};
@@ -16,7 +16,7 @@ use emit_pairs::EmitInstruction;
 use pending::Origin;
 use record::Location;
 
-// What an emit call answers that gives this: a refusal leaves the counts as given.
+// Turns a line's outcome into the call's answer and counts. A refusal leaves the counts as given.
 pub fn emitted(counts: FillCounts, given: Result<Appended, RefusedLine>) -> Emitted
     ensures { result ≡ emitted_by counts given }
 {
@@ -81,7 +81,7 @@ pub fn append_line(
     }
 }
 
-// Refusals 4 to 12, 19, 20 and 27 of a line that was read, or the line appended.
+// Appends a line that was read, or refuses it with 4 to 12, 19, 20 or 27.
 pub fn append_or_refuse(
     tokens: &[u8],
     data: &mut [u8],

@@ -1,4 +1,4 @@
--- The answer of an emit call, as the code's name for it has it: accepted, with position and form, or refused, with refusal and position. Assumes nothing.
+-- An emit call's answer, under the code's name: accepted with position and form, or refused with refusal and position. Assumes nothing.
 use Rattle.std.specs.Prelude.{ℕ, Result, Ok, Err}
 use Rattle.loading.specs.declared.LoadForm.{LoadForm}
 use Rattle.refusal.specs.declared.Refusal.{Refusal}

@@ -34,7 +34,7 @@ list_stop token_list mnemonic descriptors lent region counts =
 abbrev pub met_location : Location → ℕ → Location → Location
 met_location line kind met = elim (eqb kind 13) [ true ↦ line | false ↦ met ]
 
--- 4 to 8, on a line whose mnemonic stands at `line`
+-- 4 to 8, for a line whose mnemonic is at `line`
 abbrev pub miss_refusal : Location → Miss → Refusal
 miss_refusal line NoToken = EndOfFile line
 miss_refusal line (NoRegister kind met) = ExpectedRegister (met_location line kind met) kind

@@ -1,4 +1,4 @@
--- What an emit call promises in each sort of job, whether its counts go by value or are lent. Assumes nothing.
+-- What an emit call promises in each sort of job, whether its counts are passed by value or lent. Assumes nothing.
 use Rattle.std.specs.Prelude.{◌≡◌}
 use Rattle.jobs.specs.declared.Job.{Job}
 use Rattle.jobs.specs.declared.Job.TheVariants.{Commit}

@@ -50,7 +50,7 @@ accept token_list line numbers lent made =
       };
     }
 
--- ---- 4 to 12, 19, 20 and 27: a line that was made, whose mnemonic stands at `line`
+-- ---- 4 to 12, 19, 20 and 27: a line that was made, whose mnemonic is at `line`
 
 -- 9; "19, a shift amount outside 0 to 31; 20, a condition code outside 0 to 7" (document 02, P5); "27, an Inputs line with a third operand or a
 -- Func 18 line" (P9)

@@ -5,10 +5,10 @@ use loading::LoadForm;
 use pseudo_names::Pseudo;
 use refusal::Refusal;
 
-// The region's number where none is selected.
+// The region number that means: no region is selected.
 pub const NO_REGION: u16 = 65535;
 
-// The most bytes that a region's data has.
+// The most bytes that a region's data can have.
 pub const MOST_DATA: usize = 65528;
 
 // The lists that a call only reads: the tokens, the line's mnemonic, the descriptors.
@@ -19,7 +19,7 @@ pub struct Lists<'a> {
     pub descriptors: &'a [u8],
 }
 
-// The caller's three fill counts. That of the region data is the data length.
+// The caller's three fill counts. For the region data it is the data length.
 #[derive(Clone, Copy)]
 pub struct FillCounts {
     pub data_len: u32,
@@ -42,14 +42,14 @@ pub struct LineNumbers {
     pub place: LinePlace,
 }
 
-// An accepted line: the position behind it, and the form of the constant that it loads.
+// An accepted line: the token position after it, and how its constant is loaded.
 #[derive(Clone, Copy)]
 pub struct DoneLine {
     pub position: u32,
     pub loaded: LoadForm,
 }
 
-// A refused line, with the position at which reading stands then.
+// A refused line: why, and the token position where reading stopped.
 #[derive(Clone, Copy)]
 pub struct RefusedLine {
     pub refusal: Refusal,
@@ -58,7 +58,7 @@ pub struct RefusedLine {
 
 pub type EmitAnswer = Result<DoneLine, RefusedLine>;
 
-// An accepted line's answer, and the counts that have grown by it.
+// An accepted line's answer, and the fill counts after it.
 #[derive(Clone, Copy)]
 pub struct Appended {
     pub done: DoneLine,

@@ -15,18 +15,18 @@ use Rattle.emit_pairs.specs.declared.Fault.TheVariants.{Immediate}
 use Rattle.emit_words.specs.Words.{register_word, immediate_word}
 use Rattle.emit_pairs.specs.declared.Fault.{Fault}
 
--- a word, and one that waits for a label
+-- a word that waits for no label, and one that waits
 abbrev pub plain : ℕ → InstructionPair
 plain w = record { word = w; label = None }
 
 abbrev pub waiting : ℕ → InstructionLabelKind → AddressLabel → InstructionPair
 waiting w kind label = record { word = w; label = Some (record { kind = kind; label = label }) }
 
--- the words that count
+-- the line's words: the first `count`
 abbrev pub pairs_of : EmitInstruction → List InstructionPair
 pairs_of e = take e.count e.instructions
 
--- the pairs that an array with a count holds, and how the line's constant is loaded
+-- e holds the pairs ps, and the line's constant is loaded by this form
 pub record EmitIs (e : EmitInstruction) (ps : List InstructionPair) (form : LoadForm) : Type 0 where
   pub pairs_are : pairs_of e ≡ ps
   pub count_is : e.count ≡ length ps
@@ -41,13 +41,13 @@ unfoldable pub load_pairs : ℕ → ℕ → List InstructionPair
 unfolding load_words
 load_pairs constant t = map plain (load_words constant t)
 
--- make_label: a constant is loaded; a name's two halves wait for it, lui with the upper and ori with the lower
+-- make_label: a constant is loaded; for a name, lui waits for its upper half and ori for its lower
 unfoldable pub label_pairs : AddressLabel → ℕ → List InstructionPair
 unfolding load_pairs
 label_pairs (Constant c) t = load_pairs c t
 label_pairs (Label name) t = waiting (immediate_word (Op 15) 0 t 0) Upper (Label name) ∷ waiting (immediate_word (Op 13) t t 0) Lower (Label name) ∷ []
 
--- the form of the constant that a label is
+-- how a label's constant is loaded; a name is not loaded
 abbrev pub label_form : AddressLabel → LoadForm
 label_form (Constant c) = form_of c
 label_form (Label name) = Unloaded
@@ -56,7 +56,7 @@ label_form (Label name) = Unloaded
 unfoldable pub is_immediate : ℕ → Bool
 is_immediate c = ltb c 32768 || leb (2 ^ 64 - 32768) c
 
--- what a line's operands come to beside what its job takes: within it, or outside
+-- whether a line's operands are in range, or which fault they have
 abbrev pub Range : Type 0
 Range = Result (Unit {0}) Fault
 
@@ -65,7 +65,7 @@ abbrev pub immediate_range : Option Opcode → ℕ → Range
 immediate_range None c = elim (is_immediate c) [ true ↦ Ok tt | false ↦ Err Immediate ]
 immediate_range (Some alt) c = Ok tt
 
--- one word, or the constant loaded into $at and the alternative's word; none where it is refused
+-- out of range: the constant is loaded into $at for the alternative's word; without an alternative, refusal 9 leaves no word
 abbrev pub fallback_pairs : Option Opcode → (rt rs c : ℕ) → List InstructionPair
 fallback_pairs None rt rs c = []
 fallback_pairs (Some alt) rt rs c = load_pairs c at_number ++ plain (register_word alt rt rs at_number) ∷ []
@@ -74,7 +74,7 @@ unfoldable pub immediate_pairs : Opcode → Option Opcode → (rt rs c : ℕ) �
 unfolding is_immediate load_pairs
 immediate_pairs op alt rt rs c = elim (is_immediate c) [ true ↦ plain (immediate_word op rs rt (c % 65536)) ∷ [] | false ↦ fallback_pairs alt rt rs c ]
 
--- in range the constant stands in the word's own immediate field; else it is loaded for the alternative
+-- a constant in range is in the word's own immediate field; else it is loaded for the alternative
 abbrev pub fallback_form : Option Opcode → ℕ → LoadForm
 fallback_form None c = Unloaded
 fallback_form (Some alt) c = form_of c

@@ -1,4 +1,4 @@
--- Operands that take words of their own: a number into a register, an offset, a label (emit.rs). Assumes nothing.
+-- Operands that need words of their own: a number for a register, an offset, a label (emit.rs). Assumes nothing.
 use Rattle.std.specs.Prelude.{ℕ, ◌%◌, List, [], ◌∷◌, ◌++◌, Bool, true, false, Some, Option, None}
 use Rattle.registers.specs.Numbers.{register_number}
 use Rattle.registers.specs.declared.RegisterSlot.{RegisterSlot}
@@ -37,9 +37,9 @@ abbrev pub maybe_form : Option InstructionValue → LoadForm
 maybe_form None = Unloaded
 maybe_form (Some value) = value_form value
 
--- ---- an offset (make_offset_or_label): the immediate, the base register and the words before
+-- ---- an offset (make_offset_or_label): the immediate, the base register and the words that go before
 
--- the label into $at, then the register added to it
+-- the label is loaded into $at, then the register is added
 abbrev pub added_pairs : AddressLabel → RegisterSlot → List InstructionPair
 added_pairs label r = label_pairs label at_number ++ plain (register_word (Func 32) at_number at_number (register_number r)) ∷ []
 
@@ -71,7 +71,7 @@ abbrev pub offset_immediate : OffsetOrLabel → ℕ
 offset_immediate (Offset label r) = base_immediate label
 offset_immediate (LabelAlone label) = 0
 
--- an offset in range before a brace stands in the word's own immediate field
+-- a constant in range before a brace is in the word's own immediate field
 abbrev pub base_form : AddressLabel → LoadForm
 base_form (Constant c) = elim (is_immediate c) [ true ↦ Unloaded | false ↦ form_of c ]
 base_form (Label name) = Unloaded
@@ -80,6 +80,6 @@ abbrev pub offset_form : OffsetOrLabel → LoadForm
 offset_form (Offset label r) = base_form label
 offset_form (LabelAlone label) = label_form label
 
--- a word that waits for a branch's destination
+-- the label of a word that waits for a branch's destination
 abbrev pub branch_to : AddressLabel → Option InstructionLabel
 branch_to label = Some (record { kind = Branch; label = label })

@@ -5,7 +5,7 @@ use crate::InstructionPair;
 use loading::LoadForm;
 use pending::InstructionLabel;
 
-// At most five words: the first `count`; and how the line's constant is loaded.
+// At most five words, the first `count` of the array, and how the line's constant is loaded.
 #[derive(Clone, Copy)]
 pub struct EmitInstruction {
     pub instructions: [InstructionPair; 5],
@@ -17,14 +17,14 @@ pub struct EmitInstruction {
 impl EmitInstruction {
     ghost use Rattle.emit_pairs.specs.Pairs.{EmitIs, pairs_of};
 
-    // The words that count.
+    // Returns the line's words: the first `count`.
     pub fn pairs(&self) -> &[InstructionPair]
         ensures { result.now ≡ pairs_of self.now }
     {
         &self.instructions[..self.count]
     }
 
-    // One word more.
+    // Returns these words with one more at the end.
     pub fn push(self, word: u32, label: Option<InstructionLabel>) -> EmitInstruction
         requires { self.count < 5 }
         ensures { EmitIs result (pairs_of self ++ (record { word = word; label = label }) ∷ []) self.loaded }

@@ -24,7 +24,7 @@ pub struct InstructionPair {
     pub label: Option<InstructionLabel>,
 }
 
-// What a line has outside what its job takes: refusals 9, 19, 20 and 27.
+// Why a line is refused although its operands were read: refusals 9, 19, 20 and 27.
 #[derive(Clone, Copy)]
 pub enum Fault {
     Immediate,
@@ -41,14 +41,14 @@ pub struct ImmediateOperands {
     pub constant: u64,
 }
 
-// A register, and the words that load it.
+// A register, and the words that load it first.
 #[derive(Clone, Copy)]
 pub struct Unpacked {
     pub slot: RegisterSlot,
     pub emit: EmitInstruction,
 }
 
-// An offset's immediate, its base register, and the words before.
+// An offset's immediate, its base register, and the words that go before.
 #[derive(Clone, Copy)]
 pub struct OffsetParts {
     pub immediate: u16,
@@ -56,7 +56,7 @@ pub struct OffsetParts {
     pub emit: EmitInstruction,
 }
 
-// No words yet of a line that loads a constant by this form.
+// Returns no words yet, for a line that loads a constant by this form.
 fn starting(form: LoadForm) -> EmitInstruction
     ensures { EmitIs result [] form }
 {
@@ -71,28 +71,28 @@ fn starting(form: LoadForm) -> EmitInstruction
     }
 }
 
-// No words.
+// Returns no words.
 pub fn none() -> EmitInstruction
     ensures { EmitIs result [] LoadForm.Nothing }
 {
     starting(LoadForm::Nothing)
 }
 
-// One word alone.
+// Returns one word alone.
 pub fn with(word: u32) -> EmitInstruction
     ensures { EmitIs result (plain word ∷ []) LoadForm.Nothing }
 {
     none().push(word, None)
 }
 
-// One word that waits for a label.
+// Returns one word that waits for a label.
 pub fn with_label(word: u32, kind: InstructionLabelKind, label: AddressLabel) -> EmitInstruction
     ensures { EmitIs result (waiting word kind label ∷ []) LoadForm.Nothing }
 {
     none().push(word, Some(InstructionLabel { kind, label }))
 }
 
-// The words that load a constant.
+// Returns the words that load a constant.
 pub fn load_pairs(constant: u64, into: RegisterSlot) -> EmitInstruction
     ensures { EmitIs result (load_pairs constant (register_number into)) (form_of constant) }
 {
@@ -105,7 +105,7 @@ pub fn load_pairs(constant: u64, into: RegisterSlot) -> EmitInstruction
     }
 }
 
-// A constant's words, or lui and ori that wait for a name's halves.
+// Returns the words that load a constant, or lui and ori that wait for a name's halves.
 #[tactic(auto, unfolding(crate::specs::Pairs::label_pairs))]
 pub fn make_label(label: AddressLabel, dest: RegisterSlot) -> EmitInstruction
     ensures { EmitIs result (label_pairs label (register_number dest)) (label_form label) }
@@ -146,7 +146,7 @@ pub fn is_immediate(constant: u64) -> bool
     constant < 0x8000 || 0xFFFF_FFFF_FFFF_8000 <= constant
 }
 
-// Refusal 9: an immediate out of range without an alternative.
+// Refusal 9: refuses an immediate out of range without an alternative.
 pub fn immediate_range(alt: Option<Opcode>, constant: u64) -> Result<(), Fault>
     ensures { result ≡ immediate_range alt constant }
 {
@@ -157,7 +157,7 @@ pub fn immediate_range(alt: Option<Opcode>, constant: u64) -> Result<(), Fault>
     }
 }
 
-// One word, or the alternative with the constant in $at; no word where neither serves.
+// Returns one word. Out of range, loads the constant into $at for the alternative's word; without an alternative returns no word.
 #[tactic(auto, using(crate::proofs::PairsLaws::load_pairs_length), unfolding(crate::specs::Pairs::immediate_pairs))]
 pub fn emit_immediate_instruction(
     op: Opcode,
@@ -190,7 +190,7 @@ pub fn emit_immediate_instruction(
     }
 }
 
-// A number is loaded into $at.
+// Returns the value's register. A number is loaded into $at.
 pub fn unpack_value(value: InstructionValue) -> Unpacked
     ensures { (register_number result.slot ≡ value_number value) × EmitIs result.emit (value_pairs value) (value_form value) }
 {
@@ -206,7 +206,7 @@ pub fn unpack_value(value: InstructionValue) -> Unpacked
     }
 }
 
-// The label into $at, then the register added to it.
+// Loads the label into $at, then adds the register.
 #[tactic(auto, using(crate::proofs::ValuesLaws::label_length))]
 fn added(label: AddressLabel, register: RegisterSlot) -> OffsetParts
     ensures { (result.immediate ≡ 0) × (register_number result.register ≡ at_number) × EmitIs result.emit (added_pairs label register) (label_form label) }

@@ -25,7 +25,7 @@ abbrev pub set_opcode : Bool → Opcode
 set_opcode true = Func 41
 set_opcode false = Func 42
 
--- the comparison's word: the operands are exchanged for greater than
+-- the comparison's word; for greater-than the operands are swapped
 abbrev pub compare_word : (greater unsigned : Bool) → (rd a b : ℕ) → ℕ
 compare_word true unsigned rd a b = register_word (set_opcode unsigned) rd b a
 compare_word false unsigned rd a b = register_word (set_opcode unsigned) rd a b
@@ -39,7 +39,7 @@ branch_custom_pairs greater result unsigned source value label =
     value_pairs value ++ plain (compare_word greater unsigned at_number (register_number source) (value_number value))
     ∷ waiting (inputs_word (branch_opcode result) at_number 0) Branch label ∷ []
 
--- a result that is to be false is turned over by xori
+-- where the comparison must be false, xori inverts its result
 abbrev pub turned : Bool → RegisterSlot → List InstructionPair
 turned true dest = []
 turned false dest = plain (immediate_word (Op 14) (register_number dest) (register_number dest) 1) ∷ []
@@ -48,7 +48,7 @@ abbrev pub set_custom_pairs : (greater result unsigned : Bool) → (dest source 
 set_custom_pairs greater result unsigned dest source value =
     value_pairs value ++ plain (compare_word greater unsigned (register_number dest) (register_number source) (value_number value)) ∷ turned result dest
 
--- sne: the difference, and whether it is not zero
+-- sne: the difference, then whether it is not zero
 abbrev pub sne_pairs : (dest source : RegisterSlot) → InstructionValue → List InstructionPair
 sne_pairs dest source value =
     value_pairs value ++ plain (register_word (Func 35) (register_number dest) (register_number source) (value_number value))
@@ -65,11 +65,11 @@ abs_pairs job dest source =
     plain (abs_first_word job (register_number source)) ∷ plain (register_word (Func 38) (register_number dest) (register_number source) at_number)
     ∷ plain (register_word (Func 35) (register_number dest) (register_number dest) at_number) ∷ []
 
--- neg and negu: the second operand taken from $zero
+-- neg and negu: the second operand subtracted from $zero
 abbrev pub neg_pairs : Opcode → (dest source : RegisterSlot) → List InstructionPair
 neg_pairs op dest source = plain (register_word op (register_number dest) 0 (register_number source)) ∷ []
 
--- not and move: the second operand with $zero
+-- not and move: the operation on the second operand and $zero
 abbrev pub move_pairs : Opcode → (dest source : RegisterSlot) → List InstructionPair
 move_pairs op dest source = plain (register_word op (register_number dest) (register_number source) 0) ∷ []
 

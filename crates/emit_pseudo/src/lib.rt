@@ -1,4 +1,4 @@
-// One function for each pseudo-instruction, or for two that differ in their opcode (emit.rs): the words that it makes of its operands.
+// Makes the words of each pseudo-instruction from its operands (emit.rs); two that differ only in the opcode share a function.
 #![tactic(auto)]
 
 ghost use Rattle.std.specs.Prelude.{◌≡◌};
@@ -27,7 +27,7 @@ pub struct Comparison {
     pub unsigned: bool,
 }
 
-// An opcode, and the one that an immediate out of range falls back on.
+// An opcode, and its alternative for an immediate out of range.
 #[derive(Clone, Copy)]
 pub struct ImmediateOpcodes {
     pub op: Opcode,
@@ -52,14 +52,14 @@ pub fn do_abs_instruction(job: Job, operands: Operands) -> EmitInstruction
     emit_pairs::with(shift).push(xor, None).push(sub, None)
 }
 
-// kept: the flag is what the line's name says, and chooses an opcode; so it is in `branch_opcode`.
+// kept: the flag comes from the line's name and chooses an opcode, as in `branch_opcode`.
 fn set_opcode(unsigned: bool) -> Opcode
     ensures { result ≡ set_opcode unsigned }
 {
     Opcode::Func(if unsigned { 41 } else { 42 })
 }
 
-// slt or sltu into dest, its operands exchanged for greater than.
+// Returns the word of slt or sltu into dest; for greater-than the operands are swapped.
 fn compare_word(how: Comparison, fields: RegisterFields) -> u32
     ensures { result ≡ compare_word how.greater_than how.unsigned
         (register_number fields.dest) (register_number fields.source) (register_number fields.temp) }
@@ -102,7 +102,7 @@ pub fn do_branch_custom_instruction(how: Comparison, operands: Operands) -> Emit
     unpacked.emit.push(compare, None).push(branch, to)
 }
 
-// xori with 1, which turns a comparison's result over.
+// Returns xori with 1, which inverts a comparison's result.
 fn turn_word(dest: RegisterSlot) -> u32
     ensures { result ≡ immediate_word (Opcode.Op 14) (register_number dest) (register_number dest) 1 }
 {
@@ -135,7 +135,7 @@ pub fn do_set_custom_instruction(how: Comparison, operands: Operands) -> EmitIns
     }
 }
 
-// The difference, and whether it is not zero.
+// Makes sne: the difference, then whether it is not zero.
 #[tactic(auto, using(emit_pairs::proofs::ValuesLaws::value_length, emit_pairs::proofs::ValuesLaws::count_one))]
 pub fn do_sne_instruction(operands: Operands) -> EmitInstruction
     ensures { EmitIs result (sne_pairs (slot_in operands.first) (slot_in operands.second) (value_in operands.third))
@@ -167,7 +167,7 @@ pub fn do_seq_instruction(operands: Operands) -> EmitInstruction
     do_sne_instruction(operands).push(turn, None)
 }
 
-// neg and negu.
+// Makes the word of neg and of negu.
 pub fn do_neg_instruction(op: Opcode, operands: Operands) -> EmitInstruction
     ensures { EmitIs result (neg_pairs op (slot_in operands.first) (slot_in operands.second)) LoadForm.Nothing }
 {
@@ -179,7 +179,7 @@ pub fn do_neg_instruction(op: Opcode, operands: Operands) -> EmitInstruction
     emit_pairs::with(emit_words::register_word(op, fields))
 }
 
-// not and move.
+// Makes the word of not and of move.
 pub fn do_move_instruction(op: Opcode, operands: Operands) -> EmitInstruction
     ensures { EmitIs result (move_pairs op (slot_in operands.first) (slot_in operands.second)) LoadForm.Nothing }
 {
@@ -219,7 +219,7 @@ pub fn do_nop_instruction() -> EmitInstruction
     emit_pairs::with(emit_words::base_word(Opcode::Func(0)))
 }
 
-// subi and subiu: the constant is negated first.
+// Makes the words of subi and of subiu; negates the constant first.
 pub fn do_subi_instruction(opcodes: ImmediateOpcodes, operands: Operands) -> EmitInstruction
     ensures { EmitIs result (subi_pairs opcodes.op opcodes.alternative
         (slot_in operands.first) (slot_in operands.second) (constant_in operands.third)) (subi_form (constant_in operands.third)) }

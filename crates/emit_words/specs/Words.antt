@@ -26,7 +26,7 @@ inputs_word op rs rt = layout (with_rt (with_rs (base_fields op) rs) rt)
 abbrev pub register_word : Opcode → (rd rs rt : ℕ) → ℕ
 register_word op rd rs rt = layout (with_rt (with_rs (with_rd (base_fields op) rd) rs) rt)
 
--- Sham. "shift amounts over 31 spill into rd": the field sa has five bits, and what it has no room for is OR-ed into rd.
+-- Sham. "shift amounts over 31 spill into rd": the field sa has five bits, and the bits above are OR-ed into rd.
 abbrev pub sham_word : Opcode → (rd rt sham : ℕ) → ℕ
 sham_word op rd rt sham = layout (with_sa (with_rd (with_rt (base_fields op) rt) (bit_or rd (sham / 32))) (sham % 32))
 
@@ -46,15 +46,15 @@ fp3_word op fmt fd fs ft = layout (with_rs (with_rt (with_rd (with_sa (base_fiel
 abbrev pub fp2_word : Opcode → Format → (fd fs : ℕ) → ℕ
 fp2_word op fmt fd fs = layout (with_rs (with_rd (with_sa (base_fields op) fd) fs) (size_code fmt))
 
--- a condition code's three bits above two others; a code over 7 loses or spills what three bits do not hold
+-- a condition code's three bits above two others; the further bits of a code over 7 are lost or spill
 abbrev pub code_bits : (cc : ℕ) → Bool → ℕ
 code_bits cc flag = cc % 64 * 4 + (elim flag [ true ↦ 1 | false ↦ 0 ])
 
--- FPMove: cc and the flag where ft stands; fmt, written last, covers what spills
+-- FPMove: cc and the flag in place of ft; fmt, written last, covers the bits that spill
 abbrev pub fp_move_word : Opcode → Format → (fd fs cc : ℕ) → Bool → ℕ
 fp_move_word op fmt fd fs cc flag = layout (with_rs (with_rt (with_rd (with_sa (base_fields op) fd) fs) (code_bits cc flag % 32)) (size_code fmt))
 
--- FPCond: cc where fd stands; fs, written later, covers what spills
+-- FPCond: cc in place of fd; fs, written later, covers the bits that spill
 abbrev pub fp_cond_word : Opcode → Format → (cc fs ft : ℕ) → ℕ
 fp_cond_word op fmt cc fs ft = layout (with_rs (with_rt (with_rd (with_sa (base_fields op) (code_bits cc false % 32)) fs) ft) (size_code fmt))
 

@@ -1,4 +1,4 @@
-// The word of each layout (emit.rs): one function each.
+// Builds the word of each layout (emit.rs): one function each.
 #![tactic(auto)]
 
 ghost use Rattle.std.specs.Prelude.{◌≡◌, ◌<◌};
@@ -11,7 +11,7 @@ use jobs::{Format, Job};
 use registers::{FPRegisterSlot, RegisterSlot};
 use word::InstructionBuilder;
 
-// What is written into a word besides its opcode: rd, rs and rt of the register format.
+// What goes into a word besides its opcode: rd, rs and rt of the register format.
 #[derive(Clone, Copy)]
 pub struct RegisterFields {
     pub dest: RegisterSlot,
@@ -130,7 +130,7 @@ pub fn immediate_word(op: Opcode, fields: ImmediateFields) -> u32
         .finish()
 }
 
-// Beside immediate_word, as the Rust has it: the builder's methods for the two files of registers are apart.
+// As `immediate_word`, with a float register in rt. Separate, as in the Rust: the builder has other methods for float registers.
 pub fn fp_immediate_word(op: Opcode, fields: FPImmediateFields) -> u32
     ensures { result ≡ immediate_word op (register_number fields.source) (fp_register_number fields.temp) fields.immediate }
 {
@@ -171,8 +171,8 @@ pub fn fp_2_register_word(op: Opcode, fmt: Format, fields: FP2Fields) -> u32
         .finish()
 }
 
-// A condition code above two bits, the lower of which is the flag; bits past the byte are lost.
-// kept: the flag is a bit of the word here and below, and switches no step.
+// Returns the condition code times 4, with the flag in bit 0. Bits that do not fit the byte are lost.
+// kept: here and below the flag is a bit of the word; it does not choose what a function does.
 fn code_bits(code: u64, flag: bool) -> u8
     ensures { result ≡ code_bits code flag }
 {
@@ -201,7 +201,8 @@ pub fn fp_cond_word(op: Opcode, fmt: Format, fields: FPCondFields) -> u32
         .finish()
 }
 
-// A move between a general and a float register: `first` is the number of the one that is written first, for the builder's method of values.
+// Returns a move between a general and a float register: the line's first register goes into rt, its second into fs. They are plain numbers,
+// as either may be the general one.
 pub fn fp_cross_move_word(op: Opcode, first: u8, second: u8) -> u32
     requires { (first < 32) × (second < 32) }
     ensures { result ≡ fp_cross_move_word op first second }
@@ -220,7 +221,7 @@ pub fn fp_branch_word(op: Opcode, code: u64, flag: bool) -> u32
         .finish()
 }
 
-// abs's first word. The commit writes the immediate over the fields below rt, where the manual has sra's.
+// Returns abs's first word, `sra $at, source, 31`. The commit writes 31 as an immediate, over rd, sa and function.
 pub fn abs_first_word(job: Job, source: RegisterSlot) -> u32
     ensures { result ≡ abs_first_word job (register_number source) }
 {

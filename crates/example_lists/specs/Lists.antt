@@ -79,7 +79,7 @@ float_descriptor class key encoding size flag name = record_bytes 33 (class ∷ 
 abbrev pub descriptor : (class key encoding : ℕ) → List ℕ → List ℕ
 descriptor class key encoding name = float_descriptor class key encoding 0 0 name
 
--- class and key of an opcode under Immediate, and of its alternative
+-- an Immediate descriptor: class and key of its opcode, and of its alternative
 abbrev pub either_descriptor : (class key alt_class alt_key : ℕ) → List ℕ → List ℕ
 either_descriptor class key alt_class alt_key name = record_bytes 33 (class ∷ key ∷ 7 ∷ 0 ∷ 0 ∷ 1 ∷ alt_class ∷ alt_key ∷ name)
 
@@ -100,7 +100,7 @@ line_in region name descriptors tokens = record {
   };
 }
 
--- in region 0
+-- the same in region 0
 abbrev pub line : (name descriptors tokens : List ℕ) → Call
 line name descriptors tokens = line_in 0 name descriptors tokens
 
@@ -116,7 +116,7 @@ unfoldable pub pcs_from : (n pc : ℕ) → List ℕ
 pcs_from zero pc = []
 pcs_from (suc n) pc = pc ∷ pcs_from n (pc + 4)
 
--- the position behind it, the form of its constant, its words in the data, no pending, and one breakpoint
+-- the position after the line, the form of its constant, its words in the data, no pending, and one breakpoint
 abbrev pub emits : (position : ℕ) → LoadForm → List ℕ → EmitOutcome
 emits position loaded words =
     let n = length words in

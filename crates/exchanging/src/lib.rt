@@ -1,9 +1,9 @@
-// Two parts of a list of bytes, exchanged in place.
+// Swaps the two parts of a list of bytes in place.
 #![tactic(auto)]
 
 ghost use Rattle.std.specs.Prelude.{◌≡◌, ◌≤◌, ◌+◌, ◌++◌, length, take, drop};
 
-// What stands from `m` on, and then what stands before it.
+// Moves the bytes from `m` on to the front; the first `m` bytes follow them.
 pub fn exchange(d: &mut [u8], m: usize)
     requires { m ≤ length d.old }
     ensures { d.new ≡ drop m d.old ++ take m d.old }

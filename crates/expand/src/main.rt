@@ -1,4 +1,4 @@
-// Writes the macros of standard input out and prints the tokens or the refusal (document 02, P8).
+// Writes out the macro calls on standard input and prints the tokens or the refusal (document 02, P8).
 #![tactic(auto)]
 
 use macro_text::ExpandText;

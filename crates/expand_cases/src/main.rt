@@ -1,4 +1,4 @@
-// What `expand` prints for each case of standard input (vectors/make_expand). A case is an input after its 4-byte count.
+// Prints what `expand` prints for each case on standard input (vectors/make_expand). A case is an input after its 4-byte count.
 #![tactic(auto)]
 
 use macro_text::ExpandText;

@@ -1,4 +1,4 @@
-// What a lookup of a label gives for each case of standard input (vectors/make_find). A case is an input after its 4-byte count.
+// Prints what a lookup of a label gives, for each case on standard input (vectors/make_find). A case is a 4-byte count and then an input.
 #![tactic(auto)]
 
 use find_text::FindLabelText;

@@ -1,4 +1,4 @@
--- What is printed of a lookup (document 02, P13): `found` and the address in eight hexadecimal digits, or `none`, and then `compared` and the
+-- What is printed for a lookup (document 02, P13): `found` and the address in eight hexadecimal digits, or `none`, and then `compared` and the
 -- count of name comparisons; or the refusal's line. Assumes nothing.
 use Rattle.std.specs.Prelude.{ℕ, List, ◌++◌, Err, None, Ok, Option, Result, Some}
 use Rattle.io.specs.Digits.{last_digits}
@@ -22,6 +22,6 @@ abbrev pub answer_text : Result Found Refusal → List ℕ
 answer_text (Ok found) = found_lines found
 answer_text (Err r) = refused_line (numbered r)
 
--- an input is the labels and the name, each after its count, and the source
+-- an input is the labels and the name, each after its count, and then the source
 unfoldable pub find_text : List ℕ → List ℕ
 find_text s = answer_text (find_label (list_of 0 s) (list_of 1 s) (word_or_zero (behind_lists 2 s) 0))

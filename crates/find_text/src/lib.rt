@@ -1,4 +1,4 @@
-// What `find_label_cases` prints of a lookup (document 02, P13), from the bytes that it reads to those that it prints.
+// What `find_label_cases` prints for a lookup (document 02, P13), from the bytes it reads to the text it prints.
 #![tactic(auto)]
 
 ghost use Rattle.std.specs.Prelude.{◌≡◌, ◌++◌, ◌+◌, ◌≤◌, length};
@@ -31,7 +31,7 @@ fn put_found(out: &mut Printed, found: Found)
     out.push_number_line(b"compared", found.compared as u64);
 }
 
-// The text that is printed for an input: the labels and the name, each after its count, and the source.
+// Writes the text for an input: the labels and the name, each after its count, and then the source.
 #[tactic(auto, using(text::proofs::TextLaws::refused_most, text::proofs::TextLaws::last_most, crate::proofs::FindTextLaws::address_most, std::proofs::lemmas::Grind::common_steps), unfolding(crate::specs::FindText::find_text))]
 pub fn find_label(input: &[u8], out: &mut Printed)
     ensures { out.new ≡ find_text input.now }

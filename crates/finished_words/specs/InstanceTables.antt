@@ -1,4 +1,4 @@
--- The lists on which the theorems' premises are met: four label tables, an entry record, two regions, seven pendings. Assumes nothing.
+-- Lists that meet the theorems' premises: four label tables, an entry record, two regions, seven pendings. Assumes nothing.
 use Rattle.std.specs.Prelude.{ℕ, ◌/◌, ◌%◌, List, [], ◌∷◌, ◌++◌, length}
 
 -- ---- numbers and records as document 01 lays them out
@@ -29,7 +29,7 @@ loop = 0x6C ∷ 0x6F ∷ 0x6F ∷ 0x70 ∷ []
 abbrev pub main : List ℕ
 main = 0x6D ∷ 0x61 ∷ 0x69 ∷ 0x6E ∷ []
 
--- form, value, location and name: a constant, or a name with an offset, its location a file and 2
+-- form, value, location and name, for a constant or for a name with an offset; the name's location is a source and index 2
 abbrev constant : ℕ → List ℕ
 constant value = 0 ∷ eight value ++ four 0 ++ four 0
 
@@ -42,8 +42,8 @@ patch number offset kind target = kinded 36 (two number ++ four offset ++ four 1
 
 -- ---- the lists
 
--- Each table has a `loop` for all files, one of file 1, one of file 2, and `main`. The second differs from the first in the `loop` for all, to
--- which nothing resolves; the third in that of file 1, to which pendings resolve; the fourth in `main`, which the entry alone names.
+-- Each table has a `loop` for all files, one for file 1, one for file 2, and `main`. Tables 2 to 4 each move one label of the first: the `loop` for
+-- all, which nothing resolves to; file 1's `loop`, which pendings resolve to; and `main`, which only the entry names.
 abbrev labelled : (for_all for_first for_second start : ℕ) → List ℕ
 labelled for_all for_first for_second start = label for_all loop ++ owned for_first 1 loop ++ owned for_second 2 loop ++ label start main
 
@@ -67,8 +67,8 @@ regions =
     region 0x00400000 (four 0x10000000 ++ four 0 ++ four 0x08000000 ++ four 0x15090000 ++ four 0x11090000)
     ++ region 0x10010000 (four 0x3C010000 ++ four 0x34210000 ++ four 0)
 
--- Seven patches, of the regions 1, 0, 1, 1, 0, 0, 0: a Lower to file 1's loop + 0xC000; a Branch forward to that loop; a Full, to the low 32 bits of its
--- constant; the Lower's Upper; a Jump to file 2's loop - 4, by a sum that wraps; a Branch back by 32,768 words and one 32,767 words ahead, each to a
+-- Seven patches, in regions 1, 0, 1, 1, 0, 0, 0: a Lower to file 1's loop + 0xC000; a Branch forward to that loop; a Full to the low 32 bits of its
+-- constant; the Lower's Upper; a Jump to file 2's loop - 4, whose sum wraps; a Branch 32,768 words back and one 32,767 words ahead, each to a
 -- constant.
 unfoldable pub pending : List ℕ
 pending =

@@ -1,4 +1,4 @@
--- The patches of a pending list: where each stands, where it goes, and what is no patch's. Assumes nothing.
+-- The patches of a pending list: where each is, its destination, and what no patch writes. Assumes nothing.
 use Rattle.std.specs.Prelude.{ℕ, ◌+◌, ◌*◌, ◌<◌, ◌≤◌, ◌≡◌, ◌⊎◌}
 use mathlib.Core.List.{List, Memᴰ}
 use Rattle.field.specs.Field.{get_field}
@@ -23,7 +23,7 @@ pc_at regions pending p = pc_of (region_for regions (pending_at pending p)) (pen
 abbrev pub destination_at : (labels : Table) (pending : List ℕ) → ℕ → ℕ
 destination_at labels pending p = address_or 0 (destination labels pending (pending_at pending p).label)
 
--- where its four bytes stand in the region list
+-- where its four bytes are in the region list
 abbrev pub slot_at : (regions pending : List ℕ) → ℕ → ℕ
 slot_at regions pending p = slot_of regions (pending_at pending p)
 
@@ -33,18 +33,18 @@ Apart pending =
     (p q : ℕ) → In pending p → In pending q → (p ≡ q → ⊥) → (pending_at pending p).region ≡ (pending_at pending q).region
     → ((pending_at pending p).offset + 4 ≤ (pending_at pending q).offset) ⊎ ((pending_at pending q).offset + 4 ≤ (pending_at pending p).offset)
 
--- ---- what is no patch's
+-- ---- what no patch writes
 
 -- every element is a byte
 abbrev pub Bytes : List ℕ → Type 0
 Bytes s = (i : ℕ) → byte_at s i < 256
 
--- byte i of the region list is none of a patch's four
+-- byte i of the region list is outside each patch's four bytes
 abbrev pub OutsidePatches : (regions pending : List ℕ) → ℕ → Type 0
 OutsidePatches regions pending i = (p : ℕ) → In pending p → (i < slot_at regions pending p) ⊎ (slot_at regions pending p + 4 ≤ i)
 
--- bit j of byte i is in no patched field. The list's bits are counted from bit 0 of its first byte, so that a field, whose word is
--- little-endian, is a run of bits from its word's first byte on.
+-- bit j of byte i is in no patched field. Bits are counted from bit 0 of the list's first byte: words are little-endian, so a field is one
+-- run of bits from its word's first byte on.
 abbrev pub OutsideFields : (regions pending : List ℕ) (i j : ℕ) → Type 0
 OutsideFields regions pending i j =
     (p : ℕ) → In pending p

@@ -31,7 +31,7 @@ abbrev pub finished_at : (labels : Table) (regions pending : List ℕ) → ℕ �
 finished_at labels regions pending p =
     finished_word (kind_of pending p) (pc_at regions pending p) (destination_at labels pending p) (le32 regions (slot_at regions pending p))
 
--- one word for each pending, in list order: those that a region list s has, and those that a build leaves
+-- one word for each pending, in list order: first the words in a region list s, then the words that a build leaves
 unfoldable pub words_in : (s regions pending : List ℕ) → List ℕ
 unfolding places
 words_in s regions pending = map (λ (p : ℕ). le32 s (slot_at regions pending p)) (places pending)

@@ -1,4 +1,4 @@
--- How many constants of a range load by each form (document 02, P14). Assumes nothing.
+-- How many constants in a range load by each form (document 02, P14). Assumes nothing.
 use Rattle.std.specs.Prelude.{ℕ, zero, suc, ◌+◌, ◌-◌, true, false, leb, Err, Ok, Result}
 use Rattle.refusal.specs.declared.Refusal.TheVariants.{StartPastEnd}
 use Rattle.loading.specs.declared.LoadForm.{LoadForm}
@@ -10,7 +10,7 @@ use Rattle.refusal.specs.declared.Refusal.{Refusal}
 abbrev pub no_constants : FormCounts
 no_constants = record { addiu = 0; ori = 0; lui = 0; both = 0 }
 
--- one constant more, of this form
+-- counts one more constant, of this form
 abbrev pub with_one : LoadForm → FormCounts → FormCounts
 with_one Nothing c = c
 with_one Addiu c = record { addiu = c.addiu + 1; ori = c.ori; lui = c.lui; both = c.both }

@@ -1,4 +1,4 @@
-// How many constants of a range load by each form (document 02, P14), without a walk over the range.
+// Counts how many constants in a range load by each form (document 02, P14), without walking the range.
 #![tactic(auto)]
 
 ghost use Rattle.std.specs.Prelude.{◌≡◌, ◌-◌, ◌^◌, ◌≤◌, min};
@@ -15,7 +15,7 @@ pub struct FormCounts {
     pub both: u64,
 }
 
-// The constants below n, by their forms.
+// Counts the constants below n by form.
 fn count_below(n: u64) -> FormCounts
     requires { n ≤ 2 ^ 32 }
     ensures { result ≡ below n }
@@ -32,7 +32,7 @@ fn count_below(n: u64) -> FormCounts
     }
 }
 
-// The counts up to a range's end less those up to its start.
+// Subtracts the counts below a range from the counts up to its end.
 fn less(to: FormCounts, from: FormCounts) -> FormCounts
     ensures { result ≡ between from to }
 {
@@ -44,7 +44,7 @@ fn less(to: FormCounts, from: FormCounts) -> FormCounts
     }
 }
 
-// The constants from `start` to `end`, both counted.
+// Counts the constants from `start` to `end` inclusive, by form.
 pub fn count_forms(start: u32, end: u32) -> Result<FormCounts, Refusal>
     ensures { result ≡ count_forms start end }
 {

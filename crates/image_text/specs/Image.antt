@@ -31,7 +31,7 @@ word_line pc word = eight pc ++ bytes_of " " ++ word ++ bytes_of "\n"
 abbrev pub row_line : Row → List ℕ
 row_line r = word_line r.pc (word_text r.bytes)
 
--- data from offset i on
+-- the lines of data from offset i on
 unfoldable pub data_lines : (address i : ℕ) → List ℕ → List ℕ
 unfolding flatten rows word_line word_text
 data_lines address i bytes = flatten (map row_line (rows address i bytes))
@@ -58,6 +58,6 @@ build_text job labels entry regions pending = let o = build_outcome job (table_o
 unfoldable pub finish_text_by : Job → List ℕ → List ℕ
 finish_text_by job s = build_text job (list_of 0 s) (list_of 1 s) (list_of 2 s) (list_of 3 s)
 
--- what `finish` prints: its build is the commit's
+-- what `finish` prints: it builds as the commit does
 abbrev pub finish_text : List ℕ → List ℕ
 finish_text = finish_text_by Commit

@@ -1,4 +1,4 @@
-// What `finish` does (document 01), and `finish_manual` (document 02, P5), from the bytes that each reads to those that it prints.
+// What `finish` (document 01) and `finish_manual` (document 02, P5) do: each reads the input of a build, and prints the image or the refusal.
 #![tactic(auto)]
 
 ghost use Rattle.std.specs.Prelude.{◌≡◌, ◌++◌, ◌+◌, ◌<◌, ◌≤◌, length};
@@ -14,7 +14,7 @@ use text::{MOST, Printed};
 
 mod lines;
 
-// A line for each four bytes, and one for what is left behind them.
+// Appends a line for each four bytes, and one for a shorter rest.
 fn put_data(out: &mut Printed, address: u32, data: &[u8])
     requires { length out.old + length (data_lines address 0 «data».now) ≤ MOST }
     ensures { out.new ≡ out.old ++ data_lines address 0 «data».now }
@@ -26,7 +26,7 @@ fn put_data(out: &mut Printed, address: u32, data: &[u8])
     }
 }
 
-// The region of that number.
+// Appends the region with this number.
 fn put_region(out: &mut Printed, regions: &Regions<'_>, number: usize)
     requires number_bound { number < region_count regions.now }
     requires number_in_bounds { length out.old + length (region_text number (image_region regions.now (region_place regions.now number))) ≤ MOST }
@@ -50,7 +50,7 @@ fn put_regions(out: &mut Printed, regions: &Regions<'_>)
     }
 }
 
-// The image of the patched regions.
+// Appends the image of the patched regions.
 #[tactic(auto, using(crate::proofs::ImageLaws::entry_length, std::proofs::lemmas::Grind::common_steps))]
 fn put_image(out: &mut Printed, entry: u32, regions: &Regions<'_>)
     requires { length out.old + length (image_text entry (image_of regions.now)) ≤ MOST }
@@ -60,7 +60,7 @@ fn put_image(out: &mut Printed, entry: u32, regions: &Regions<'_>)
     put_regions(out, regions);
 }
 
-// The text of an input's build in a job: the image, or the refusal alone.
+// Builds an input in a job, and writes the image, or the refusal alone.
 #[tactic(auto, using(text::proofs::TextLaws::refused_most))]
 fn put_input(job: Job, input: &[u8], out: &mut Printed)
     ensures { out.new ≡ finish_text_by job input.now }
@@ -78,14 +78,14 @@ fn put_input(job: Job, input: &[u8], out: &mut Printed)
     }
 }
 
-// The text that `finish` prints for an input.
+// Writes the text that `finish` prints for an input.
 pub fn finish(input: &[u8], out: &mut Printed)
     ensures { out.new ≡ finish_text input.now }
 {
     put_input(Job::Commit, input, out);
 }
 
-// The text that `finish_manual` prints for an input.
+// Writes the text that `finish_manual` prints for an input.
 pub fn finish_manual(input: &[u8], out: &mut Printed)
     ensures { out.new ≡ finish_text_by Job.Manual input.now }
 {

@@ -27,7 +27,7 @@ pub(crate) fn put_region_line(out: &mut Printed, number: u64, address: u32)
     out.push_byte(b'\n');
 }
 
-// The line of a word, or of a last part word.
+// Appends the line of a word, or of a shorter last word.
 #[tactic(auto, using(crate::proofs::ImageLaws::word_length), unfolding(crate::specs::Image::word_line))]
 pub(crate) fn put_row(out: &mut Printed, pc: u32, bytes: &[u8])
     requires { length out.old + length (word_line pc (word_text bytes.now)) ≤ MOST }

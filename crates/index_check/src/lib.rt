@@ -1,4 +1,4 @@
-// Whether a handed-in index is that of a pending list by a label list, decided without making one.
+// Checks a handed-in index against a pending list and a label list, without making a second index.
 #![tactic(auto)]
 
 ghost use Rattle.std.specs.Prelude.{◌≡◌, ◌+◌, ◌≤◌, ◌<◌, length};
@@ -20,22 +20,22 @@ use names::Named;
 use std::marker::Model;
 use use_adding::{Key, LabelIndex, Pendings};
 
-// The most pendings of a list: one has 36 bytes at least.
+// The most pendings that a list can have: each takes at least 36 bytes.
 const MOST_PENDINGS: usize = 1820;
 
-// The record kind.
+// The kind of an index record.
 const USE: usize = 39;
 
-// What is found of an index and its labels.
+// What the check finds: where the index breaks its layout, and where a label repeats another's name.
 #[derive(Clone, Copy)]
 pub struct UsesChecked {
     pub layout: Option<usize>,
     pub repeat: Option<usize>,
 }
 
-// kept: a record is its list and its place, since `key_read`, `NumbersFrom` and `RecordFine` of specs/ take both.
+// kept: a record is passed as its list and its place, because `key_read`, `NumbersFrom` and `RecordFine` in specs/ take both.
 
-// Whether the record at `at` can be one of an index.
+// Whether the record at `at` has the form of an index record, with at least one number.
 fn record_ok(index: &[u8], at: usize) -> bool
     requires { (at < length index.now) × (length index.now ≤ limit) }
     ensures { Tells result (RecordIn index.now (length index.now) at) }
@@ -53,7 +53,7 @@ fn record_ok(index: &[u8], at: usize) -> bool
         && at + 11 + 2 * count <= end
 }
 
-// Whether the key of the record at `last` goes before that of the record at `at`.
+// Whether the record at `last` has a smaller key than the record at `at`.
 fn key_rises(index: &[u8], last: usize, at: usize) -> bool
     requires { UseAt index.now last × UseAt index.now at }
     ensures { Tells result (use_order (key_read index.now last) (key_read index.now at) ≡ Less) }
@@ -61,7 +61,7 @@ fn key_rises(index: &[u8], last: usize, at: usize) -> bool
     use_adding::order_at(index, at, &use_adding::key_at(index, last)).is_lt()
 }
 
-// The same, where the record at `at` is not the first; kept: `RecordFine` of specs/ takes the last place as a number.
+// The same, but true for the first record; kept: `RecordFine` in specs/ takes the last place as a number.
 fn key_follows(index: &[u8], last: usize, at: usize) -> bool
     requires { (0 < at → UseAt index.now last) × UseAt index.now at }
     ensures { Tells result (0 < at → use_order (key_read index.now last) (key_read index.now at) ≡ Less) }
@@ -69,7 +69,7 @@ fn key_follows(index: &[u8], last: usize, at: usize) -> bool
     at == 0 || key_rises(index, last, at)
 }
 
-// The source of the name of the pending at `at`, if it is that name.
+// Returns the source of the name that the pending at `at` waits for, or None if that is not `name`.
 fn source_of(pending: &[u8], at: usize, name: &[u8]) -> Option<u32>
     requires { PendingIs pending.now at }
     ensures { result ≡ source_in pending.now name.now (label_of pending.now at) }
@@ -87,8 +87,8 @@ fn source_of(pending: &[u8], at: usize, name: &[u8]) -> Option<u32>
     }
 }
 
-// How many pendings name a label; kept: with `filter` and `count` the proof did not close, as the closure's index is within the list for its own
-// places alone.
+// Counts the pendings that name a label; kept: with `filter` and `count` the proof did not close, because the closure's index is in bounds only
+// for the list's own places.
 fn count_names(pending: &[u8], places: &[u16]) -> usize
     requires { first_bad (pending_ok 16 pending.now) places.now ≡ None }
     ensures { result ≡ names_in pending.now places.now }
@@ -102,7 +102,7 @@ fn count_names(pending: &[u8], places: &[u16]) -> usize
     n
 }
 
-// Labels with an index of them, and pendings with their places.
+// The labels, indexed by name, and the pendings with their places.
 #[derive(Drop)]
 struct Lists<'a> {
     labels: LabelIndex<'a>,
@@ -121,7 +121,7 @@ impl<'a> Model for Lists<'a> {
 }
 
 impl<'a> Lists<'a> {
-    // Whether a key's name, from that source, has the key; but for the source that was looked up last, if there is one, it is known to.
+    // Whether the key's name, used in `source`, has this key. For the source looked up last this is known, and not looked up again.
     fn still_stands(&self, last: Option<u32>, source: u32, key: &Key<'_>) -> bool
         requires { ForSome last (λ known. key_for self.now.labels known key.now.name ≡ key.now) }
         ensures { Tells result (key_for self.now.labels source key.now.name ≡ key.now) }
@@ -129,7 +129,7 @@ impl<'a> Lists<'a> {
         last == Some(source) || use_adding::stands(&self.labels, source, key)
     }
 
-    // Whether the numbers of the record at `at` rise, and each is that of a pending with the record's key.
+    // Whether the numbers of the record at `at` rise, and each one's pending has the record's key.
     fn numbers_right(&self, index: &[u8], at: usize) -> bool
         requires { UseAt index.now at }
         ensures { Tells result (NumbersFrom self.now.labels self.now.pending (key_read index.now at) index.now (count_at index.now at) (at + 7) 0) }
@@ -160,7 +160,7 @@ impl<'a> Lists<'a> {
         true
     }
 
-    // Whether the record at `at`, behind the one at `last` if it is not the first, is one of the list's index.
+    // Whether the record at `at` is right: its form, its numbers, and, unless it is the first, that its key is above the last one's.
     fn record_fine(&self, index: &[u8], last: usize, at: usize) -> bool
         requires { (at < length index.now) × (length index.now ≤ limit) × (0 < at → UseAt index.now last) }
         ensures { Tells result (RecordFine self.now.labels self.now.pending index.now (length index.now) last at) }
@@ -186,11 +186,11 @@ impl<'a> Lists<'a> {
         sum == count_names(self.pending, places)
     }
 
-    // Refusal 1 for an index: over the limit, a fill count over its length, or any other bytes than those of the index made afresh.
+    // Refusal 1 for the index: a buffer over the limit, a fill count over its length, or bytes that differ from a fresh index.
     fn check_index(&self, index: &[u8], fill: usize) -> Option<usize>
         ensures { result ≡ index_layout self.now.labels self.now.pending fill index.now }
     {
-        // kept: tried with `or_else`, whose closure holds `self`; the goals that are then left speak of the closure and not of the lists
+        // kept: with `or_else` the closure holds `self`, and the goals that are left speak of the closure and not of the lists
         if let Some(place) = breakpoints::filled(index, fill) {
             return Some(place);
         }
@@ -202,8 +202,8 @@ impl<'a> Lists<'a> {
     }
 }
 
-// What a label list and an index that are handed in are found to be: how the index is laid out, and whether a label repeats another's name. Labels
-// are not yet known to be distinct where the index is looked at: a wrong index goes before two labels of one name.
+// Checks a handed-in index, and looks for a label that repeats another's name. The index is checked while labels may still repeat, because a wrong
+// index is refused before a repeated name.
 pub fn check_uses(index: &[u8], fill: usize, pending: &Pendings<'_>, labels: &[u8]) -> UsesChecked
     requires { label_layout labels.now ≡ None }
     ensures { (result.layout ≡ index_layout labels.now pending.now fill index.now) × (result.repeat ≡ label_repeat labels.now) }

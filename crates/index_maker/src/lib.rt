@@ -1,4 +1,4 @@
-// make_index: an index of label uses made afresh from a pending list and a label list, or a refusal that leaves every lent byte.
+// make_index: makes an index of label uses from scratch, from a pending list and a label list, or refuses and changes no lent byte.
 #![tactic(auto)]
 
 ghost use Rattle.std.specs.Prelude.{◌≡◌, ◌≤◌, length};
@@ -33,7 +33,7 @@ fn no_space() -> Result<u32, Refusal>
     Err(Refusal::NoIndexSpace(nowhere))
 }
 
-// The index into a buffer shorter than the pending list: it is made beside it, and copied if it has room.
+// Makes the index for a buffer shorter than the pending list: in scratch space first, then copied if it fits.
 fn fill_shorter(
     index: &mut [u8],
     pending: &Pendings<'_>,
@@ -52,7 +52,7 @@ fn fill_shorter(
     Ok(n as u32)
 }
 
-// The index at the start of its buffer. One as long as the pending list always has room for it.
+// Writes the index at the start of its buffer, or refuses with 17. A buffer as long as the pending list always has room.
 fn fill_or_refuse(
     index: &mut [u8],
     pending: &Pendings<'_>,
@@ -68,7 +68,7 @@ fn fill_or_refuse(
     Ok(use_adding::fill_index(index, pending, labels) as u32)
 }
 
-// Makes the index of the first `fill` bytes of a pending buffer by a label list, and answers its fill count. Bytes behind it stay.
+// Makes the index of the first `fill` bytes of a pending buffer, and returns its fill count. Bytes after the index stay as they were.
 pub fn make_index(
     pending: &[u8],
     fill: u32,

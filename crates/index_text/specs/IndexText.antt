@@ -20,6 +20,6 @@ answer_text (Err r) index = refused_line (numbered r)
 abbrev pub outcome_text : MakeOutcome → List ℕ
 outcome_text o = answer_text o.answer o.index
 
--- an input is the pending buffer, the label list and the index buffer, each after its 4-byte count, and the pending buffer's fill count, four bytes
+-- an input is the pending buffer, the label list and the index buffer, each after its 4-byte count, and then the pending buffer's 4-byte fill count
 unfoldable pub make_index_text : List ℕ → List ℕ
 make_index_text s = outcome_text (make_outcome (word_or_zero (behind_lists 3 s) 0) (list_of 0 s) (list_of 1 s) (list_of 2 s))

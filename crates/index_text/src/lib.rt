@@ -1,4 +1,4 @@
-// What `make_index` does (document 02, P1), from the bytes that it reads to those that it prints.
+// The program `make_index` (document 02, P1), from the bytes it reads to the text it prints.
 #![tactic(auto)]
 
 ghost use Rattle.std.specs.Prelude.{◌≡◌, ◌++◌, ◌+◌, ◌≤◌, length};
@@ -7,7 +7,7 @@ ghost use Rattle.index_text.specs.IndexText.{made_text, make_index_text};
 use program::Program;
 use text::{MOST, Printed};
 
-// The fill count and the whole buffer.
+// Prints the fill count and the whole buffer.
 #[tactic(auto, using(std::proofs::lemmas::Grind::common_steps))]
 fn put_made(out: &mut Printed, fill: u32, index: &[u8])
     requires { length out.old + length (made_text fill index.now) ≤ MOST }
@@ -17,8 +17,8 @@ fn put_made(out: &mut Printed, fill: u32, index: &[u8])
     bytes_line::push_bytes(out, b"index ", index);
 }
 
-// The text that `make_index` prints for an input: the index, or the refusal alone. Of an index buffer over its limit one byte
-// more than the limit is held.
+// Writes the text that `make_index` prints for an input: the index, or the refusal alone. Of an index buffer over its limit, one byte
+// more than the limit is kept, so that the call still refuses it.
 #[tactic(auto, using(text::proofs::TextLaws::refused_most, text::proofs::TextLaws::last_most, bytes_line::proofs::BytesLineLaws::bytes_length, std::proofs::lemmas::Grind::common_steps))]
 pub fn make_index(input: &[u8], out: &mut Printed)
     ensures { out.new ≡ make_index_text input.now }

@@ -1,4 +1,4 @@
-// The entries of an emit call with an index: the caller's four fill counts are lent, or go by value, and the work is done by value below.
+// The public entries of an emit call with an index. The caller lends its four fill counts or passes them by value; the work is done by value below.
 #![tactic(auto)]
 
 ghost use Rattle.emit_outcome.specs.Call.{lent_of, call_of};
@@ -48,7 +48,7 @@ pub fn do_indexed(
     out.answer
 }
 
-// The same for a caller that keeps the counts by value. Kept: no crate here calls it, but it is public and stands as it landed.
+// The same for a caller that passes the counts by value. Kept: no crate here calls it, but it is public and stays as it was delivered.
 pub fn do_indexed_line(
     counts: IndexedCounts,
     tokens: &[u8],

@@ -1,4 +1,4 @@
--- What the steps of an emit call with an index know and leave. Assumes nothing.
+-- What each step of an emit call with an index is given, and what it leaves. Assumes nothing.
 use Rattle.std.specs.Prelude.{Ok, Err, Result, ℕ, List, true, false, ◌≡◌, length, leb, None}
 use Rattle.record.specs.Records.{places, first_bad}
 use Rattle.record.specs.Stores.{append}
@@ -24,23 +24,23 @@ use Rattle.indexed_outcome.specs.declared.IndexedCounts.{IndexedCounts}
 use Rattle.indexed_outcome.specs.declared.IndexedAppended.{IndexedAppended}
 use Rattle.indexed_outcome.specs.declared.IndexedEmitted.{IndexedEmitted}
 
--- the index with a line's uses: those of its words behind those of the filled pending list
+-- the new index: the uses of the filled pending list, then the uses of the line's words
 abbrev pub new_index : (labels token_list old : List ℕ) → List InstructionPair → List ℕ
 new_index labels token_list old pairs = uses_bytes (line_uses labels token_list (length (places old)) pairs (uses_of labels old))
 
--- lists that have passed
+-- lists that have passed refusal 1
 pub record Ready (token_list labels index : List ℕ) (lent : Lent) (numbers : LineNumbers) (fill : ℕ) : Type 0 where
   pub lists_filled : Filled token_list lent numbers.counts
   pub pending_kept : first_bad (pending_ok 16 (filled_pending lent numbers.counts)) (places (filled_pending lent numbers.counts)) ≡ None
   pub labels_good : label_layout labels ≡ None
   pub index_good : index_layout labels (filled_pending lent numbers.counts) fill index ≡ None
 
--- ---- what is left
+-- ---- what the call leaves
 
 abbrev pub kept_outcome : LineNumbers → Lent → (fill : ℕ) (index : List ℕ) → Refusal → (position : ℕ) → IndexedOutcome
 kept_outcome numbers lent fill index r position = indexed_outcome_of (refused_at r position) (record { counts = numbers.counts; index = fill }) lent index
 
--- of a line whose mnemonic stands at `line`, with an index that is too short for it or not
+-- the outcome of a line whose mnemonic is at `line`: refusal 17 if the index buffer is too short for the new index
 abbrev pub room_outcome : Location → LineNumbers → Lent → (fill : ℕ) (index new : List ℕ) → EmitOutcome → EmitAnswer → (position : ℕ) → IndexedOutcome
 room_outcome line numbers lent fill index new o answer position =
     elim (leb (length new) (length index)) [
@@ -52,13 +52,13 @@ abbrev pub with_index : Location → LineNumbers → Lent → (fill : ℕ) (inde
 with_index line numbers lent fill index new o (Ok done) = room_outcome line numbers lent fill index new o (Ok done) done.position
 with_index line numbers lent fill index new o (Err refused) = kept_outcome numbers lent fill index refused.refusal refused.position
 
--- a line and its uses, written
+-- a line and its uses are written
 pub record Wrote (token_list labels index index' : List ℕ) (line : Location) (numbers : LineNumbers) (lent lent' : Lent) (words : EmitInstruction) (position : ℕ) (answer : EmitAnswer) (counts : IndexedCounts) : Type 0 where
   pub line_is : accept token_list line numbers lent (words_line words position) ≡ outcome_of answer counts.counts lent'
   pub index_is : index' ≡ append index 0 (new_index labels token_list (filled_pending lent numbers.counts) (pairs_of words))
   pub fill_is : counts.index ≡ length (new_index labels token_list (filled_pending lent numbers.counts) (pairs_of words))
 
--- what a call answers that gives this, and what it leaves: a refusal leaves the counts
+-- the call's answer and counts, and below also what else it leaves; a refusal leaves the counts as they were
 abbrev pub indexed_emitted_by : IndexedCounts → Result IndexedAppended RefusedLine → IndexedEmitted
 indexed_emitted_by counts (Ok appended) = record { answer = Ok appended.done; counts = appended.counts }
 indexed_emitted_by counts (Err refused) = record { answer = Err refused; counts = counts }

@@ -1,4 +1,4 @@
-// An emit call with labels and an index of their uses, in each sort of job: emits one line and updates the index, or refuses and leaves every lent byte.
+// An emit call with labels and an index of their uses, for every job: emits one line and updates the index, or refuses and changes no lent byte.
 #![tactic(auto)]
 
 ghost use Rattle.std.specs.Prelude.{◌≡◌, ◌≤◌, length};
@@ -24,7 +24,7 @@ use record::Location;
 use refusal::Refusal;
 use use_adding::{Pendings, Uses};
 
-// What a call answers that gives this: a refusal leaves the counts as given.
+// Returns the call's answer and counts; a refusal leaves the counts as they were given.
 fn emitted(counts: IndexedCounts, given: Result<IndexedAppended, RefusedLine>) -> IndexedEmitted
     ensures { result ≡ indexed_emitted_by counts given }
 {
@@ -40,7 +40,7 @@ fn emitted(counts: IndexedCounts, given: Result<IndexedAppended, RefusedLine>) -
     }
 }
 
-// Refusals 1 and 2: the six buffers of every emit call, the labels, the index; then names that two descriptors or two labels share.
+// Refusals 1 and 2: the six buffers of every emit call, then the labels, then the index; then a name that two descriptors or two labels share.
 fn check_lists(
     lists: Lists<'_>,
     data: &[u8],
@@ -70,7 +70,7 @@ fn check_lists(
     refusal::check_names(6, uses.repeat)
 }
 
-// The words of a line that was made, by labels that are not refused.
+// Returns the made line's words with their token list and the labels, which have passed refusal 1.
 fn words_of<'a>(tokens: &'a [u8], labels: &'a [u8], words: &'a EmitInstruction) -> Line<'a>
     requires { label_layout labels.now ≡ None }
     ensures { result ≡ (record { names = tokens.now; labels = labels.now; pairs = pairs_of words.now }) }
@@ -78,7 +78,7 @@ fn words_of<'a>(tokens: &'a [u8], labels: &'a [u8], words: &'a EmitInstruction) 
     Line::new(tokens, Named::new(labels), words.pairs())
 }
 
-// Appends a line that has room, and its uses to the index.
+// Appends a line for which there is room, and adds its uses to the index.
 fn append_indexed(
     tokens: &[u8],
     data: &mut [u8],
@@ -121,7 +121,7 @@ fn append_indexed(
     }
 }
 
-// Refusals 4 to 12 and 17 of a line that was read, or the line and its uses appended.
+// Appends a line that was read, and its uses, or refuses it with 4 to 12 or 17.
 fn append_or_refuse(
     tokens: &[u8],
     data: &mut [u8],
@@ -167,8 +167,8 @@ fn append_or_refuse(
     ))
 }
 
-// Refusals 3 to 12 and 17 of lists that pass, or the line and its uses appended.
-// kept: the three lists apart. The proof needs that tokens and mnemonic are bytes, which is known of a parameter and not of a struct's field.
+// Appends the line of lists that have passed, and its uses, or refuses it with 3 to 12 or 17.
+// kept: the three lists are separate parameters. The proof needs tokens and mnemonic to be bytes: known of a parameter, but not of a struct's field.
 fn emit_named(
     job: Job,
     tokens: &[u8],
@@ -208,7 +208,7 @@ fn emit_named(
     )
 }
 
-// Refusals 1 to 12 and 17, or the line and its uses appended.
+// Appends the line and its uses, or refuses it with 1 to 12 or 17.
 fn emit_line(
     job: Job,
     lists: Lists<'_>,

@@ -1,4 +1,4 @@
--- What an emit call with an index promises in each sort of job, whether its counts go by value or are lent. Assumes nothing.
+-- What an emit call with an index promises in each sort of job, whether its counts are lent or passed by value. Assumes nothing.
 use Rattle.std.specs.Prelude.{ℕ, List, ◌≡◌}
 use Rattle.jobs.specs.declared.Job.{Job}
 use Rattle.emit_outcome.specs.Answer.{EmitAnswer}

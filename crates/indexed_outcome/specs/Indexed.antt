@@ -33,7 +33,7 @@ pub record IndexedOutcome : Type 0 where
 abbrev pub filled_pending : Lent → FillCounts → List ℕ
 filled_pending lent counts = take counts.pending lent.pending
 
--- 1 and 2: "in refusal 2 the least a goes first"
+-- refusals 1 and 2: "in refusal 2 the least a goes first"
 unfoldable pub indexed_stop : IndexedCall → Verdict
 unfolding layout_stop label_layout index_layout
 indexed_stop x =
@@ -44,7 +44,7 @@ indexed_stop x =
     (and_then (name_verdict 2 (descriptor_repeat c.descriptors))
     (name_verdict 6 (label_repeat x.labels)))))
 
--- counts and lent bytes as at entry
+-- a refusal: counts and lent bytes are as at entry
 abbrev pub indexed_refuse : IndexedCall → Refusal → (position : ℕ) → IndexedOutcome
 indexed_refuse x r position = record {
   answer = refused_at r position;
@@ -53,7 +53,8 @@ indexed_refuse x r position = record {
   index = x.index;
 }
 
--- "17, the index buffer is too short, looked at straight after 12": the mnemonic's location and 12's position; "the outcome equals an index made afresh from the whole list and the call's labels"
+-- "17, the index buffer is too short, looked at straight after 12": it has the mnemonic's location and the position that a 12 would have;
+-- "the outcome equals an index made afresh from the whole list and the call's labels"
 abbrev pub indexed_accept : IndexedCall → EmitOutcome → (new : List ℕ) → EmitAnswer → (position : ℕ) → IndexedOutcome
 indexed_accept x o new answer position =
     elim (leb (length new) (length x.index)) [

@@ -1,4 +1,4 @@
--- An index made afresh: "A second entry makes one afresh from pending and labels, read as in emit calls" (document 02, P1). Assumes nothing.
+-- Making an index from scratch: "A second entry makes one afresh from pending and labels, read as in emit calls" (document 02, P1). Assumes nothing.
 use Rattle.std.specs.Prelude.{ℕ, List, true, false, length, take, leb, Err, None, Ok, Result}
 use Rattle.record.specs.Records.{within_limit}
 use Rattle.record.specs.Stores.{append}
@@ -18,13 +18,13 @@ pub record MakeOutcome : Type 0 where
 abbrev pub room_for : (new index : List ℕ) → Verdict
 room_for new index = elim (leb (length new) (length index)) [ true ↦ Ok tt | false ↦ Err (NoIndexSpace zero_location) ]
 
--- 1: "the least a"
+-- refusal 1: "the least a"
 unfoldable pub make_layouts : (fill : ℕ) (pending labels index : List ℕ) → Verdict
 unfolding pending_buffer_layout label_layout within_limit
 make_layouts fill pending labels index =
     and_then (layout_verdict 0 (pending_buffer_layout fill pending)) (and_then (layout_verdict 1 (label_layout labels)) (layout_verdict 2 (within_limit index None)))
 
--- 1, 2 and 17
+-- refusals 1, 2 and 17
 unfoldable pub make_stop : (fill : ℕ) (pending labels index : List ℕ) → Verdict
 unfolding make_layouts index_of
 make_stop fill pending labels index =

@@ -1,5 +1,5 @@
-// What an emit call with an index of label uses is given and gives back, and the same of making an index afresh. This crate has types, definitions
-// and theorems, and no functions.
+// What goes into and comes out of an emit call with an index of label uses, and a call that makes such an index from scratch. This crate has types,
+// definitions and theorems, and no functions.
 #![tactic(auto)]
 
 use emit_outcome::{DoneLine, EmitAnswer, FillCounts};
@@ -11,14 +11,14 @@ pub struct IndexedCounts {
     pub index: u32,
 }
 
-// An accepted line's answer, and the counts that have grown by it.
+// An accepted line's answer, and the counts after it.
 #[derive(Clone, Copy)]
 pub struct IndexedAppended {
     pub done: DoneLine,
     pub counts: IndexedCounts,
 }
 
-// The answer and the counts.
+// What the call returns: the answer, and the counts after it.
 #[derive(Clone, Copy)]
 pub struct IndexedEmitted {
     pub answer: EmitAnswer,

@@ -1,5 +1,5 @@
--- What `emit_indexed` prints of an emit call with labels and an index (document 02, P1): what `emit_line` prints, with a fourth fill count and the index
--- buffer last. Assumes nothing.
+-- What `emit_indexed` prints for an emit call with labels and an index (document 02, P1): what `emit_line` prints, with a fourth fill count and
+-- the index buffer last. Assumes nothing.
 use Rattle.std.specs.Prelude.{ℕ, List, ◌++◌}
 use Rattle.jobs.specs.declared.Job.TheVariants.{Commit}
 use Rattle.pseudo_names.specs.PseudoNames.{bytes_of}
@@ -50,6 +50,6 @@ call_in s lent index =
 abbrev pub call_text : List ℕ → Lent → (index : List ℕ) → List ℕ
 call_text s lent index = outcome_text (indexed_outcome Commit (call_in s lent index))
 
--- with the four buffers that the call may change as they are held
+-- the four buffers that the call may change are cut to what `held` keeps
 unfoldable pub emit_indexed_text : List ℕ → List ℕ
 emit_indexed_text s = call_text s (lent_of (held (list_of 3 s)) (held (list_of 4 s)) (held (list_of 5 s))) (held (list_of 7 s))

@@ -1,5 +1,5 @@
-// What `emit_indexed` does (document 02, P1), from the bytes that it reads to those that it prints: an emit call with labels and an index, as the commit
-// has it, and what the call leaves.
+// The program `emit_indexed` (document 02, P1), from the bytes it reads to the text it prints: it makes an emit call with labels and an index, in the
+// commit's job, and prints what the call leaves.
 #![tactic(auto)]
 
 ghost use Rattle.std.specs.Prelude.{◌≡◌, ◌++◌, ◌+◌, ◌≤◌, length};
@@ -15,7 +15,7 @@ use jobs::Job;
 use program::Program;
 use text::{MOST, Printed};
 
-// The four fill counts that stand behind the buffers.
+// Reads the four fill counts, which follow the buffers.
 fn counts_in(rest: &[u8]) -> IndexedCounts
     ensures { result ≡ counts_in rest.now }
 {
@@ -28,7 +28,7 @@ fn counts_in(rest: &[u8]) -> IndexedCounts
     IndexedCounts { counts, index }
 }
 
-// The numbers behind these.
+// Reads the numbers after the fill counts.
 fn place_in(rest: &[u8]) -> LinePlace
     ensures { result ≡ place_in rest.now }
 {
@@ -52,7 +52,7 @@ fn put_fills(out: &mut Printed, counts: IndexedCounts)
     out.push_last_field(counts.index as u64);
 }
 
-// All but the buffers.
+// Prints everything but the buffers.
 #[tactic(auto, using(crate::proofs::IndexedTextLaws::head_length, std::proofs::lemmas::Grind::common_steps), unfolding(crate::specs::IndexedText::head_text))]
 fn put_head(out: &mut Printed, answer: EmitAnswer, counts: IndexedCounts)
     requires { length out.old + length (head_text answer counts) ≤ MOST }
@@ -63,7 +63,7 @@ fn put_head(out: &mut Printed, answer: EmitAnswer, counts: IndexedCounts)
     line_text::lines::put_loaded(out, answer);
 }
 
-// Makes the call of an input whose buffers that it may change are these.
+// Makes the call of an input. The four buffers that it may change are passed in.
 fn make_call(
     input: &[u8],
     data: &mut [u8],
@@ -92,7 +92,7 @@ fn make_call(
     IndexedEmitted { answer, counts }
 }
 
-// What a call answers and what the buffers hold after it.
+// Prints the call's answer and counts, and the buffers after it.
 #[tactic(auto, using(crate::proofs::IndexedTextLaws::outcome_length, std::proofs::lemmas::Grind::common_steps), unfolding(crate::specs::IndexedText::outcome_text))]
 fn put_emitted(
     out: &mut Printed,
@@ -114,7 +114,7 @@ fn put_emitted(
     bytes_line::push_bytes(out, b"index ", index);
 }
 
-// The text that `emit_indexed` prints for an input.
+// Writes the text that `emit_indexed` prints for an input.
 pub fn emit_indexed(input: &[u8], out: &mut Printed)
     ensures { out.new ≡ emit_indexed_text input.now }
 {

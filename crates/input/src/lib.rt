@@ -1,4 +1,4 @@
-// The counted lists and the numbers in an input's bytes.
+// Reads the counted lists and the numbers in a program's input.
 #![tactic(auto)]
 
 ghost use Rattle.std.specs.Prelude.{◌≡◌, ◌+◌, ◌≤◌, min, length, take};
@@ -6,13 +6,13 @@ ghost use Rattle.record.specs.Bytes.{byte_at};
 ghost use Rattle.record.specs.Stores.{append};
 ghost use Rattle.input.specs.Input.{list_end, list_in, behind_list, behind_lists, list_of, word_or_zero, half_or_zero};
 
-// Room for the input of a program, which reads no more.
+// The most bytes of standard input that a program reads.
 pub const MOST: usize = 0x10_0000;
 
 // The file descriptor of standard input.
 pub const STDIN: i32 = 0;
 
-// Where the list that stands first ends.
+// Returns where the first list ends, the input's end at most.
 fn list_end(input: &[u8]) -> usize
     ensures { result ≡ min (list_end input.now) (length input.now) }
 {
@@ -22,7 +22,7 @@ fn list_end(input: &[u8]) -> usize
     input.len().min(4 + record::word_at(input, 0) as usize)
 }
 
-// What stands behind the first `count` lists.
+// Returns the bytes after the first `count` lists.
 pub fn behind_lists(input: &[u8], count: usize) -> &[u8]
     ensures { result.now ≡ behind_lists count input.now }
 {
@@ -33,7 +33,7 @@ pub fn behind_lists(input: &[u8], count: usize) -> &[u8]
     rest
 }
 
-// The list of that number, counted from 0.
+// Returns the list with this number, counted from 0.
 pub fn list_of(input: &[u8], number: usize) -> &[u8]
     ensures { result.now ≡ list_of number input.now }
 {
@@ -42,7 +42,7 @@ pub fn list_of(input: &[u8], number: usize) -> &[u8]
     &rest[end.min(4)..end]
 }
 
-// The 4-byte number at `at`, or 0 where bytes of it are missing.
+// Returns the 4-byte number at `at`, or 0 if any of its bytes is missing.
 pub fn word_or_zero(input: &[u8], at: usize) -> u32
     ensures { result ≡ word_or_zero input.now at }
 {
@@ -52,7 +52,7 @@ pub fn word_or_zero(input: &[u8], at: usize) -> u32
     record::word_at(input, at)
 }
 
-// The 2-byte number at `at`, or 0 where bytes of it are missing.
+// Returns the 2-byte number at `at`, or 0 if any of its bytes is missing.
 pub fn half_or_zero(input: &[u8], at: usize) -> u16
     ensures { result ≡ half_or_zero input.now at }
 {
@@ -62,14 +62,14 @@ pub fn half_or_zero(input: &[u8], at: usize) -> u16
     record::half_at(input, at) as u16
 }
 
-// The byte at `at`, or 0 where it is missing.
+// Returns the byte at `at`, or 0 if it is missing.
 pub fn byte_or_zero(input: &[u8], at: usize) -> u8
     ensures { result ≡ byte_at input.now at }
 {
     input.get(at).copied().unwrap_or(0)
 }
 
-// Copies the list, or as much of it as there is room for, and answers how many bytes.
+// Copies as much of the list as fits into `space`, and returns how many bytes.
 pub fn hold(space: &mut [u8], list: &[u8]) -> usize
     ensures value { result ≡ min (length list.now) (length space.old) }
     ensures space_after { space.new ≡ append space.old 0 (take result list.now) }

@@ -48,7 +48,7 @@ pub enum Encoding {
     FPBranch { flag: bool },
 }
 
-// The word that an opcode starts from: its opcode and function fields, for any key.
+// Returns the word that an opcode starts from: its class and key, all other bits zero. Takes any key.
 pub fn instruction_base(op: Opcode) -> u32
     ensures { result ≡ instruction_base op }
 {

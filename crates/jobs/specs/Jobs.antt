@@ -1,4 +1,4 @@
--- What a sort of job changes: all of it (document 02, P5: "Old jobs still equal the commit"; P9: "otherwise follows P5"). Assumes nothing.
+-- All that depends on the sort of job (document 02, P5: "Old jobs still equal the commit"; P9: "otherwise follows P5"). Assumes nothing.
 use Rattle.std.specs.Prelude.{ℕ, ◌+◌, ◌*◌, ◌%◌, ◌^◌, [], ◌∷◌, Bool, true, false, ◌&&◌, ◌||◌, get_or, leb, eqb, None, Option, Some}
 use Rattle.instructions.specs.declared.Size.{Size}
 use Rattle.instructions.specs.declared.Size.TheVariants.{Single, Double, Word}
@@ -12,7 +12,7 @@ use Rattle.jobs.specs.declared.Format.{Format}
 abbrev pub job_numbered : ℕ → Option Job
 job_numbered n = get_or (Some Commit ∷ Some Manual ∷ Some Release6 ∷ []) n None
 
--- P9: "A Release 6 job .. otherwise follows P5": it is by the manual too
+-- P9: "A Release 6 job .. otherwise follows P5": it follows the manual too
 abbrev pub by_manual : Job → Bool
 by_manual Commit = false
 by_manual Manual = true
@@ -54,7 +54,7 @@ shift_within job amount = elim (by_manual job) [ true ↦ leb amount 31 | false 
 abbrev pub code_within : Job → ℕ → Bool
 code_within job code = elim (by_manual job) [ true ↦ leb code 7 | false ↦ true ]
 
--- an opcode of class Func: its key counts modulo 64, as in the word
+-- an opcode of class Func with that function: its key is taken modulo 64, as in the word
 abbrev pub is_function : ℕ → Opcode → Bool
 is_function function (Func key) = eqb (key % 64) function
 is_function function (Op key) = false

@@ -1,4 +1,4 @@
-// The sorts of job, and what a sort changes (document 02, P5 and P9).
+// The sorts of job, and what depends on them (document 02, P5 and P9).
 #![tactic(auto)]
 
 ghost use Rattle.std.specs.Prelude.{◌≡◌};
@@ -6,7 +6,7 @@ ghost use Rattle.jobs.specs.Jobs.{job_numbered, by_manual, size_code, most_back,
 
 use instructions::{Opcode, Size};
 
-// As the commit has it, by the manual, or by the manual for Release 6 boards.
+// A sort of job: as the commit does it, by the manual, or by the manual for Release 6 boards.
 #[derive(Clone, Copy, PartialEq, Eq)]
 pub enum Job {
     Commit,
@@ -14,7 +14,7 @@ pub enum Job {
     Release6,
 }
 
-// The job of a number.
+// Returns the job with that number.
 pub fn job_numbered(number: u32) -> Option<Job>
     ensures { result ≡ job_numbered number }
 {
@@ -39,7 +39,7 @@ pub fn by_manual(job: Job) -> bool
     job != Job::Commit
 }
 
-// The commit's codes. Kept beside the manual's: a request wants the codes of each as plain cases.
+// Returns the commit's code. Kept beside `manual_code`: the customer wants the codes of each as plain cases.
 fn commit_code(size: Size) -> u32
     ensures { result ≡ commit_code size }
 {
@@ -60,7 +60,7 @@ fn manual_code(size: Size) -> u32
     }
 }
 
-// The code of a float format, as the field fmt holds it.
+// Returns a float format's code in the field fmt.
 pub fn size_code(fmt: Format) -> u32
     ensures { result ≡ size_code fmt }
 {
@@ -71,28 +71,28 @@ pub fn size_code(fmt: Format) -> u32
     }
 }
 
-// How many words a branch reaches back.
+// Returns how many words back a branch can reach.
 pub fn most_back(job: Job) -> u32
     ensures { result ≡ most_back job }
 {
     if by_manual(job) { 32768 } else { 0x1_0000 }
 }
 
-// How many words a branch reaches ahead.
+// Returns how many words ahead a branch can reach.
 pub fn most_ahead(job: Job) -> u32
     ensures { result ≡ most_ahead job }
 {
     if by_manual(job) { 32767 } else { 0xFFFF }
 }
 
-// Whether a job takes a shift amount.
+// Whether a job accepts a shift amount.
 pub fn shift_within(job: Job, amount: u64) -> bool
     ensures { result ≡ shift_within job amount }
 {
     !by_manual(job) || amount <= 31
 }
 
-// Whether a job takes a condition code.
+// Whether a job accepts a condition code.
 pub fn code_within(job: Job, code: u64) -> bool
     ensures { result ≡ code_within job code }
 {
@@ -105,7 +105,7 @@ fn is_function(function: u8, op: Opcode) -> bool
     matches!(op, Opcode::Func(key) if key % 64 == function)
 }
 
-// The opcode of a word under the encoding Source: Release 6 has jr with function 9.
+// Returns the opcode to encode under Source: on Release 6, jr has function 9.
 pub fn source_opcode(job: Job, op: Opcode) -> Opcode
     ensures { result ≡ source_opcode job op }
 {
@@ -116,7 +116,7 @@ pub fn source_opcode(job: Job, op: Opcode) -> Opcode
     }
 }
 
-// Whether a job drops a line: `third` is whether it has the third operand of Inputs.
+// Whether a job refuses a line as dropped (refusal 27). `third`: the line has the third operand of Inputs.
 pub fn is_dropped(job: Job, third: bool, op: Opcode) -> bool
     ensures { result ≡ is_dropped job third op }
 {

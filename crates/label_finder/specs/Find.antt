@@ -9,12 +9,12 @@ use Rattle.labels.specs.declared.Found.{Found}
 use Rattle.label_finder.specs.Ordered.{ordered_index}
 use Rattle.refusal.specs.declared.Refusal.{Refusal}
 
--- refusal 1: the labels are buffer 0, and the name, of which "A lent buffer is at most 65,536 bytes" holds too, is buffer 1
+-- refusal 1: the labels are buffer 0, the name is buffer 1; "A lent buffer is at most 65,536 bytes" holds for the name too
 unfoldable pub layout_verdicts : (labels name : List ℕ) → Verdict
 unfolding label_layout within_limit
 layout_verdicts labels name = and_then (layout_verdict 0 (label_layout labels)) (layout_verdict 1 (within_limit name None))
 
--- "the straight scan": the address is that of the scan; "its count of name comparisons": those of the search in the one ordered index
+-- "the straight scan" gives the address; the search in the one ordered index gives "its count of name comparisons"
 abbrev pub found_in : (labels name : List ℕ) (source : ℕ) → Found
 found_in labels name source = record { address = resolve labels source name; compared = (looked_up labels (ordered_index labels) source name).compared }
 

@@ -3,7 +3,7 @@ use Rattle.std.specs.Prelude.{ℕ, List, [], ◌∷◌, Bool, true, false}
 use Rattle.record.specs.Records.{places}
 use Rattle.name_sort.specs.Before.{before}
 
--- p put before the first that it goes before
+-- inserts p before the first element that it goes before
 unfoldable pub put_in : (ℕ → ℕ → Bool) → ℕ → List ℕ → List ℕ
 put_in le p [] = p ∷ []
 put_in le p (q ∷ l) = elim (le p q) [ true ↦ p ∷ (q ∷ l) | false ↦ q ∷ put_in le p l ]

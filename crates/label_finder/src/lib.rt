@@ -1,4 +1,4 @@
-// The address of a name by a list of labels, looked up through an ordered index of the list, and how many names were compared (document 02, P13).
+// Looks a name up in a list of labels, through an ordered index, and counts the names compared (document 02, P13).
 #![tactic(auto)]
 
 ghost use Rattle.std.specs.Prelude.{◌≡◌};
@@ -18,7 +18,7 @@ fn check_layouts(labels: &[u8], name: &[u8]) -> Result<(), Refusal>
     Ok(())
 }
 
-// The address of the label that a name of that source stands for, or none, or a refusal.
+// Finds the label that `name` stands for in `source`: returns its address or none, and the count of names compared, or a refusal.
 pub fn find_label(labels: &[u8], name: &[u8], source: u32) -> Result<Found, Refusal>
     ensures { FindIs labels.now name.now source result }
 {

@@ -1,4 +1,4 @@
--- An index in a buffer, and uses that go before a key: what the code that adds a use speaks of. Assumes nothing.
+-- An index in a buffer, and uses that go before a key, as the code that adds a use needs them. Assumes nothing.
 use Rattle.std.specs.Prelude.{ℕ, ◌≤◌, List, [], ◌∷◌, ◌≡◌, length, take}
 use Rattle.label_uses.specs.Uses.{UseKey, Use, use_order}
 use Rattle.label_uses.specs.UseBytes.{uses_bytes}

@@ -17,7 +17,7 @@ owner_place s at = at + 7 + 2 * count_at s at
 abbrev pub key_with : (name : List ℕ) → Standing → UseKey
 key_with name standing = record { name = name; standing = standing }
 
--- what a known flag and the number behind it say
+-- the standing that a known flag and an owner or source give
 abbrev pub standing_read : Bool → ℕ → Standing
 standing_read true owner = Known owner
 standing_read false source = Unknown source
@@ -26,7 +26,7 @@ abbrev pub key_read : List ℕ → ℕ → UseKey
 key_read s at =
     key_with (part s (owner_place s at + 4) (next s at - (owner_place s at + 4))) (standing_read (eqb (byte_at s (at + 4)) 1) (le32 s (owner_place s at)))
 
--- n numbers of two bytes from i on
+-- reads n numbers of two bytes, from i on
 unfoldable pub halves_at : (n : ℕ) → List ℕ → ℕ → List ℕ
 halves_at zero s i = []
 halves_at (suc n) s i = le16 s i ∷ halves_at n s (i + 2)
@@ -34,7 +34,8 @@ halves_at (suc n) s i = le16 s i ∷ halves_at n s (i + 2)
 abbrev pub use_read : List ℕ → ℕ → Use
 use_read s at = record { key = key_read s at; numbers = halves_at (count_at s at) s (at + 7) }
 
--- the record at `at` can be one of an index: whole, "kind 39", a "known flag" that is one, and room for its numbers and the 4 bytes before its name
+-- the record at `at` can be one of an index: it is whole, has "kind 39", a "known flag" of 0 or 1, and room for its numbers and the 4 bytes
+-- before its name
 pub record RecordOk (s : List ℕ) (at : ℕ) : Type 0 where
   pub within : next s at ≤ length s
   pub kind_is : kind_at s at ≡ 39

@@ -1,4 +1,4 @@
--- What the uses of a pending list say, without the way in which they are made (document 02, P1). Assumes nothing.
+-- What the uses of a pending list say, however they are made (document 02, P1). Assumes nothing.
 use Rattle.std.specs.Prelude.{ℕ, ◌<◌, ◌≡◌, length, get_or, Option, None, Some}
 use mathlib.Core.List.{List, [], ◌∷◌, Memᴰ}
 use Rattle.record.specs.Bytes.{part}
@@ -14,7 +14,7 @@ abbrev pub key_in : (labels pending : List ℕ) → AddressLabel → Option UseK
 key_in labels pending (Constant value) = None
 key_in labels pending (Label l) = Some (key_for labels l.location.source (part pending l.name_at l.name_len))
 
--- of pending n of the list
+-- the key of pending n in the list
 abbrev pub key_at : (labels pending : List ℕ) → ℕ → Option UseKey
 key_at labels pending n = key_in labels pending (label_of pending (get_or (places pending) n 0))
 
@@ -34,7 +34,7 @@ pub data NumbersRise : List ℕ → Type 0 where
 pub record Says (labels pending : List ℕ) (us : List Use) : Type 0 where
   pub names_rise : KeysRise us
   pub numbers_rise : (u : Use) → Memᴰ u us → NumbersRise u.numbers × (0 < length u.numbers)
-  -- a number stands under the label that its pending names
+  -- each number stands under the label that its pending names
   pub right : (u : Use) → Memᴰ u us → (n : ℕ) → Memᴰ n u.numbers → (n < length (places pending)) × (key_at labels pending n ≡ Some u.key)
-  -- and each pending that names one stands there
+  -- and each pending that names a label stands under it
   pub whole : (n : ℕ) → n < length (places pending) → (key : UseKey) → key_at labels pending n ≡ Some key → (u : Use) × Memᴰ u us × (u.key ≡ key) × Memᴰ n u.numbers

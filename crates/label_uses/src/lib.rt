@@ -1,10 +1,11 @@
-// Who uses which label: the uses of a pending list by a label list, as definitions and theorems. This crate has a type with two methods and no functions.
+// Who uses which label: definitions and theorems on the uses in a pending list, resolved by a label list. This crate has a type with two
+// methods and no functions.
 #![tactic(auto)]
 
 ghost use Rattle.std.specs.Prelude.{◌≡◌};
 ghost use Rattle.label_uses.specs.Uses.{is_known, kept_of};
 
-// What a name stands for: a label, by its owner, or none, by the name's source. "Equal names sort known first, then by it."
+// What a name stands for: a known label, with its owner, or an unknown name, with its source. "Equal names sort known first, then by it."
 #[derive(Clone, Copy, PartialEq, Eq, PartialOrd, Ord)]
 pub enum Standing {
     Known(u32),
@@ -18,7 +19,7 @@ impl Standing {
         matches!(self, Standing::Known(_))
     }
 
-    // The owner or source.
+    // Returns the owner or source.
     pub fn kept(self) -> u32
         ensures { result ≡ kept_of self }
     {

@@ -6,11 +6,11 @@ use Rattle.name_index.specs.declared.Looked.{Looked}
 use Rattle.name_index.specs.Told.{Told}
 use Rattle.labels.specs.Labels.{label_layout, label_repeat}
 
--- the most labels of a list: 65,536 bytes have no more records of nine
+-- the most labels in a list: 65,536 bytes hold no more records of nine bytes
 abbrev pub most_labels : ℕ
 most_labels = 7281
 
--- a list of labels that is not refused, and an index of it
+-- a list of labels that passes its checks, and an index of it
 pub record Indexed (s index : List ℕ) : Type 0 where
   pub layout : label_layout s ≡ None
   pub distinct : label_repeat s ≡ None
@@ -21,9 +21,9 @@ pub record Indexed (s index : List ℕ) : Type 0 where
 abbrev pub or_looked : Looked → Looked → Looked
 or_looked own other = elim own.named [ Some p ↦ own | None ↦ other ]
 
--- The label for all of a name whose label for a source is not there, after c comparisons of names. The search for that one ended before the labels
--- of the name with a greater owner, and 0xFFFFFFFF is the greatest: where no other owner has the name, the label for all stands there. The name of
--- a record that has another owner is not compared.
+-- The name's label for all, when it has none for the source, after c comparisons of names. The search for the source's label ended before the
+-- labels of the name with a greater owner, and 0xFFFFFFFF is the greatest: if no other owner has the name, the label for all stands there. If that
+-- record has another owner, its name is not compared.
 abbrev pub or_searched : Told → (place end : ℕ) → (ℕ → Looked) → Looked
 or_searched t place end other = elim t.same [ true ↦ record { named = Some place; compared = t.compared; end = end } | false ↦ other t.compared ]
 

@@ -20,13 +20,13 @@ pub struct Found {
     pub compared: u32,
 }
 
-// The most labels of a list: one has nine bytes at least.
+// The most labels a list can hold: each takes at least nine bytes.
 pub const MOST: usize = 7281;
 
 // The record kind of a label for all files.
 const LABEL: usize = 34;
 
-// Whether a record is of a label's kind.
+// Whether a record has a label's kind: 34, or 41 with an owner below `FOR_ALL`.
 fn kind_ok(label: NamedRecord<'_, 4>) -> bool
     ensures { result ≡ label_kind label.entry.list.now label.entry.at }
 {
@@ -55,7 +55,7 @@ impl record::Layout for Labels {
     }
 }
 
-// The place of the first record that is no label, or the limit.
+// Returns the place of the first record that is not a label, or the limit if the list is longer.
 #[tactic(auto, unfolding(crate::specs::Labels::label_layout))]
 pub fn first_bad_label(labels: &[u8]) -> Option<usize>
     ensures { result ≡ label_layout labels.now }
@@ -63,7 +63,7 @@ pub fn first_bad_label(labels: &[u8]) -> Option<usize>
     record::first_bad_within(&Labels, labels)
 }
 
-// The index of a list of labels, made in a lent array; the other is scratch.
+// Makes the index of a list of labels in `order`. `spare` is scratch.
 pub fn make_index<'a>(labels: &'a [u8], order: &'a mut [u16], spare: &mut [u16]) -> NameIndex<'a, 4>
     requires labels_value { label_layout labels.now ≡ None }
     requires most_labels_in_bounds { (most_labels ≤ length order.old) × (most_labels ≤ length spare.old) }
@@ -72,7 +72,7 @@ pub fn make_index<'a>(labels: &'a [u8], order: &'a mut [u16], spare: &mut [u16])
     NameIndex::make(Named::new(labels), order, spare)
 }
 
-// A list of labels that is not refused, with the ordered index of its names.
+// A list of labels that passed its checks, with the ordered index of its names.
 #[derive(Drop)]
 pub struct LabelTable<'a> {
     index: NameIndex<'a, 4>,
@@ -98,7 +98,7 @@ impl<'a> LabelTable<'a> {
         LabelTable { index }
     }
 
-    // The bytes of the list.
+    // Returns the list's bytes.
     pub fn bytes(&self) -> &'a [u8]
         ensures value { result.now ≡ self.now.list }
         ensures indexed { Indexed self.now.list self.now.order }
@@ -106,7 +106,7 @@ impl<'a> LabelTable<'a> {
         self.index.bytes()
     }
 
-    // The index of its names.
+    // Returns the index of the list's names.
     pub fn index(&self) -> &NameIndex<'a, 4>
         ensures value { result.now ≡ self.now }
         ensures indexed { Indexed self.now.list self.now.order }
@@ -114,7 +114,7 @@ impl<'a> LabelTable<'a> {
         &self.index
     }
 
-    // The label for all of that name, which may stand where the search for the source's has ended; so many names have been compared before.
+    // Looks up the name's label for all files, first at `end`, where the search for the source's own ended. Counts comparisons on from `before`.
     fn look_for_all(&self, end: usize, name: &[u8], before: u32) -> Looked
         requires { before ≤ 13 }
         ensures { result ≡ looked_for_all self.now.list self.now.order end name.now before }
@@ -135,7 +135,7 @@ impl<'a> LabelTable<'a> {
         self.index.find_from(names::FOR_ALL, name, compared)
     }
 
-    // The label of that name, the source's before the one for all, and how many names were compared.
+    // Looks up a name: first the source's own label, then the label for all. Counts the names compared.
     pub fn look_up(&self, source: u32, name: &[u8]) -> Looked
         ensures { result ≡ looked_up self.now.list self.now.order source name.now }
     {
@@ -146,7 +146,7 @@ impl<'a> LabelTable<'a> {
         }
     }
 
-    // The place of the label of that name.
+    // Returns the place of the name's label.
     pub fn find(&self, source: u32, name: &[u8]) -> Option<usize>
         ensures found { result ≡ labelled self.now.list source name.now }
         ensures within { ForSome result (λ place. place + 9 ≤ limit) }
@@ -155,7 +155,7 @@ impl<'a> LabelTable<'a> {
         self.look_up(source, name).named
     }
 
-    // The address of the label of that name, and how many names were compared.
+    // Returns the address of the name's label, and how many names were compared.
     pub fn get(&self, source: u32, name: &[u8]) -> Found
         ensures { (result.address ≡ resolve self.now.list source name.now) × (result.compared ≡ (looked_up self.now.list self.now.order source name.now).compared) × (result.compared ≤ 32) }
     {

@@ -13,7 +13,7 @@ use Rattle.lexer.specs.declared.TokenKind.{TokenKind}
 use Rattle.lexer.specs.declared.TokenKind.TheVariants.{Comment, Directive, Parameter, Register, FPRegister, IntegerLiteral, FloatLiteral, StringLiteral, Symbol, Plus, Minus, Comma, Colon, NewLine, LeftBrace, RightBrace}
 
 -- "Kinds 0 to 15 follow `StrippedKind`": Comment, Directive, Parameter; Register, FPRegister; IntegerLiteral, FloatLiteral; StringLiteral;
--- Symbol; and seven with nothing
+-- Symbol; and seven without a payload
 abbrev pub payloads : List Payload
 payloads = Text ∷ Text ∷ Text ∷ Slot ∷ Slot ∷ Number ∷ Number ∷ Text ∷ Name ∷ Nothing ∷ Nothing ∷ Nothing ∷ Nothing ∷ Nothing ∷ Nothing ∷ Nothing ∷ []
 
@@ -42,7 +42,7 @@ unfoldable pub token_ok : List ℕ → ℕ → Bool
 unfolding payload_of payload_ok
 token_ok s at = whole s at && (leb 8 (body_len s at) && payload_ok (payload_of (kind_at s at)) s at)
 
--- what a reader of the record at `at` asks of it: the record is there, and as much of its body as its kind has
+-- what reading the record at `at` requires: the record is whole, and its body is as long as its kind needs
 pub record TokenIs (s : List ℕ) (at : ℕ) : Type 0 where
   pub whole_at : whole s at ≡ true
   pub head : at + 4 ≤ length s
@@ -56,7 +56,7 @@ unfoldable pub token_layout : List ℕ → Option ℕ
 unfolding token_ok first_bad places within_limit
 token_layout s = within_limit s (first_bad (token_ok s) (places s))
 
--- the sixteen kinds of the record at `at`, in order
+-- the record at `at` read as each of the sixteen kinds, in order
 abbrev pub text_at : List ℕ → ℕ → TextPlace
 text_at s at = record { start = at + 12; len = payload_len s at }
 
@@ -75,7 +75,7 @@ unfoldable pub tokens : List ℕ → List Token
 unfolding places
 tokens s = map (token_at s) (places s)
 
--- a token's number, as `StrippedKind` has it
+-- a token kind's number, as in `StrippedKind`
 abbrev pub strip : TokenKind → ℕ
 strip (Comment t) = 0
 strip (Directive t) = 1

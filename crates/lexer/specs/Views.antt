@@ -1,4 +1,4 @@
--- What a token's kind holds, for the readers that ask for one kind. Assumes nothing.
+-- The value of a token, for readers that ask for one kind. Assumes nothing.
 use Rattle.std.specs.Prelude.{None, Option, Some, ℕ}
 use Rattle.lexer.specs.declared.TokenKind.{TokenKind}
 use Rattle.lexer.specs.declared.TokenKind.TheVariants.{Comment, Directive, Parameter, Register, FPRegister, IntegerLiteral, FloatLiteral, StringLiteral, Symbol, Plus, Minus, Comma, Colon, NewLine, LeftBrace, RightBrace}

@@ -1,4 +1,4 @@
-// Token records into tokens by value (the token types of lexer.rs).
+// Reads token records into tokens (the token types of lexer.rs).
 #![tactic(auto)]
 
 ghost use Rattle.std.specs.Prelude.{◌≡◌, ◌+◌, ◌≤◌, ◌<◌, min, ◌&&◌, length, leb};
@@ -12,7 +12,7 @@ ghost use Rattle.lexer.specs.Views.{as_integer};
 use record::Location;
 use registers::{FPRegisterSlot, RegisterSlot};
 
-// The kinds of tokens, numbered as StrippedKind has them.
+// The token kinds, numbered as in StrippedKind.
 pub const COMMENT: u8 = 0;
 
 pub const DIRECTIVE: u8 = 1;
@@ -45,7 +45,7 @@ pub const LEFT_BRACE: u8 = 14;
 
 pub const RIGHT_BRACE: u8 = 15;
 
-// A text's place in the token list.
+// Where a text stands in the token list.
 #[derive(Clone, Copy)]
 pub struct Text {
     pub start: usize,
@@ -78,7 +78,7 @@ pub struct Token {
     pub kind: TokenKind,
 }
 
-// What the payload of a kind of token is.
+// What a kind of token has as its payload.
 #[derive(Clone, Copy)]
 pub enum Payload {
     Text,
@@ -89,7 +89,7 @@ pub enum Payload {
     Unknown,
 }
 
-// The float of any bits. A NaN's pattern gives the NaN, of which the machine knows one.
+// Returns the float with these bits. All patterns of NaN become one NaN, as Rattle makes none from its bits.
 fn float_of(bits: u64) -> f64
     ensures { result ≡ of_bits binary64 bits }
 {
@@ -100,7 +100,7 @@ fn float_of(bits: u64) -> f64
     }
 }
 
-// The kind of the record at `at`; one that no byte holds is no token's, and is 255 here.
+// Returns the kind of the record at `at`, at most 255: no token has a kind above 15.
 fn kind_at(list: &[u8], at: usize) -> u8
     requires { at + 4 ≤ length list.now }
     ensures { result ≡ min (kind_at list.now at) 255 }
@@ -122,7 +122,7 @@ fn payload_of(kind: u8) -> Payload
     }
 }
 
-// Whether the n bytes of the payload of the record at `at` are a text.
+// Whether the payload of the record at `at`, `n` bytes long, is a text of at most 64 bytes.
 fn text_ok(list: &[u8], at: usize, n: usize) -> bool
     requires { at + 12 + n ≤ length list.now }
     ensures { result ≡ (leb n 64 && all is_text (part list.now (at + 12) n)) }
@@ -130,7 +130,7 @@ fn text_ok(list: &[u8], at: usize, n: usize) -> bool
     n <= 64 && record::all_text(&list[at + 12..at + 12 + n])
 }
 
-// Whether the payload of the record at `at`, of n bytes, is one of that sort.
+// Whether the payload of the record at `at`, `n` bytes long, is of the sort `payload`.
 #[tactic(auto, unfolding(crate::specs::Tokens::payload_ok))]
 fn payload_ok(payload: Payload, list: &[u8], at: usize, n: usize) -> bool
     requires { (n + 8 ≡ body_len list.now at) × (next list.now at ≤ length list.now) }
@@ -146,7 +146,7 @@ fn payload_ok(payload: Payload, list: &[u8], at: usize, n: usize) -> bool
     }
 }
 
-// The records that are tokens.
+// The layout of a list of tokens.
 struct Tokens;
 
 impl record::Layout for Tokens {
@@ -161,7 +161,7 @@ impl record::Layout for Tokens {
     }
 }
 
-// The place of the first record that is no token, or the limit.
+// Returns the place of the first record that is not a token, or the limit if the list is longer.
 #[tactic(auto, unfolding(crate::specs::Tokens::token_layout))]
 pub fn first_bad_token(list: &[u8]) -> Option<usize>
     ensures { result ≡ token_layout list.now }
@@ -169,7 +169,7 @@ pub fn first_bad_token(list: &[u8]) -> Option<usize>
     record::first_bad_within(&Tokens, list)
 }
 
-// The token at `at`, of a list that keeps its layout.
+// Reads the token at `at`, a record that keeps its layout.
 pub fn token_at(list: &[u8], at: usize) -> Token
     requires { TokenIs list.now at }
     ensures { result ≡ token_at list.now at }
@@ -201,7 +201,7 @@ pub fn token_at(list: &[u8], at: usize) -> Token
     Token { location, kind }
 }
 
-// A kind's number, as StrippedKind has it.
+// Returns a kind's number, as in StrippedKind.
 pub fn strip(kind: TokenKind) -> u8
     ensures { result ≡ strip kind }
 {
@@ -225,7 +225,7 @@ pub fn strip(kind: TokenKind) -> u8
     }
 }
 
-// The number of a literal.
+// Returns the number of an integer literal; None for another kind.
 pub fn as_integer(kind: TokenKind) -> Option<u64>
     ensures { result ≡ as_integer kind }
 {

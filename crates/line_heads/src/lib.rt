@@ -1,2 +1,2 @@
-// Token records line by line, and what a line begins with, as definitions and laws. This crate has no code.
+// Definitions and laws on token records line by line, and on what a line begins with. This crate has no code.
 #![tactic(auto)]

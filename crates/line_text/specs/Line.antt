@@ -1,5 +1,5 @@
--- What `emit_line` prints of an emit call: the refusal where there is one, the position, the fill counts, an accepted line's form, and the
--- three buffers after the call; or that there is no such job. Assumes nothing.
+-- What `emit_line` prints for an emit call: the refusal if there is one, the position, the fill counts, an accepted line's form, and the three
+-- buffers after the call; or that there is no such job. Assumes nothing.
 use Rattle.std.specs.Prelude.{Ok, Err, ℕ, List, [], ◌++◌, None, Option, Some}
 use Rattle.jobs.specs.declared.Job.{Job}
 use Rattle.jobs.specs.Jobs.{job_numbered as numbered_job}
@@ -70,20 +70,20 @@ call_in s lent =
 abbrev pub call_text : Job → List ℕ → Lent → List ℕ
 call_text job s lent = outcome_text (emit_outcome job (call_in s lent))
 
--- with the three buffers that the call may change as they are held
+-- the call gets copies of the three buffers that it may change, cut as `held` says
 unfoldable pub job_text : Job → List ℕ → List ℕ
 job_text job s = call_text job s (lent_of (held (list_of 3 s)) (held (list_of 4 s)) (held (list_of 5 s)))
 
 -- ---- the job of an input (document 02, P5 and P9)
--- the jobs in the order of their bytes
+-- the job that a byte names
 abbrev pub job_numbered : ℕ → Option Job
 job_numbered n = numbered_job n
 
--- the byte behind the address, 0 where it is missing
+-- the job's byte comes after the address; a missing one is 0
 abbrev pub job_in : List ℕ → Option Job
 job_in s = job_numbered (byte_at (behind_lists 6 s) 22)
 
--- a byte that is no job's goes before everything else
+-- a byte that names no job is reported before anything else
 abbrev pub asked_text : List ℕ → Option Job → List ℕ
 asked_text s (Some job) = job_text job s
 asked_text s None = bytes_of "no such job\n"

@@ -1,5 +1,4 @@
-// What `emit_line` does, from the bytes that it reads to those that it prints: an emit call's six buffers, its numbers and its job, and what
-// the call leaves.
+// What `emit_line` does: it reads an emit call's six buffers, its numbers and its job, makes the call, and prints what the call leaves.
 #![tactic(auto)]
 
 ghost use Rattle.std.specs.Prelude.{◌≡◌, ◌++◌, ◌+◌, ◌≤◌, length};
@@ -14,7 +13,7 @@ use text::{MOST, Printed};
 
 pub mod lines;
 
-// The numbers that stand behind the buffers.
+// Reads the numbers of a call. `input` starts after the six buffers.
 fn numbers_in(input: &[u8]) -> LineNumbers
     ensures { result ≡ numbers_in input.now }
 {
@@ -31,7 +30,7 @@ fn numbers_in(input: &[u8]) -> LineNumbers
     LineNumbers { counts, place }
 }
 
-// Makes the call of an input whose last three buffers are these.
+// Makes an input's call, on these copies of its last three buffers.
 fn make_call(
     job: Job,
     input: &[u8],
@@ -58,7 +57,7 @@ fn make_call(
     Emitted { answer, counts }
 }
 
-// What a call answers and what the buffers hold after it.
+// Appends a call's answer, and what the buffers hold after it.
 #[tactic(auto, using(crate::proofs::LineLaws::outcome_length, std::proofs::lemmas::Grind::common_steps), unfolding(crate::specs::Line::outcome_text))]
 fn put_emitted(out: &mut Printed, emitted: Emitted, data: &[u8], pending: &[u8], breakpoints: &[u8])
     requires { length out.old + length (outcome_text (outcome_of emitted.answer emitted.counts
@@ -72,7 +71,7 @@ fn put_emitted(out: &mut Printed, emitted: Emitted, data: &[u8], pending: &[u8],
     bytes_line::push_bytes(out, b"breakpoints ", breakpoints);
 }
 
-// The text of an input's call in a job.
+// Makes an input's call in a job, and writes its text.
 fn put_job(job: Job, input: &[u8], out: &mut Printed)
     ensures { out.new ≡ job_text job input.now }
 {
@@ -90,7 +89,7 @@ fn put_job(job: Job, input: &[u8], out: &mut Printed)
     put_emitted(out, emitted, data, pending, breakpoints);
 }
 
-// The job of that byte.
+// Returns the job that this byte names.
 pub fn job_numbered(number: u8) -> Option<Job>
     ensures { result ≡ job_numbered number }
 {
@@ -103,7 +102,7 @@ fn job_in(input: &[u8]) -> Option<Job>
     job_numbered(input::byte_or_zero(input::behind_lists(input, 6), 22))
 }
 
-// The text that `emit_line` prints for an input.
+// Writes the text that `emit_line` prints for an input.
 #[tactic(auto, unfolding(crate::specs::Line::line_text))]
 pub fn emit_line(input: &[u8], out: &mut Printed)
     ensures { out.new ≡ line_text input.now }

@@ -6,10 +6,10 @@ use emit_outcome::{EmitAnswer, FillCounts};
 use loading::LoadForm;
 use text::{MOST, Printed, Text};
 
-// Room for three counts of twenty digits.
+// Room for the line of three counts of at most twenty digits.
 const MOST_FILLS: usize = 69;
 
-// The refusal where there is one, and the position.
+// Appends the refusal, if there is one, and the position.
 pub fn put_answer(out: &mut Printed, answer: EmitAnswer)
     requires { length out.old + length (answer_text answer) ≤ MOST }
     ensures { out.new ≡ out.old ++ answer_text answer }
@@ -23,7 +23,7 @@ pub fn put_answer(out: &mut Printed, answer: EmitAnswer)
     }
 }
 
-// The line of the fill counts, in a text of its own: whatever the counts are, there is room.
+// Returns the line of the fill counts as a text of its own, with room for any counts.
 #[tactic(auto, using(text::proofs::TextLaws::field_most, text::proofs::TextLaws::last_most, std::proofs::lemmas::Grind::common_steps), unfolding(crate::specs::Line::fills_line))]
 fn fills_line(counts: FillCounts) -> Text<MOST_FILLS>
     ensures { result ≡ fills_line counts }
@@ -57,7 +57,7 @@ fn put_form(out: &mut Printed, form: LoadForm)
     }
 }
 
-// An accepted line's form.
+// Appends an accepted line's form; nothing for a refused line.
 pub fn put_loaded(out: &mut Printed, answer: EmitAnswer)
     requires { length out.old + length (loaded_text answer) ≤ MOST }
     ensures { out.new ≡ out.old ++ loaded_text answer }
@@ -68,7 +68,7 @@ pub fn put_loaded(out: &mut Printed, answer: EmitAnswer)
     }
 }
 
-// All but the buffers.
+// Appends all lines but the buffers'.
 #[tactic(auto, using(crate::proofs::LineLaws::head_length, std::proofs::lemmas::Grind::common_steps), unfolding(crate::specs::Line::head_text))]
 pub(crate) fn put_head(out: &mut Printed, answer: EmitAnswer, counts: FillCounts)
     requires { length out.old + length (head_text answer counts) ≤ MOST }

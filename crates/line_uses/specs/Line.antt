@@ -1,4 +1,4 @@
--- The words of a line, with the list in which their names stand and the labels. Assumes nothing.
+-- A line's words, with the token list that holds their names, and the labels. Assumes nothing.
 use Rattle.std.specs.Prelude.{ℕ, List}
 use Rattle.emit_pairs.specs.declared.InstructionPair.{InstructionPair}
 

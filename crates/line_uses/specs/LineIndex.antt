@@ -1,4 +1,4 @@
--- An index that a buffer holds, and the same with the uses of a line's pendings. Assumes nothing.
+-- The index in a buffer, and the same index with the uses of a line's pendings added. Assumes nothing.
 use Rattle.std.specs.Prelude.{ℕ, ◌≤◌, ◌<◌, ◌^◌, Bool, ◌||◌, ◌≡◌, length, Option}
 use mathlib.Core.List.{List, Memᴰ}
 use Rattle.record.specs.Stores.{append}
@@ -11,26 +11,26 @@ use Rattle.use_adding.specs.Adding.{IndexIn}
 use Rattle.line_uses.specs.LineUses.{pair_use, line_uses, has_key, key_among, label_growth, pair_growth}
 use Rattle.pending.specs.declared.InstructionLabel.{InstructionLabel}
 
--- keys of uses that a buffer holds, or of words before
+-- whether a key is in the index already, or among the words before
 abbrev pub held_by : (labels names : List ℕ) → List Use → List InstructionPair → UseKey → Bool
 held_by labels names us before key = has_key key us || key_among labels names key before
 
--- how much longer the index is with one use more, behind those of the words before
+-- how many bytes one more use adds to the index, once the words before have added theirs
 abbrev pub LabelGrows : (labels names d : List ℕ) (fill : ℕ) → List InstructionPair → AddressLabel → (size : ℕ) → Type 0
 LabelGrows labels names d fill before x size = (us : List Use) → IndexIn d fill us → KeysRise us → size ≡ label_growth labels names (held_by labels names us before) x
 
 abbrev pub PairGrows : (labels names d : List ℕ) (fill : ℕ) → List InstructionPair → Option InstructionLabel → (size : ℕ) → Type 0
 PairGrows labels names d fill before waits size = (us : List Use) → IndexIn d fill us → KeysRise us → size ≡ pair_growth labels names (held_by labels names us before) waits
 
--- how long it is with all of a line's uses, whichever number the first is
+-- how long the index is with all of a line's uses, whatever number n the first pending has
 abbrev pub SizeWithLine : (labels names d : List ℕ) (fill : ℕ) → List InstructionPair → (size : ℕ) → Type 0
 SizeWithLine labels names d fill pairs size = (us : List Use) → IndexIn d fill us → KeysRise us → (n : ℕ) → size ≡ length (uses_bytes (line_uses labels names n pairs us))
 
--- owners and sources that have four bytes
+-- owners and sources fit in four bytes
 abbrev pub OwnersFit : List Use → Type 0
 OwnersFit us = (u : Use) → Memᴰ u us → kept_of u.key.standing < 2 ^ 32
 
--- an index with room for the use of what a word waits for, and the index with it
+-- there is room for the use of the label that a word waits for; below, the index with that use added
 pub record RoomForPair (labels names d : List ℕ) (fill : ℕ) (waits : Option InstructionLabel) (n : ℕ) : Type 0 where
   pub us : List Use
   pub index_in : IndexIn d fill us
@@ -44,7 +44,7 @@ pub record AddsPair (labels names d e : List ℕ) (waits : Option InstructionLab
 abbrev pub AddsPairTo : (labels names d e : List ℕ) (fill : ℕ) (waits : Option InstructionLabel) (n after : ℕ) → Type 0
 AddsPairTo labels names d e fill waits n after = (us : List Use) → IndexIn d fill us → AddsPair labels names d e waits n after us
 
--- the same of a line
+-- the same for a whole line
 pub record RoomForLine (labels names d : List ℕ) (fill : ℕ) (pairs : List InstructionPair) (n : ℕ) : Type 0 where
   pub us : List Use
   pub index_in : IndexIn d fill us

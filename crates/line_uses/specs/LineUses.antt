@@ -9,14 +9,14 @@ use Rattle.std.specs.declared.cmp.Ordering.TheVariants.{Less, Equal, Greater}
 use Rattle.std.specs.declared.cmp.Ordering.{Ordering}
 use Rattle.pending.specs.declared.InstructionLabel.{InstructionLabel}
 
--- ---- the uses then
+-- ---- the uses after a line
 
--- the use of what a word waits for, if its pending is number n; names stand in the token list
+-- adds the use of the label that a word waits for, as pending number n; the token list holds the names
 abbrev pub pair_use : (labels names : List ℕ) → Option InstructionLabel → ℕ → List Use → List Use
 pair_use labels names None n us = us
 pair_use labels names (Some waits) n us = use_of labels names waits.label n us
 
--- and the number of the next pending
+-- the number of the next pending
 abbrev pub next_number : Option InstructionLabel → ℕ → ℕ
 next_number None n = n
 next_number (Some waits) n = n + 1
@@ -55,7 +55,7 @@ unfoldable pub key_among : (labels names : List ℕ) → UseKey → List Instruc
 key_among labels names key [] = false
 key_among labels names key (p ∷ ps) = pair_has labels names key p.label || key_among labels names key ps
 
--- ---- how much longer the index is with one use more: two bytes where the key is held, else a record of 13 and the name
+-- ---- how many bytes one more use adds to the index: two if the key is held already, else a record of 13 bytes and the name
 
 abbrev pub growth_of : (held : Bool) → (name : List ℕ) → ℕ
 growth_of held name = elim held [ true ↦ 2 | false ↦ 13 + length name ]

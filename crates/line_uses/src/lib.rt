@@ -1,4 +1,4 @@
-// The uses of a line's pendings: how long an index is with them, and the index with them, in place.
+// Adds the label uses of a line's pendings to an index, in place, and says beforehand how long the index will be.
 #![tactic(auto)]
 
 ghost use Rattle.std.specs.Prelude.{◌≡◌, ◌+◌, ◌≤◌, length};
@@ -13,7 +13,7 @@ use pending::InstructionLabel;
 use std::marker::Model;
 use use_adding::{Key, Uses};
 
-// The words of a line, of which some wait for a label, with the token list in which their names stand and the labels.
+// A line's words, some of which wait for a label, with the token list that holds the names, and the labels.
 #[derive(Drop)]
 pub struct Line<'a> {
     tokens: &'a [u8],
@@ -44,7 +44,7 @@ impl<'a> Line<'a> {
         }
     }
 
-    // Whether a label is a name with that key. The names are compared first: one that differs is not looked up.
+    // Whether the label is a name with this key. Names are compared first, so that a different name is not looked up.
     fn label_has(&self, label: AddressLabel, key: &Key<'_>) -> bool
         ensures { result ≡ label_has self.now.labels self.now.names key.now label }
     {
@@ -58,7 +58,7 @@ impl<'a> Line<'a> {
         }
     }
 
-    // Whether what a word waits for is a name with that key.
+    // Whether the word waits for a name with this key.
     fn pair_has(&self, waits: Option<InstructionLabel>, key: &Key<'_>) -> bool
         ensures { result ≡ pair_has self.now.labels self.now.names key.now waits }
     {
@@ -68,7 +68,7 @@ impl<'a> Line<'a> {
         }
     }
 
-    // Whether one of the words before waits for a name with that key.
+    // Whether one of the words in `before` waits for a name with this key.
     #[tactic(auto, using(crate::proofs::HasLaws::among_hit, crate::proofs::HasLaws::among_pass, crate::proofs::HasLaws::among_end))]
     fn among(&self, before: &[InstructionPair], key: &Key<'_>) -> bool
         ensures { result ≡ key_among self.now.labels self.now.names key.now before.now }
@@ -81,7 +81,7 @@ impl<'a> Line<'a> {
         false
     }
 
-    // How much longer an index is with the use of a label behind those of the words before.
+    // Returns how many bytes the use of a label adds to the index, once the words in `before` have added theirs.
     fn label_growth(
         &self,
         uses: &Uses<'_>,
@@ -104,7 +104,7 @@ impl<'a> Line<'a> {
         }
     }
 
-    // The same for what a word waits for.
+    // The same for the label that a word waits for, if any.
     fn pair_growth(
         &self,
         uses: &Uses<'_>,
@@ -120,7 +120,7 @@ impl<'a> Line<'a> {
         }
     }
 
-    // How long an index is with the uses of the line's pendings: for refusal 17, before anything is written.
+    // Returns the index's length with the line's uses added. Refusal 17 needs it before anything is written.
     pub fn size_with(&self, uses: &Uses<'_>) -> usize
         requires { length self.now.names ≤ limit }
         ensures { SizeWithLine self.now.labels self.now.names uses.now (length uses.now) self.now.pairs result }
@@ -133,7 +133,7 @@ impl<'a> Line<'a> {
         size
     }
 
-    // The use of what a word waits for, as that of pending n. The index's new fill count.
+    // Adds the use of the label that a word waits for, if any, as pending number n. Returns the index's new fill count.
     fn add_pair(
         &self,
         index: &mut [u8],
@@ -152,7 +152,7 @@ impl<'a> Line<'a> {
         }
     }
 
-    // The uses of the line's pendings, of which the first is number `first` of its list. The index's new fill count.
+    // Adds the uses of the line's pendings, numbered from `first` on. Returns the index's new fill count.
     pub fn add_to(&self, index: &mut [u8], fill: usize, first: u16) -> usize
         requires { (first ≤ 60000) × RoomForLine self.now.labels self.now.names index.old fill self.now.pairs first }
         ensures { AddsLineTo self.now.labels self.now.names index.old index.new fill self.now.pairs first result }
@@ -167,7 +167,7 @@ impl<'a> Line<'a> {
     }
 }
 
-// The number of the pending behind that of a word, if the word has one.
+// Returns the number of the next pending: a word that waits for no label takes none.
 fn next_number(n: u16, waits: Option<InstructionLabel>) -> u16
     requires { n ≤ 60005 }
     ensures { result ≡ next_number waits n }

@@ -6,11 +6,11 @@ use Rattle.refusal.specs.declared.Refusal.{Refusal}
 use Rattle.emit_pairs.specs.Pairs.{plain}
 use Rattle.emit_bytes.specs.Appended.{word_bytes}
 
--- the bytes of an answer
+-- how many bytes an answer has
 abbrev pub answer_bytes : ℕ
 answer_bytes = 24
 
--- what a call returns that has no room for them: no refusal's number
+-- what a call returns if its answer, or another buffer of fixed length, is too short; no refusal has this number
 abbrev pub too_short : ℕ
 too_short = 2 ^ 32 - 1
 
@@ -19,19 +19,19 @@ unfoldable pub low_word : ℤ → ℕ
 low_word (pos n) = n % 2 ^ 32
 low_word (negsuc n) = 2 ^ 32 - 1 - n % 2 ^ 32
 
--- number, source, index, a and b, and the last: a build's entry, a line's position or a text's fill
+-- number, source, index, a, b and a last word, such as a build's entry, a line's position or a text's fill
 abbrev pub answer_words : (number : ℕ) → Location → ℤ → (b last : ℕ) → List ℕ
 answer_words number location a b last = number ∷ location.source ∷ location.index ∷ low_word a ∷ b ∷ last ∷ []
 
--- those of an answer that gives one number, as the last; a refusal gives none
+-- the words of an answer that has one number, as its last word; for a refusal that word is 0
 abbrev pub answered_words : Result ℕ Refusal → List ℕ
 answered_words (Ok last) = answer_words 0 zero_location (pos 0) 0 last
 answered_words (Err r) = let n = numbered r in answer_words n.number n.location n.a n.b 0
 
--- the number, which the call returns too
+-- the answer's number, which the call returns too
 abbrev pub number_of : List ℕ → ℕ
 number_of words = get_or words 0 0
 
--- each word's four bytes, as a line's words have them
+-- each word as four little-endian bytes, like a line's words
 abbrev pub words_as_bytes : List ℕ → List ℕ
 words_as_bytes words = word_bytes (map plain words)

@@ -8,13 +8,13 @@ ghost use Rattle.linked_answer.specs.Words.{low_word, answer_words, answered_wor
 
 use refusal::Refusal;
 
-// Number, source, index, a, b and the last, each four bytes.
+// An answer's length: number, source, index, a, b and a last word, four bytes each.
 pub const ANSWER_BYTES: usize = 24;
 
-// What a call returns that has no room for them. No refusal has this number.
+// What a call returns if its answer, or another buffer of fixed length, is too short. No refusal has this number.
 pub const TOO_SHORT: u32 = 0xFFFF_FFFF;
 
-// The number's low 32 bits. Kept as the definition has it, by the sign and the size.
+// Returns the number's low 32 bits. Kept as the definition has it, by the sign and the size.
 fn low_word(a: i64) -> u32
     ensures { result ≡ low_word a }
 {
@@ -27,14 +27,14 @@ fn low_word(a: i64) -> u32
     }
 }
 
-// The words of what is done.
+// Returns an accepted call's words.
 pub fn done_words(a: u32, last: u32) -> [u32; 6]
     ensures { result ≡ answer_words 0 zero_location (pos a) 0 last }
 {
     [0, 0, 0, a, 0, last]
 }
 
-// The words of a refusal.
+// Returns a refusal's words.
 pub fn refusal_words(refusal: Refusal, last: u32) -> [u32; 6]
     ensures { result ≡ answer_words (numbered refusal).number (numbered refusal).location (numbered refusal).a (numbered refusal).b last }
 {
@@ -43,7 +43,7 @@ pub fn refusal_words(refusal: Refusal, last: u32) -> [u32; 6]
     [n.number, at.source, at.index, low_word(n.a), n.b, last]
 }
 
-// The words of an answer that gives one number, as the last; a refusal gives none.
+// Returns the words of an answer that has one number, as its last word. For a refusal that word is 0.
 pub fn answered_words(answer: Result<u32, Refusal>) -> [u32; 6]
     ensures { result ≡ answered_words answer }
 {
@@ -53,7 +53,7 @@ pub fn answered_words(answer: Result<u32, Refusal>) -> [u32; 6]
     }
 }
 
-// The words' bytes from the buffer's start on.
+// Writes the words' bytes at the start of `d`.
 pub fn store_words(d: &mut [u8], words: &[u32])
     requires { 4 * length words.now ≤ length d.old }
     ensures { d.new ≡ append d.old 0 (words_as_bytes words.now) }

@@ -1,4 +1,4 @@
--- What the linked call for a build gives back and leaves in its lent buffers. Assumes nothing.
+-- What the linked call for a build returns, and what it leaves in its lent buffers. Assumes nothing.
 use Rattle.std.specs.Prelude.{ℕ, List, true, false, length, leb, Result}
 use Rattle.jobs.specs.declared.Job.{Job}
 use Rattle.jobs.specs.declared.Job.TheVariants.{Commit}
@@ -23,7 +23,7 @@ answered outcome answer =
     let words = built_words outcome.answer in
     record { result = number_of words; regions = outcome.regions; answer = append answer 0 (words_as_bytes words) }
 
--- with an answer of fewer than 24 bytes nothing is done
+-- if the answer has fewer than 24 bytes, nothing is done
 unfoldable pub linked_build_by : Job → (labels entry regions pending answer : List ℕ) → LinkedBuild
 linked_build_by job labels entry regions pending answer =
     elim (leb answer_bytes (length answer)) [
@@ -31,6 +31,6 @@ linked_build_by job labels entry regions pending answer =
       | false ↦ record { result = too_short; regions = regions; answer = answer }
     ]
 
--- the commit's
+-- the same in a job as the commit has it
 abbrev pub linked_build : (labels entry regions pending answer : List ℕ) → LinkedBuild
 linked_build = linked_build_by Commit

@@ -1,4 +1,4 @@
-// A build as a linked call: the regions are patched in place, the answer goes as six words into its own buffer.
+// A build as a linked call: it patches the regions in place, and writes its answer as six words into a buffer of its own.
 #![tactic(auto)]
 
 ghost use Rattle.std.specs.Prelude.{◌≡◌};
@@ -8,7 +8,7 @@ use jobs::Job;
 use linked_answer::{ANSWER_BYTES, TOO_SHORT};
 
 // Patches the regions in place or refuses, writes the answer and returns its number: 0 for an accepted build.
-// Where the answer is too short it returns TOO_SHORT and changes nothing.
+// If the answer is too short, it returns TOO_SHORT and changes nothing.
 pub fn build(
     job: Job,
     labels: &[u8],

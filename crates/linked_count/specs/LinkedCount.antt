@@ -1,4 +1,4 @@
--- What the linked call for the counts of a range gives back and leaves in its lent buffers. Assumes nothing.
+-- What the linked call for the counts of a range returns, and what it leaves in its lent buffers. Assumes nothing.
 use Rattle.std.specs.Prelude.{ℕ, List, ◌++◌, true, false, ◌&&◌, pos, length, leb, Err, Ok, Result}
 use Rattle.record.specs.Stores.{append, le64_bytes}
 use Rattle.refusal.specs.Numbers.{zero_location, numbered}
@@ -12,14 +12,14 @@ abbrev pub counted_words : Result FormCounts Refusal → List ℕ
 counted_words (Ok c) = answer_words 0 zero_location (pos 0) 0 0
 counted_words (Err r) = let n = numbered r in answer_words n.number n.location n.a n.b 0
 
--- four numbers of eight bytes
+-- how many bytes the counts have: four numbers of eight bytes
 abbrev pub form_count_bytes : ℕ
 form_count_bytes = 32
 
 abbrev pub form_counts : FormCounts → List ℕ
 form_counts c = le64_bytes c.addiu ++ le64_bytes c.ori ++ le64_bytes c.lui ++ le64_bytes c.both
 
--- a refused range leaves their bytes
+-- the counts' bytes after the call: a refused range leaves them as they were
 abbrev pub form_counts_after : Result FormCounts Refusal → List ℕ → List ℕ
 form_counts_after (Ok c) counts = append counts 0 (form_counts c)
 form_counts_after (Err r) counts = counts
@@ -34,7 +34,7 @@ count_answered given counts answer =
     let words = counted_words given in
     record { result = number_of words; counts = form_counts_after given counts; answer = append answer 0 (words_as_bytes words) }
 
--- with an answer of fewer than 24 bytes, or counts of fewer than 32, nothing is done
+-- if the answer has fewer than 24 bytes, or the counts fewer than 32, nothing is done
 unfoldable pub linked_count : (start end : ℕ) (counts answer : List ℕ) → LinkedCount
 linked_count start end counts answer =
     elim (leb answer_bytes (length answer) && leb form_count_bytes (length counts)) [

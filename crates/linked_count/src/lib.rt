@@ -1,4 +1,4 @@
-// The counts of a range by form as a linked call: the counts go into a buffer of 32 bytes, the answer as six words into its own.
+// Counts the constants of a range by form, as a linked call: the counts go into a buffer of 32 bytes, the answer as six words into its own.
 #![tactic(auto)]
 
 ghost use Rattle.std.specs.Prelude.{◌≡◌, ◌≤◌, length};
@@ -9,10 +9,10 @@ use form_counts::FormCounts;
 use linked_answer::{ANSWER_BYTES, TOO_SHORT};
 use refusal::Refusal;
 
-// How many constants load by addiu, by ori, by lui and by both halves, each eight bytes.
+// The counts' length: how many constants load by addiu, by ori, by lui and by both halves, eight bytes each.
 const FORM_COUNT_BYTES: usize = 32;
 
-// A range's counts are not among the words.
+// Returns the answer's words. The counts are not among them.
 fn counted_words(answer: Result<FormCounts, Refusal>) -> [u32; 6]
     ensures { result ≡ counted_words answer }
 {
@@ -29,7 +29,7 @@ fn store_form_counts(counts: &mut [u8], counted: FormCounts)
     record::put64(counts, 24, counted.both);
 }
 
-// The counts of a range; a refused one leaves what stands there.
+// Writes the counts of a range. A refused range leaves the buffer as it was.
 fn put_form_counts(counts: &mut [u8], answer: Result<FormCounts, Refusal>)
     requires { form_count_bytes ≤ length counts.old }
     ensures { counts.new ≡ form_counts_after answer counts.old }
@@ -40,7 +40,7 @@ fn put_form_counts(counts: &mut [u8], answer: Result<FormCounts, Refusal>)
 }
 
 // Counts the constants from `start` to `end` by their forms or refuses, writes the answer and returns its number: 0 for a counted range.
-// Where the answer or the counts are too short it returns TOO_SHORT and changes nothing.
+// If the answer or the counts are too short, it returns TOO_SHORT and changes nothing.
 pub fn count_forms(start: u32, end: u32, counts: &mut [u8], answer: &mut [u8]) -> u32
     ensures { linked_count start end counts.old answer.old
         ≡ (record { result = result; counts = counts.new; answer = answer.new }) }

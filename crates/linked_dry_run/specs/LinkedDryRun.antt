@@ -22,12 +22,12 @@ reason_number Word = 2
 reason_number Overflow = 3
 
 -- "It returns state, reason and the number of steps taken" (document 02, P10): number 0, the reason as a, the steps as b and the pc as the
--- last word; of a refusal, as of a refused build, "its number, a location and numbers a and b", and the pc that was given
+-- last word; a refusal has "its number, a location and numbers a and b", like a refused build, and the pc that was given
 abbrev pub run_words : RunAnswer → (pc : ℕ) → List ℕ
 run_words (Ok s) pc = answer_words 0 zero_location (pos (reason_number s.reason)) s.steps pc
 run_words (Err r) pc = let n = numbered r in answer_words n.number n.location n.a n.b pc
 
--- a refused run leaves the bytes of the registers as they are
+-- a refused run leaves the register bytes as they are
 abbrev pub registers_after : RunAnswer → Machine → List ℕ → List ℕ
 registers_after (Ok s) m registers = append registers 0 (words_as_bytes m.registers)
 registers_after (Err r) m registers = registers
@@ -49,7 +49,7 @@ run_answered run registers answer =
 abbrev pub machine_of : (registers : List ℕ) → (pc : ℕ) → Machine
 machine_of registers pc = record { pc = pc; registers = registers_in registers }
 
--- with an answer of fewer than 24 bytes or registers of fewer than 128 nothing is done
+-- if the answer buffer has fewer than 24 bytes or the registers fewer than 128, nothing is done
 unfoldable pub linked_dry_run : (regions registers : List ℕ) → (pc allowance : ℕ) → (answer : List ℕ) → LinkedDryRun
 linked_dry_run regions registers pc allowance answer =
     elim (leb answer_bytes (length answer) && leb register_bytes (length registers)) [

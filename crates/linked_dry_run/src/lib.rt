@@ -11,7 +11,7 @@ use machine::Machine;
 // The 32 registers, each four bytes.
 const REGISTER_BYTES: usize = 128;
 
-// Why the run stopped, its steps and its pc, or the refusal and the pc that was given.
+// Returns the answer's words: the run's reason, steps and pc, or the refusal and the pc that was given.
 fn run_words(answer: RunAnswer, pc: u32) -> [u32; 6]
     ensures { result ≡ run_words answer pc }
 {
@@ -21,7 +21,7 @@ fn run_words(answer: RunAnswer, pc: u32) -> [u32; 6]
     }
 }
 
-// The registers that a run leaves; a refused one leaves what stands there.
+// Writes the registers that a run leaves; a refused run writes none.
 fn put_registers(registers: &mut [u8], answer: RunAnswer, machine: Machine)
     requires { register_bytes ≤ length registers.old }
     ensures { registers.new ≡ registers_after answer machine registers.old }
@@ -32,8 +32,8 @@ fn put_registers(registers: &mut [u8], answer: RunAnswer, machine: Machine)
     }
 }
 
-// Runs the image dry or refuses, writes the answer and returns its number: 0 for a run.
-// Where the answer or the registers are too short it returns TOO_SHORT and changes nothing.
+// Dry-runs the image or refuses, writes the answer and returns its number: 0 for a run.
+// If the answer or register buffer is too short, it returns TOO_SHORT and changes nothing.
 pub fn dry_run(
     regions: &[u8],
     registers: &mut [u8],

@@ -1,4 +1,4 @@
--- What the linked calls that keep an index give back and leave in their lent buffers. Assumes nothing.
+-- What the linked calls for an index return, and what they leave in their lent buffers. Assumes nothing.
 use Rattle.std.specs.Prelude.{ℕ, List, [], ◌∷◌, Bool, true, false, ◌&&◌, pos, length, get_or, leb, Err, Ok, Result}
 use Rattle.jobs.specs.declared.Job.{Job}
 use Rattle.jobs.specs.declared.Job.TheVariants.{Commit, Manual, Release6}
@@ -16,7 +16,7 @@ use Rattle.indexed_outcome.specs.Make.{MakeOutcome, make_outcome}
 use Rattle.refusal.specs.declared.Refusal.{Refusal}
 
 -- ---- a line
--- "the index with a fourth fill count", behind the three of every line
+-- "the index with a fourth fill count", after the three of every line
 abbrev pub indexed_counts_bytes : ℕ
 indexed_counts_bytes = 16
 
@@ -26,7 +26,7 @@ indexed_counts_at counts = record { counts = record { data_len = le32 counts 0; 
 abbrev pub indexed_count_words : IndexedCounts → List ℕ
 indexed_count_words c = c.counts.data_len ∷ c.counts.pending ∷ c.counts.breakpoints ∷ c.index ∷ []
 
--- a refused line leaves their bytes
+-- a refused line leaves the bytes of the counts
 abbrev pub indexed_counts_after : EmitAnswer → IndexedCounts → List ℕ → List ℕ
 indexed_counts_after (Ok done) c counts = append counts 0 (words_as_bytes (indexed_count_words c))
 indexed_counts_after (Err refused) c counts = counts
@@ -59,7 +59,7 @@ indexed_answered outcome counts answer =
 abbrev pub answerable : (counts : List ℕ) (job : ℕ) (answer : List ℕ) → Bool
 answerable counts job answer = leb answer_bytes (length answer) && (leb indexed_counts_bytes (length counts) && leb job last_job)
 
--- with an answer of fewer than 24 bytes, counts of fewer than 16, or a number that is no job's, nothing is done
+-- nothing is done if the answer has fewer than 24 bytes, the counts have fewer than 16, or no job has that number
 unfoldable pub linked_indexed : (token_list mnemonic descriptors : List ℕ) → Lent → (labels index counts : List ℕ) → LinePlace → (job : ℕ) (answer : List ℕ) → LinkedIndexed
 linked_indexed token_list mnemonic descriptors lent labels index counts place job answer =
     let c = indexed_counts_at counts in
@@ -68,8 +68,8 @@ linked_indexed token_list mnemonic descriptors lent labels index counts place jo
       | false ↦ record { result = too_short; lent = lent; index = index; counts = counts; answer = answer }
     ]
 
--- ---- an index made afresh
--- it has number 0 and its fill count as the last word (docs/DECISIONS.md); a refusal has, as a refused build has, "its number, a
+-- ---- an index made from scratch
+-- an index gives number 0 and its fill count as the last word (docs/DECISIONS.md); a refusal gives, like a refused build, "its number, a
 -- location and numbers a and b", and the last word 0
 abbrev pub made_words : Result ℕ Refusal → List ℕ
 made_words (Ok fill) = answer_words 0 zero_location (pos 0) 0 fill
@@ -85,7 +85,7 @@ make_answered outcome answer =
     let words = made_words outcome.answer in
     record { result = number_of words; index = outcome.index; answer = append answer 0 (words_as_bytes words) }
 
--- with an answer of fewer than 24 bytes nothing is done
+-- nothing is done if the answer has fewer than 24 bytes
 unfoldable pub linked_make : (pending : List ℕ) (fill : ℕ) (labels index answer : List ℕ) → LinkedMake
 linked_make pending fill labels index answer =
     elim (leb answer_bytes (length answer)) [

@@ -1,5 +1,5 @@
-// The calls that keep an index as linked calls: an emit call with labels and an index, in the job that a number names, and an index made afresh.
-// The answer goes as six words into its buffer.
+// The linked calls for an index: an emit call with labels and an index, in a job given by its number, and making an index from scratch.
+// The answer goes into its buffer as six words.
 #![tactic(auto)]
 
 ghost use Rattle.std.specs.Prelude.{◌≡◌, ◌≤◌, length};
@@ -10,7 +10,7 @@ use emit_outcome::{EmitAnswer, LinePlace};
 use indexed_outcome::IndexedCounts;
 use linked_answer::{ANSWER_BYTES, TOO_SHORT};
 
-// The fill counts of the region data, the pending, the breakpoint and the index buffer, each four bytes.
+// The fill counts of the region data, pending, breakpoint and index buffers, four bytes each.
 const COUNTS_BYTES: usize = 16;
 
 fn counts_at(counts: &[u8]) -> IndexedCounts
@@ -23,7 +23,7 @@ fn counts_at(counts: &[u8]) -> IndexedCounts
     }
 }
 
-// The counts of an accepted line; a refused line leaves those that stand there.
+// Writes the counts of an accepted line; a refused line leaves the counts as they were.
 fn put_counts(counts: &mut [u8], answer: EmitAnswer, filled: IndexedCounts)
     requires { indexed_counts_bytes ≤ length counts.old }
     ensures { counts.new ≡ indexed_counts_after answer filled counts.old }
@@ -40,8 +40,8 @@ fn put_counts(counts: &mut [u8], answer: EmitAnswer, filled: IndexedCounts)
     }
 }
 
-// Emits a line into the buffers and updates the index, or refuses it, writes the answer and returns its number: 0 for an accepted line.
-// Where the answer or the counts are too short, or no job has the number, it returns TOO_SHORT and changes nothing.
+// Emits a line and updates the index, or refuses the line. Writes the answer and returns its number: 0 for an accepted line.
+// If the answer or the counts are too short, or no job has that number, it returns TOO_SHORT and changes nothing.
 pub fn do_indexed(
     tokens: &[u8],
     mnemonic: &[u8],
@@ -96,8 +96,8 @@ pub fn do_indexed(
     words[0]
 }
 
-// Makes the index of a filled pending buffer afresh or refuses, writes the answer and returns its number: 0 for an index.
-// Where the answer is too short it returns TOO_SHORT and changes nothing.
+// Makes the index of a filled pending buffer from scratch, or refuses. Writes the answer and returns its number: 0 for an index.
+// If the answer is too short, it returns TOO_SHORT and changes nothing.
 pub fn make_index(
     pending: &[u8],
     fill: u32,

@@ -1,4 +1,4 @@
-// A lookup of a label as a linked call: the answer goes as six words into its buffer.
+// The linked call for a lookup of a label. The answer goes into its buffer as six words.
 #![tactic(auto)]
 
 ghost use Rattle.std.specs.Prelude.{◌≡◌};
@@ -8,7 +8,7 @@ use labels::Found;
 use linked_answer::{ANSWER_BYTES, TOO_SHORT};
 use refusal::Refusal;
 
-// Whether there is a label, how many names were compared, and its address.
+// Returns the six words of a lookup: whether there is a label, how many names were compared, and the label's address.
 fn found_words(found: Found) -> [u32; 6]
     ensures { result ≡ found_words found }
 {
@@ -27,8 +27,8 @@ fn find_words(answer: Result<Found, Refusal>) -> [u32; 6]
     }
 }
 
-// Looks the name up or refuses, writes the answer and returns its number: 0 for a lookup, whether or not there is a label.
-// Where the answer is too short it returns TOO_SHORT and changes nothing.
+// Looks the name up or refuses. Writes the answer and returns its number: 0 for a lookup, whether or not there is a label.
+// If the answer is too short, it returns TOO_SHORT and changes nothing.
 pub fn find_label(labels: &[u8], name: &[u8], source: u32, answer: &mut [u8]) -> u32
     ensures { linked_find labels.now name.now source answer.old ≡ (record { result = result; answer = answer.new }) }
 {

@@ -10,7 +10,7 @@ use Rattle.linked_answer.specs.Words.{answer_words}
 abbrev pub emitted_words : EmitAnswer → List ℕ
 emitted_words answer = let r = returned answer in answer_words r.number r.location r.a r.b r.position
 
--- the bytes of the fill counts
+-- how many bytes the fill counts have
 abbrev pub counts_bytes : ℕ
 counts_bytes = 12
 

@@ -1,4 +1,4 @@
--- What the linked call for a line gives back and leaves in its lent buffers. Assumes nothing.
+-- What the linked call for a line returns, and what it leaves in its lent buffers. Assumes nothing.
 use Rattle.std.specs.Prelude.{Ok, Err, ℕ, List, true, false, ◌&&◌, length, leb}
 use Rattle.jobs.specs.declared.Job.{Job}
 use Rattle.jobs.specs.declared.Job.TheVariants.{Commit}
@@ -11,7 +11,7 @@ use Rattle.emit_outcome.specs.Call.{Lent, EmitOutcome, call_of}
 use Rattle.emit_outcome.specs.Emit.{emit_outcome}
 use Rattle.linked_line.specs.LineWords.{emitted_words, counts_bytes, counts_at, count_words}
 
--- a refused line leaves their bytes
+-- the counts' bytes after the call: a refused line leaves them as they were
 abbrev pub counts_after : EmitAnswer → FillCounts → List ℕ → List ℕ
 counts_after (Ok done) c counts = append counts 0 (words_as_bytes (count_words c))
 counts_after (Err refused) c counts = counts
@@ -32,7 +32,7 @@ line_answered outcome counts answer =
       answer = append answer 0 (words_as_bytes words);
     }
 
--- with an answer of fewer than 24 bytes, or counts of fewer than 12, nothing is done
+-- if the answer has fewer than 24 bytes, or the counts fewer than 12, nothing is done
 unfoldable pub linked_line_by : Job → (token_list mnemonic descriptors : List ℕ) → Lent → (counts : List ℕ) → LinePlace → (answer : List ℕ) → LinkedLine
 linked_line_by job token_list mnemonic descriptors lent counts place answer =
     elim (leb answer_bytes (length answer) && leb counts_bytes (length counts)) [
@@ -40,6 +40,6 @@ linked_line_by job token_list mnemonic descriptors lent counts place answer =
       | false ↦ record { result = too_short; lent = lent; counts = counts; answer = answer }
     ]
 
--- the commit's
+-- the same in a job as the commit has it
 abbrev pub linked_line : (token_list mnemonic descriptors : List ℕ) → Lent → (counts : List ℕ) → LinePlace → (answer : List ℕ) → LinkedLine
 linked_line = linked_line_by Commit

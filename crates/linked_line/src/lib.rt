@@ -1,4 +1,4 @@
-// A line's emit call as a linked call: the fill counts stand in a buffer of twelve bytes, the answer goes as six words into its own.
+// An emit call as a linked call: the fill counts are in a buffer of twelve bytes, and the answer goes as six words into a buffer of its own.
 #![tactic(auto)]
 
 ghost use Rattle.std.specs.Prelude.{◌≡◌, ◌≤◌, length};
@@ -10,10 +10,10 @@ use emit_outcome::{EmitAnswer, FillCounts, LinePlace};
 use jobs::Job;
 use linked_answer::{ANSWER_BYTES, TOO_SHORT, done_words, refusal_words};
 
-// The fill counts of the region data, the pending and the breakpoint buffer, each four bytes.
+// The counts' length: the fill counts of the region data, the pending and the breakpoint buffer, four bytes each.
 pub const COUNTS_BYTES: usize = 12;
 
-// A line has a position, refused or not.
+// Returns the answer's words. The last is the position, of a refused line too.
 pub fn emitted_words(answer: EmitAnswer) -> [u32; 6]
     ensures { result ≡ emitted_words answer }
 {
@@ -37,7 +37,7 @@ pub fn counts_at(counts: &[u8]) -> FillCounts
     }
 }
 
-// The counts of an accepted line; a refused line leaves those that stand there.
+// Writes the new counts of an accepted line. A refused line leaves the old ones.
 fn put_counts(counts: &mut [u8], answer: EmitAnswer, filled: FillCounts)
     requires { counts_bytes ≤ length counts.old }
     ensures { counts.new ≡ counts_after answer filled counts.old }
@@ -49,7 +49,7 @@ fn put_counts(counts: &mut [u8], answer: EmitAnswer, filled: FillCounts)
 }
 
 // Emits a line into the buffers or refuses it, writes the answer and returns its number: 0 for an accepted line.
-// Where the answer or the counts are too short it returns TOO_SHORT and changes nothing.
+// If the answer or the counts are too short, it returns TOO_SHORT and changes nothing.
 pub fn do_instruction(
     job: Job,
     tokens: &[u8],

@@ -6,8 +6,8 @@ use Rattle.linked_answer.specs.Words.{answer_bytes, too_short, answer_words, num
 use Rattle.written_out.specs.Outcome.{WriteOutOutcome, write_out_outcome}
 use Rattle.refusal.specs.declared.Refusal.{Refusal}
 
--- a list that was written out has number 0 and its fill as the last word (docs/DECISIONS.md); a refusal has "its number, a location and
--- numbers a and b", and the last word 0
+-- a list that was written out has number 0, and its fill as the last word (docs/DECISIONS.md); a refusal has "its number, a location and
+-- numbers a and b", and 0 as the last word
 abbrev pub written_words : Result ℕ Refusal → List ℕ
 written_words (Ok fill) = answer_words 0 zero_location (pos 0) 0 fill
 written_words (Err r) = let n = numbered r in answer_words n.number n.location n.a n.b 0
@@ -22,7 +22,7 @@ macros_answered outcome answer =
     let words = written_words outcome.answer in
     record { result = number_of words; out = outcome.out; answer = append answer 0 (words_as_bytes words) }
 
--- with an answer of fewer than 24 bytes nothing is done
+-- if the answer buffer has fewer than 24 bytes, nothing is done
 unfoldable pub linked_macros : (tokens macros out answer : List ℕ) → LinkedMacros
 linked_macros tokens macros out answer =
     elim (leb answer_bytes (length answer)) [

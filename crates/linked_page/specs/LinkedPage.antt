@@ -1,4 +1,4 @@
--- What the linked call for a page gives back and leaves in its lent buffers. Assumes nothing.
+-- What the linked call for a page returns, and what it leaves in its lent buffers. Assumes nothing.
 use Rattle.std.specs.Prelude.{ℕ, List, true, false, pos, length, leb, Err, Ok, Result}
 use Rattle.record.specs.Stores.{append}
 use Rattle.refusal.specs.Numbers.{zero_location, numbered}
@@ -6,7 +6,7 @@ use Rattle.linked_answer.specs.Words.{answer_bytes, too_short, answer_words, num
 use Rattle.page_outcome.specs.Outcome.{PageOutcome, page_outcome}
 use Rattle.refusal.specs.declared.Refusal.{Refusal}
 
--- a page has number 0 and its length as the last word (docs/DECISIONS.md); a refusal has, as a refused build has, "its number, a
+-- a page gives number 0 and its length as the last word (docs/DECISIONS.md); a refusal gives, like a refused build, "its number, a
 -- location and numbers a and b", and the last word 0
 abbrev pub page_words : Result ℕ Refusal → List ℕ
 page_words (Ok length) = answer_words 0 zero_location (pos 0) 0 length
@@ -22,7 +22,7 @@ page_answered outcome answer =
     let words = page_words outcome.answer in
     record { result = number_of words; page = outcome.page; answer = append answer 0 (words_as_bytes words) }
 
--- with an answer of fewer than 24 bytes nothing is done
+-- nothing is done if the answer has fewer than 24 bytes
 unfoldable pub linked_page : (labels regions page answer : List ℕ) → LinkedPage
 linked_page labels regions page answer =
     elim (leb answer_bytes (length answer)) [

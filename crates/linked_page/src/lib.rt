@@ -1,4 +1,4 @@
-// A page for the wall as a linked call: the page goes into its buffer, the answer as six words into its own.
+// The linked call for a page for the wall. The page goes into its buffer, and the answer into its own as six words.
 #![tactic(auto)]
 
 ghost use Rattle.std.specs.Prelude.{◌≡◌};
@@ -6,8 +6,8 @@ ghost use Rattle.linked_page.specs.LinkedPage.{linked_page};
 
 use linked_answer::{ANSWER_BYTES, TOO_SHORT};
 
-// Lays the image out or refuses, writes the answer and returns its number: 0 for a page.
-// Where the answer is too short it returns TOO_SHORT and changes nothing.
+// Lays the image out or refuses. Writes the answer and returns its number: 0 for a page.
+// If the answer is too short, it returns TOO_SHORT and changes nothing.
 pub fn lay_out(labels: &[u8], regions: &[u8], page: &mut [u8], answer: &mut [u8]) -> u32
     ensures { linked_page labels.now regions.now page.old answer.old
         ≡ (record { result = result; page = page.new; answer = answer.new }) }

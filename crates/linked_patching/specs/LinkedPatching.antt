@@ -1,4 +1,4 @@
--- What the linked calls of patching give back and leave in their lent buffers. Assumes nothing.
+-- What the linked calls of patching return, and what they leave in their lent buffers. Assumes nothing.
 use Rattle.std.specs.Prelude.{ℕ, List, [], ◌∷◌, true, false, ◌&&◌, pos, length, leb, Err, Ok}
 use Rattle.jobs.specs.declared.Job.{Job}
 use Rattle.record.specs.Bytes.{le32}
@@ -24,8 +24,8 @@ abbrev pub state_words : PatchCounts → List ℕ
 state_words c = c.regions ∷ c.pending ∷ c.breakpoints ∷ c.patches ∷ c.state ∷ []
 
 -- ---- a step
--- Number 0 is a step that was not refused: a is 0 and the last word how many pendings are patched, or a is 1 and the last word the entry
--- (docs/DECISIONS.md). A refusal has, as a refused build has, "its number, a location and numbers a and b", and the last word 0.
+-- Number 0 is a step that was not refused: a is 0 and the last word is the count of pendings patched, or a is 1 and the last word is the entry
+-- (docs/DECISIONS.md). A refusal gives, like a refused build, "its number, a location and numbers a and b", and the last word 0.
 abbrev pub step_words : StepAnswer → List ℕ
 step_words (Ok (Patched patches)) = answer_words 0 zero_location (pos 0) 0 patches
 step_words (Ok (Ended entry)) = answer_words 0 zero_location (pos 1) 0 entry
@@ -49,7 +49,7 @@ step_answered outcome state answer =
       answer = append answer 0 (words_as_bytes words);
     }
 
--- with an answer of fewer than 24 bytes, or a record of fewer than 20, nothing is done; a step is lent no breakpoints
+-- nothing is done if the answer has fewer than 24 bytes or the record fewer than 20; a step is lent no breakpoints
 unfoldable pub linked_step : Job → (labels entry regions pending kept state answer : List ℕ) → LinkedStep
 linked_step job labels entry regions pending kept state answer =
     elim (leb answer_bytes (length answer) && leb state_bytes (length state)) [
@@ -78,7 +78,7 @@ line_answered outcome state answer =
       answer = append answer 0 (words_as_bytes words);
     }
 
--- with an answer of fewer than 24 bytes, or a record of fewer than 20, nothing is done; a line is lent no kept words
+-- nothing is done if the answer has fewer than 24 bytes or the record fewer than 20; a line is lent no kept words
 unfoldable pub linked_patch_line : Job → LineGiven → (regions pending breakpoints state answer : List ℕ) → LinkedPatchLine
 linked_patch_line job given regions pending breakpoints state answer =
     elim (leb answer_bytes (length answer) && leb state_bytes (length state)) [

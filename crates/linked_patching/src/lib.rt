@@ -1,4 +1,4 @@
-// Patching by steps as linked calls: the caller's record stands in a buffer of 20 bytes, the answer goes as six words into its own.
+// The linked calls for patching by steps. The caller's record is a buffer of 20 bytes; the answer goes into its own buffer as six words.
 #![tactic(auto)]
 
 ghost use Rattle.std.specs.Prelude.{◌≡◌, ◌≤◌, length};
@@ -47,7 +47,7 @@ fn put_state(state: &mut [u8], counts: PatchCounts)
     linked_answer::store_words(state, &words[..]);
 }
 
-// A step has patched one more pending (a 0), or found none left (a 1); refused, it has neither number nor entry.
+// Returns the six words of a step's answer: a is 0 if it patched a pending, 1 if none was left. A refusal has neither a count nor an entry.
 fn step_words(answer: StepAnswer) -> [u32; 6]
     ensures { result ≡ step_words answer }
 {
@@ -58,8 +58,8 @@ fn step_words(answer: StepAnswer) -> [u32; 6]
     }
 }
 
-// Makes a step, writes the caller's record and the answer and returns its number: 0 for a step that was not refused.
-// Where the answer or the record is too short it returns TOO_SHORT and changes nothing.
+// Makes a step, writes the caller's record and the answer, and returns the answer's number: 0 for a step that was not refused.
+// If the answer or the record is too short, it returns TOO_SHORT and changes nothing.
 pub fn patch_step(
     job: Job,
     labels: &[u8],
@@ -90,8 +90,8 @@ pub fn patch_step(
     words[0]
 }
 
-// Appends a line to its region or refuses it, writes the caller's record and the answer and returns its number: 0 for an accepted line.
-// Where the answer or the record is too short it returns TOO_SHORT and changes nothing.
+// Appends a line to its region, or refuses it. Writes the caller's record and the answer, and returns the answer's number: 0 for an accepted line.
+// If the answer or the record is too short, it returns TOO_SHORT and changes nothing.
 pub fn patch_line(
     job: Job,
     tokens: &[u8],

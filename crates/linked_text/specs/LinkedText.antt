@@ -6,8 +6,8 @@ use Rattle.linked_answer.specs.Words.{answer_bytes, too_short, answer_words, num
 use Rattle.text_reader.specs.Outcome.{TextOutcome, read_text}
 use Rattle.refusal.specs.declared.Refusal.{Refusal}
 
--- an accepted text has number 0 and the token buffer's new fill as the last word (docs/DECISIONS.md); a refusal has, as a refused
--- build has, "its number, a location and numbers a and b", and the last word 0
+-- an accepted text has number 0, and the token buffer's new fill as the last word (docs/DECISIONS.md); a refusal has "its number, a
+-- location and numbers a and b", like a refused build, and 0 as the last word
 abbrev pub read_words : Result ℕ Refusal → List ℕ
 read_words (Ok fill) = answer_words 0 zero_location (pos 0) 0 fill
 read_words (Err r) = let n = numbered r in answer_words n.number n.location n.a n.b 0
@@ -22,7 +22,7 @@ text_answered outcome answer =
     let words = read_words outcome.answer in
     record { result = number_of words; tokens = outcome.tokens; answer = append answer 0 (words_as_bytes words) }
 
--- with an answer of fewer than 24 bytes nothing is done
+-- if the answer buffer has fewer than 24 bytes, nothing is done
 unfoldable pub linked_text : (text : List ℕ) → (source : ℕ) → (tokens answer : List ℕ) → LinkedText
 linked_text text source tokens answer =
     elim (leb answer_bytes (length answer)) [

@@ -1,2 +1,2 @@
-// That lines and calls which load a constant have the words that do so, and what a call appends, as theorems. This crate has no code.
+// Theorems: a line or a call that loads a constant has the words that load it, and what a call appends. This crate has no code.
 #![tactic(auto)]

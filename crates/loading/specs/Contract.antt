@@ -4,11 +4,11 @@ use Rattle.loading.specs.declared.LoadForm.{LoadForm}
 use Rattle.loading.specs.Load.{low32, form_of, load_words}
 use Rattle.loading.specs.Run.{Registers, write_register, ran, run}
 
--- two words, those that are not used being 0
+-- the list filled up to two words with 0
 abbrev pub padded : List ℕ → List ℕ
 padded ws = take 2 (ws ++ 0 ∷ 0 ∷ [])
 
--- the words, their count and their form, for the constant c and the register t
+-- what `load_immediate` returns for the constant c and the register t: the words, their count and their form
 pub record LoadedIs (c t : ℕ) (words : List ℕ) (count : ℕ) (form : LoadForm) : Type 0 where
   pub words_are : words ≡ padded (load_words c t)
   pub count_is : count ≡ length (load_words c t)

@@ -39,7 +39,7 @@ lui_word t c = immediate_layout 15 0 t (upper_half c)
 abbrev pub ori_word : ℕ → ℕ → ℕ → ℕ
 ori_word s t c = immediate_layout 13 s t (lower_half c)
 
--- the words of a form: one for the first three, two for both halves
+-- the words of a form: none for Nothing, two for both halves, else one
 abbrev pub form_words : LoadForm → ℕ → ℕ → List ℕ
 form_words Nothing c t = []
 form_words Addiu c t = addiu_word t c ∷ []
@@ -47,7 +47,7 @@ form_words Ori c t = ori_word 0 t c ∷ []
 form_words Lui c t = lui_word t c ∷ []
 form_words BothHalves c t = lui_word t c ∷ ori_word t t c ∷ []
 
--- the words that load a constant are those of its form
+-- the words that load a constant: the words of its form
 unfoldable pub load_words : ℕ → ℕ → List ℕ
 unfolding form_of
 load_words c t = form_words (form_of c) c t

@@ -14,11 +14,11 @@ read_register g r = elim (eqb r 0) [ true ↦ 0 | false ↦ get_or g r 0 ]
 unfoldable pub write_register : Registers → ℕ → ℕ → Registers
 write_register g r v = elim (eqb r 0) [ true ↦ g | false ↦ set g r v ]
 
--- n signed, at 32 bits
+-- n as a signed 16-bit number, extended to 32 bits
 unfoldable pub signed16 : ℕ → ℕ
 signed16 n = elim (ltb n 32768) [ true ↦ n | false ↦ n + (2 ^ 32 - 65536) ]
 
--- The registers after some words, or that a word failed the run.
+-- The registers after a run, or that a word failed it.
 pub data Outcome : Type 0 where
   ran : Registers → Outcome
   failed : Outcome

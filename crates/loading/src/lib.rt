@@ -1,4 +1,4 @@
-// Loading a constant into a register (load_immediate of emit.rs), proved to do so when its words are run.
+// The words that load a constant into a register (load_immediate of emit.rs), proved by running them.
 #![tactic(auto)]
 
 ghost use Rattle.std.specs.Prelude.{◌≡◌, [], ◌∷◌, ◌%◌};
@@ -10,7 +10,7 @@ use instructions::Opcode;
 use registers::RegisterSlot;
 use word::InstructionBuilder;
 
-// How a constant is loaded: addiu alone, ori alone, lui alone, or both halves; or that none is.
+// How a constant is loaded: addiu alone, ori alone, lui alone, or both halves. `Nothing`: no constant is loaded.
 #[derive(Clone, Copy, PartialEq, Eq)]
 pub enum LoadForm {
     Nothing,
@@ -20,7 +20,7 @@ pub enum LoadForm {
     BothHalves,
 }
 
-// One or two words, their count and their form; a word that is not used is 0. An array with a count, since no heap is used.
+// One or two words, their count and their form; an unused word is 0. An array with a count, as there is no heap.
 #[derive(Clone, Copy, PartialEq, Eq)]
 pub struct Loaded {
     pub words: [u32; 2],
@@ -28,7 +28,7 @@ pub struct Loaded {
     pub form: LoadForm,
 }
 
-// The words that load the constant's low 32 bits into a register.
+// Returns the words that load the constant's low 32 bits into a register.
 pub fn load_immediate(constant: u64, into: RegisterSlot) -> Loaded
     ensures { LoadedIs constant (register_number into) result.words result.count result.form }
 {
@@ -64,7 +64,7 @@ fn one(form: LoadForm, word: u32) -> Loaded
     }
 }
 
-// addiu, ori or lui, by its opcode.
+// Returns the word of addiu, ori or lui, by its opcode.
 fn immediate_word(opcode: u8, source: RegisterSlot, temp: RegisterSlot, imm: u16) -> u32
     ensures { result ≡ immediate_layout (opcode % 64) (register_number source) (register_number temp) imm }
 {

@@ -29,7 +29,7 @@ branch_if taken pc w = cond taken (Go (branch_target pc w)) (Go (next_pc pc))
 abbrev pub unless_overflow : (ℕ → Effect) → ℤ → Effect
 unless_overflow set z = cond (is_signed32 z) (set (bits z)) Overflows
 
--- ---- the table: w is the word, s and t what the registers rs and rt hold; a register is set and the next word follows, or the run goes to a pc
+-- ---- the table: w is the word, s and t what the registers rs and rt hold; a row sets a register and goes on to the next word, or goes to a pc
 
 unfoldable pub effect_of : Instruction → (w pc s t : ℕ) → Effect
 unfolding signed16
@@ -47,7 +47,7 @@ effect_of Xori w pc s t = SetRt (bit_xor s (immediate w))
 effect_of Xor w pc s t = SetRd (bit_xor s t)
 effect_of Nor w pc s t = SetRd (2 ^ 32 - 1 - bit_or s t)
 effect_of Lui w pc s t = SetRt (immediate w * 65536)
--- arithmetic: over 2^sa, rounded down
+-- an arithmetic shift: divides by 2^sa, rounding down
 effect_of Sra w pc s t = SetRd (bits (shr_z (signed t) (2 ^ sa w)))
 effect_of Beq w pc s t = branch_if (s == t) pc w
 effect_of Bne w pc s t = branch_if (not (s == t)) pc w

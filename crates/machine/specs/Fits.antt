@@ -1,4 +1,4 @@
--- A machine of "32 registers of 32 bits" (document 01, 'Words'), whose pc has as many bits and is a multiple of four. Assumes nothing.
+-- A machine of "32 registers of 32 bits" (document 01, 'Words') and a pc of 32 bits, and one whose pc is a multiple of four. Assumes nothing.
 use Rattle.std.specs.Prelude.{◌≡◌, ℕ, ◌%◌, ◌^◌, ◌<◌, length, slice_index}
 use Rattle.machine.specs.declared.Machine.{Machine}
 

@@ -5,8 +5,8 @@ use Rattle.machine.specs.declared.Instruction.{Instruction}
 use Rattle.machine.specs.declared.Instruction.TheVariants.{Nop, Addiu, Addi, Add, Addu, Sub, Subu, Slt, Sltu, Ori, Xori, Xor, Nor, Lui, Sra, Beq, Bne, J, Other}
 
 -- "nop, addiu, addi, add, addu, sub, subu, slt, sltu, ori, xori, xor, nor, lui, sra, beq, bne and j", by the word and its fields; "another word
--- (also one with a nonzero field that the manual wants zero)". nop is the word 0 and no other sll. Each row gives the instruction of the words that
--- pass its test, and the rows below it are for the others.
+-- (also one with a nonzero field that the manual wants zero)". nop is the word 0 and no other sll. The first row whose test a word passes gives
+-- its instruction.
 unfoldable pub table : (w opcode rs sa function : ℕ) → Instruction
 table w opcode rs sa function =
     cond (w == 0) Nop
@@ -59,6 +59,6 @@ unfoldable pub instruction_of : ℕ → Instruction
 unfolding table
 instruction_of w = table w (opcode w) (rs w) (sa w) (function w)
 
--- an instruction, where the field that the manual wants zero is
+-- the instruction if the field that the manual wants zero is zero, else Other
 abbrev pub with_zero : ℕ → Instruction → Instruction
 with_zero field i = cond (field == 0) i Other

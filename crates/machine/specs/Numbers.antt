@@ -7,14 +7,14 @@ use Rattle.std.proofs.Common.{to_z, of_z}
 abbrev pub wrap32 : ℕ → ℕ
 wrap32 n = n % 2 ^ 32
 
--- 32 bits read in two's complement, and the bits of such a number
+-- 32 bits read as a two's complement number, and such a number's 32 bits
 abbrev pub signed : ℕ → ℤ
 signed n = to_z w32 n
 
 abbrev pub bits : ℤ → ℕ
 bits z = of_z w32 z
 
--- -2^31 to 2^31 - 1: `mag` is n of n and of -1 - n
+-- z is from -2^31 to 2^31 - 1: `mag` gives n for both n and -1 - n
 abbrev pub is_signed32 : ℤ → Bool
 is_signed32 z = nat_lt (mag z) (2 ^ 31)
 
@@ -22,10 +22,10 @@ abbrev pub bit : Bool → ℕ
 bit true = 1
 bit false = 0
 
--- 2^31 more than a signed number of 32 bits
+-- the signed number that n's 32 bits stand for, plus 2^31
 abbrev pub raised : ℕ → ℕ
 raised n = (n + 2 ^ 31) % 2 ^ 32
 
--- -2^31 to 2^31 - 1, of what stands 2^32 above
+-- x is a signed sum plus 2^32: does the sum fit 32 bits?
 abbrev pub in_range : ℕ → Bool
 in_range x = nat_le (2 ^ 31) x && nat_lt x (2 ^ 32 + 2 ^ 31)

@@ -14,7 +14,7 @@ pub data Step : Type 0 where
   goes : Machine → Step
   stops : Reason → Step
 
--- the machine at pc with those registers
+-- a machine with this pc and these registers
 abbrev pub at : ℕ → Registers → Machine
 at pc registers = record { pc = pc; registers = registers }
 

@@ -12,7 +12,7 @@ pub struct Operands {
     pub t: u32,
 }
 
-// The word behind that at pc.
+// Returns the pc of the next word.
 pub fn next_pc(pc: u32) -> u32
     ensures { result ≡ next_pc pc }
 {
@@ -37,7 +37,7 @@ fn jump_target(pc: u32, word: u32) -> u32
     (next_pc(pc) >> 28 << 28) + (words::field(word, 0, 26) << 2)
 }
 
-// What the word at pc does.
+// Returns what the word at pc does.
 #[tactic(auto, unfolding(crate::specs::Effects::effect_of))]
 pub fn effect(word: u32, pc: u32, operands: Operands) -> Effect
     ensures { result ≡ effect_of (instruction_of word) word pc operands.s operands.t }

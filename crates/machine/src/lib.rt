@@ -43,8 +43,8 @@ pub enum Reason {
     Overflow = 3,
 }
 
-// What a word does: it sets rt or rd and the next word follows, or it goes to a pc, or it overflows, or it is another word.
-// kept: two cases stop a run, each for its own reason, so neither is an Option's nothing.
+// What a word does: it sets rt or rd and goes on to the next word, or goes to a pc, or overflows, or is none of the eighteen.
+// kept: two cases stop a run, each for its own reason, so neither can be an Option's None.
 #[derive(Clone, Copy, PartialEq, Eq)]
 pub enum Effect {
     SetRt(u32),

@@ -4,7 +4,7 @@ ghost use Rattle.std.specs.Int.Signed.{shr_z};
 ghost use Rattle.loading.specs.Run.{signed16};
 ghost use Rattle.machine.specs.Numbers.{signed, bits, is_signed32};
 
-// The 16 bits signed, as 32 bits.
+// Sign-extends 16 bits to 32.
 pub(crate) fn signed16(n: u32) -> u32
     requires { n < 65536 }
     ensures { result ≡ signed16 n }
@@ -12,7 +12,7 @@ pub(crate) fn signed16(n: u32) -> u32
     i32::from((n as u16).cast_signed()).cast_unsigned()
 }
 
-// The sum of signed numbers, where it has 32 bits.
+// Returns the signed sum, if it fits 32 bits.
 pub(crate) fn sum(a: u32, b: u32) -> Option<u32>
     ensures { result ≡ (if is_signed32 (signed a +ℤ signed b) then Some (bits (signed a +ℤ signed b)) else None) }
 {
@@ -20,7 +20,7 @@ pub(crate) fn sum(a: u32, b: u32) -> Option<u32>
     sum.map(i32::cast_unsigned)
 }
 
-// The difference of signed numbers, where it has 32 bits.
+// Returns the signed difference, if it fits 32 bits.
 pub(crate) fn difference(a: u32, b: u32) -> Option<u32>
     ensures { result ≡ (if is_signed32 (signed a -ℤ signed b) then Some (bits (signed a -ℤ signed b)) else None) }
 {
@@ -28,7 +28,7 @@ pub(crate) fn difference(a: u32, b: u32) -> Option<u32>
     difference.map(i32::cast_unsigned)
 }
 
-// The number over 2^count, rounded down.
+// Divides the signed number by 2^count, rounding down.
 pub(crate) fn shift_right(a: u32, count: u32) -> u32
     requires { count < 32 }
     ensures { result ≡ bits (shr_z (signed a) (2 ^ count)) }

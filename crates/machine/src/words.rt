@@ -6,7 +6,7 @@ ghost use Rattle.machine.specs.Instructions.{with_zero};
 
 use crate::Instruction;
 
-// `width` bits of a word, from bit `offset` on.
+// Returns `width` bits of a word, from bit `offset` up.
 pub(crate) fn field(word: u32, offset: u32, width: u32) -> u32
     requires { (offset < 32) × (width < 32) }
     ensures { (result ≡ get_field word offset width) × (result < 2 ^ width) }
@@ -33,7 +33,7 @@ pub fn rd(word: u32) -> usize
     field(word, 11, 5) as usize
 }
 
-// The instruction, where the field that the manual wants zero is.
+// Returns the instruction if the field that the manual wants zero is zero, else Other.
 fn with_zero(field: u32, instruction: Instruction) -> Instruction
     ensures { result ≡ with_zero field instruction }
 {
@@ -44,7 +44,7 @@ fn with_zero(field: u32, instruction: Instruction) -> Instruction
     }
 }
 
-// The words of opcode 0.
+// Decodes a word with opcode 0.
 #[tactic(auto, unfolding(crate::specs::Instructions::table, crate::specs::Instructions::instruction_of))]
 fn special(word: u32) -> Instruction
     requires { opcode word ≡ 0 }

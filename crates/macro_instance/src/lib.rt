@@ -1,2 +1,2 @@
-// Calls of `write_out` by computation: what is written, and each refusal. This crate has no code.
+// Example calls of `write_out`, proved by computing them: what is written, and each refusal. This crate has no code.
 #![tactic(auto)]

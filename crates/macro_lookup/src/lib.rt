@@ -1,4 +1,4 @@
-// The macro that a name calls, of those above a place of the macro list.
+// Finds the macro that a name calls among the macros above a place in the macro list, and the first macro that repeats a name.
 #![tactic(auto)]
 
 ghost use Rattle.std.specs.Prelude.{◌≡◌, true, ◌≤◌, length};
@@ -12,13 +12,13 @@ use macros::Macros;
 use name_index::NameIndex;
 use names::Named;
 
-// The most macros of a list: one has seven bytes at least.
+// The most macros in a list: each takes at least seven bytes.
 const MOST: usize = 9362;
 
-// A list of so many macros is short.
+// A list of at most this many macros is short.
 const FEW: usize = 64;
 
-// Whether the macro of these bytes has the name.
+// Whether the macro with these bytes has the name.
 fn is_named(list: &[u8], name: &[u8]) -> bool
     requires { name_ok list.now 0 ≡ true }
     ensures { result ≡ same_bytes (name_at list.now 0) name.now }
@@ -27,7 +27,7 @@ fn is_named(list: &[u8], name: &[u8]) -> bool
     record::same(&list[1..end], name)
 }
 
-// The place of the last macro before `limit` that has the name, or `limit`.
+// Returns the place of the last macro before `limit` that has the name, or `limit`.
 pub fn callee(macros: &Macros<'_>, limit: usize, name: &[u8]) -> usize
     requires { limit ≤ length macros.now.bytes.now }
     ensures { CalleeIs macros.now.bytes.now name.now limit result }
@@ -43,7 +43,7 @@ pub fn callee(macros: &Macros<'_>, limit: usize, name: &[u8]) -> usize
     found
 }
 
-// The bytes of the macro at `at`.
+// Returns the bytes of the macro at `at`.
 fn body_at(macros: &[u8], at: usize) -> &[u8]
     requires { macro_at_ok macros.now at ≡ true }
     ensures { result.now ≡ body_at macros.now at }
@@ -52,7 +52,7 @@ fn body_at(macros: &[u8], at: usize) -> &[u8]
     &macros[at + 4..end]
 }
 
-// Whether the macros of these bytes have one name.
+// Whether two macros, given as bytes, have the same name.
 fn same_name(list: &[u8], other: &[u8]) -> bool
     requires { (name_ok list.now 0 ≡ true) × (name_ok other.now 0 ≡ true) }
     ensures { result ≡ same_bytes (name_at list.now 0) (name_at other.now 0) }
@@ -61,8 +61,8 @@ fn same_name(list: &[u8], other: &[u8]) -> bool
     is_named(list, &other[1..end])
 }
 
-// The first macro that has the name of one above it, by an index of the list: in the order of their bytes, which begin with their names,
-// macros of one name are neighbours. `low` is the least place of those that have the name at hand.
+// Returns the first macro that has the name of an earlier one. The index sorts macros by their bytes, which begin with the name, so macros
+// of one name are neighbours. `low` is the least place seen with the current name.
 fn repeat_in(macros: &Macros<'_>, index: &[u16]) -> Option<usize>
     requires { IndexOf 0 macros.now.bytes.now index.now }
     ensures { result ≡ macro_repeat macros.now.bytes.now }
@@ -84,7 +84,7 @@ fn repeat_in(macros: &Macros<'_>, index: &[u16]) -> Option<usize>
     best
 }
 
-// The same, by an index made in the first array; the other is scratch.
+// The same, with an index made in the first array; the other is scratch.
 fn repeat_by(macros: &Macros<'_>, index: &mut [u16], spare: &mut [u16]) -> Option<usize>
     requires { (length (places macros.now.bytes.now) ≤ length index.old) × (length (places macros.now.bytes.now) ≤ length spare.old) }
     ensures { result ≡ macro_repeat macros.now.bytes.now }
@@ -94,7 +94,7 @@ fn repeat_by(macros: &Macros<'_>, index: &mut [u16], spare: &mut [u16]) -> Optio
     repeat_in(macros, index.order())
 }
 
-// The first macro that has the name of one above it. A short list has small arrays.
+// Returns the first macro that has the name of an earlier one. A short list gets small arrays.
 pub fn first_repeat(macros: &Macros<'_>) -> Option<usize>
     ensures { result ≡ macro_repeat macros.now.bytes.now }
 {

@@ -1,4 +1,4 @@
-// What `expand` does (document 02, P8), from the bytes that it reads to those that it prints.
+// What `expand` does (document 02, P8), from its input bytes to the bytes that it prints.
 #![tactic(auto)]
 
 ghost use Rattle.std.specs.Prelude.{◌≡◌};
@@ -7,8 +7,8 @@ ghost use Rattle.macro_text.specs.MacroText.{expand_text};
 use program::Program;
 use text::Printed;
 
-// The text that `expand` prints for an input: the written-out tokens, or the refusal alone. Of a buffer over its limit one byte
-// more than the limit is held.
+// Writes what `expand` prints for an input: the written-out tokens, or the refusal alone. A buffer over the limit is held as the limit
+// plus one byte: that is enough for its refusal.
 #[tactic(auto, using(text::proofs::TextLaws::refused_most, crate::proofs::MacroTextLaws::held_text, token_text::proofs::TokenTextLaws::line_length, token_text::proofs::TokenTextLaws::part_held, written_out::proofs::KeepsLayout::fill_within, std::proofs::lemmas::Grind::common_steps), unfolding(crate::specs::MacroText::expand_text))]
 pub fn expand(input: &[u8], out: &mut Printed)
     ensures { out.new ≡ expand_text input.now }

@@ -11,7 +11,7 @@ meant macros (Write mode) = write_on mode
 meant macros Pass = pass
 meant macros (Call k) = call (macro_at macros k) (above macros k)
 
--- a macro that is called stands before `limit`
+-- if a macro is called, it stands before `limit`
 abbrev pub Inside : (macros : List ℕ) → (limit : ℕ) → Act → Type 0
 Inside macros limit (Write mode) = Unit {0}
 Inside macros limit Pass = Unit {0}

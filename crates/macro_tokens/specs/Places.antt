@@ -1,4 +1,4 @@
--- Tokens by their places: a place is one of the token list, or its length plus one of the macro list. Assumes nothing.
+-- Tokens by their places: a place in the token list, or that list's length plus a place in the macro list. Assumes nothing.
 use Rattle.std.specs.Prelude.{ℕ, ◌+◌, ◌-◌, ◌*◌, ◌≤◌, ◌<◌, List, [], map, Bool, true, false, ◌≡◌, length, get_or, ltb, eqb, None}
 use Rattle.record.specs.Bytes.{all}
 use Rattle.record.specs.Records.{kind_at, places_from, first_bad, limit}
@@ -11,12 +11,12 @@ use Rattle.macro_tokens.specs.declared.Body.{Body}
 unfoldable pub token_record : (text macros : List ℕ) → (place : ℕ) → List ℕ
 token_record text macros p = elim (ltb p (length text)) [ true ↦ record_at text p | false ↦ record_at macros (p - length text) ]
 
--- a token stands there
+-- a token stands at place p
 pub record TokenIn (text macros : List ℕ) (p : ℕ) : Type 0 where
   pub in_text : p < length text → TokenIs text p
   pub in_macros : length text ≤ p → TokenIs macros (p - length text)
 
--- the bytes, where they are really to be written
+-- the bytes if they are really written, else none
 abbrev pub only : (really : Bool) → List ℕ → List ℕ
 only true bytes = bytes
 only false bytes = []
@@ -29,7 +29,7 @@ parameters_in list b = map (name_at list) (name_places b.count list b.names)
 abbrev pub number_at : List ℕ → Body → ℕ → ℕ
 number_at list b at = index_of (text_of list at) (parameters_in list b)
 
--- the place of the token that stands at `at` of the body's list, or of the argument that is put in for it
+-- the place of the token at `at` in the body's list, or of the argument that is put in for it
 unfoldable pub place_of : (list : List ℕ) → Body → (at : ℕ) → ℕ
 unfolding index_of name_places
 place_of list b at =
@@ -43,7 +43,7 @@ unfoldable pub read_from : (text macros list : List ℕ) → Body → (at : ℕ)
 unfolding token_record place_of places_from
 read_from text macros list b at = map (λ (p : ℕ). token_record text macros (place_of list b p)) (places_from list at)
 
--- ---- what a body that is read holds
+-- ---- what holds for a body being read
 
 pub record Readable (list : List ℕ) (b : Body) : Type 0 where
   pub names_ok : all (name_ok list) (name_places b.count list b.names) ≡ true
@@ -51,7 +51,7 @@ pub record Readable (list : List ℕ) (b : Body) : Type 0 where
   pub eight : length b.args ≡ 8
   pub low : b.base + length list ≤ 2 * limit
 
--- from a place of its list on
+-- the same where its list is read from `at` on
 pub record ReadableFrom (text macros list : List ℕ) (b : Body) (at : ℕ) : Type 0 where
   pub readable : Readable list b
   pub args_in : (i : ℕ) → i < b.count → TokenIn text macros (get_or b.args i 0)

@@ -1,4 +1,4 @@
-// The tokens that writing out reads, by their places: a body with its arguments put in, a call's arguments, and what is done with a token.
+// Tokens by their places, as writing out reads them: a body with its arguments put in, a call's arguments, and what to do with a token.
 #![tactic(auto)]
 
 ghost use Rattle.std.proofs.Props.{props};
@@ -21,7 +21,7 @@ use macros::{Macros, Names};
 use record::Location;
 use written_out::Mode;
 
-// The kinds of tokens, as wide as a record has them.
+// The kinds of tokens, as usize: half_at returns a record's kind as one.
 const COMMENT: usize = lexer::COMMENT as usize;
 
 const PARAMETER: usize = lexer::PARAMETER as usize;
@@ -34,8 +34,8 @@ const COLON: usize = lexer::COLON as usize;
 
 const NEW_LINE: usize = lexer::NEW_LINE as usize;
 
-// A body that is read. Its tokens begin at `start` of its list, whose first byte has the place `base`; the names of its `count` parameters
-// stand from `names` on, and `args` has the places of the arguments. A place is one of the token list, or behind it one of the macro list.
+// A body being read. Its tokens begin at `start` in its list, its `count` parameter names at `names`; `args` holds the arguments' places.
+// A place counts on from the token list into the macro list; `base` is the place of the list's first byte.
 #[derive(Clone, Copy)]
 pub struct Body {
     pub base: usize,
@@ -45,14 +45,14 @@ pub struct Body {
     pub args: [usize; 8],
 }
 
-// A body with the list that its tokens and its parameters' names stand in.
+// A body with the list that holds its tokens and its parameters' names.
 #[derive(Clone, Copy)]
 pub struct Reading<'a> {
     pub list: &'a [u8],
     pub body: Body,
 }
 
-// The token list and the macro list, which a place is in.
+// The token list and the macro list; each place is in one of them.
 #[derive(Clone, Copy)]
 pub struct Source<'a> {
     pub text: &'a [u8],
@@ -67,7 +67,7 @@ pub struct Token<'a> {
     ghost whole: { length bytes.now ≡ next bytes.now 0 } by { Prim.hlevel props },
 }
 
-// The places of the tokens that a list has from one on. Each of its records is a token, so none is looked at for being cut off.
+// An iterator over the places of a list's tokens, from `at` on. Each record there is a token, so none needs a check for being cut off.
 #[derive(Clone, Copy)]
 struct Tokens<'a> {
     list: &'a [u8],
@@ -75,7 +75,7 @@ struct Tokens<'a> {
     ghost good: { first_bad (token_ok list.now) (places_from list.now at) ≡ None } by { Prim.hlevel props },
 }
 
-// The two lists with the place in the macro list before which macros may be called.
+// The two lists, and the place `limit` in the macro list: only macros before it may be called.
 #[derive(Clone, Copy)]
 pub struct Callable<'a> {
     pub source: Source<'a>,
@@ -116,7 +116,7 @@ impl<'a> Token<'a> {
         record::location_at(self.bytes, 4)
     }
 
-    // A copy from `fill` on, where that is `really` to be made.
+    // Copies the token to `fill` on, if `really` is set.
     pub fn put(self, really: bool, out: &mut [u8], fill: usize)
         requires { fill + length self.bytes.now ≤ length out.old }
         ensures { out.new ≡ append out.old fill (only really self.entry.bytes.now) }
@@ -147,7 +147,7 @@ pub fn token_at<'a>(source: &Source<'a>, place: usize) -> Token<'a>
     }
 }
 
-// The macro before the limit that the token's text names, or the limit.
+// Returns the macro before the limit that the token's text names, or the limit.
 fn callee_of(callable: &Callable<'_>, token: Token<'_>) -> usize
     ensures { CalleeIs callable.now.source.macros.now (text_of token.entry.bytes.now 0) callable.now.limit result }
 {
@@ -159,8 +159,8 @@ fn callee_of(callable: &Callable<'_>, token: Token<'_>) -> usize
 
 // ---- a body
 
-// The place of the argument of the Parameter at `at`, or its own if it is none of the body's. It stays a call, so that `place_at` is short enough
-// to be inlined.
+// Returns the place of the argument for the Parameter at `at`, or the Parameter's own place if it is none of the body's. It stays a call,
+// so that `place_at` is short enough to be inlined.
 #[inline(never)]
 fn argument_at(reading: &Reading<'_>, at: usize) -> usize
     requires { Readable reading.now.list.now reading.now.body × TokenIs reading.now.list.now at × (kind_at reading.now.list.now at ≡ 2) }
@@ -180,7 +180,7 @@ fn argument_at(reading: &Reading<'_>, at: usize) -> usize
     }
 }
 
-// The place of the token at `at`, the arguments put in.
+// Returns the place of the token at `at`, or of the argument put in for it.
 pub fn place_at(reading: &Reading<'_>, at: usize) -> usize
     requires { Readable reading.now.list.now reading.now.body × TokenIs reading.now.list.now at }
     ensures { result ≡ place_of reading.now.list.now reading.now.body at }
@@ -192,7 +192,7 @@ pub fn place_at(reading: &Reading<'_>, at: usize) -> usize
     }
 }
 
-// Whether the token at `at`, if there is one, is a Colon.
+// Whether a Colon stands at `at`; false at the end of the list.
 fn colon_at(source: &Source<'_>, reading: &Reading<'_>, at: usize) -> bool
     requires { ReadableFrom source.now.text.now source.now.macros.now reading.now.list.now reading.now.body at }
     ensures { result ≡ starts_colon (read_from source.now.text.now source.now.macros.now reading.now.list.now reading.now.body at) }
@@ -204,7 +204,7 @@ fn colon_at(source: &Source<'_>, reading: &Reading<'_>, at: usize) -> bool
     }
 }
 
-// One token more of a call: a Comma and a Comment are no arguments, and the ninth is only counted.
+// Takes one more token of a call. A Comma or Comment is not an argument; from the ninth on, arguments are only counted.
 fn take(taken: &mut Taken, kind: usize, place: usize)
     requires { (taken.old.count ≤ 2 * limit) × (length taken.old.args ≡ 8) }
     ensures { taken.new ≡ with_token taken.old kind place }
@@ -238,7 +238,7 @@ impl<'a> Iterator for Tokens<'a> {
     }
 }
 
-// The arguments from `from` on up to NewLine or the end.
+// Collects the arguments from `from` up to NewLine or the end.
 pub fn arguments_from(source: &Source<'_>, reading: &Reading<'_>, from: usize) -> Taken
     requires { ReadableFrom source.now.text.now source.now.macros.now reading.now.list.now reading.now.body from }
     ensures { Takes source.now.text.now source.now.macros.now result (arguments_from source.now.text.now source.now.macros.now reading.now.list.now reading.now.body from) }
@@ -264,7 +264,7 @@ pub fn arguments_from(source: &Source<'_>, reading: &Reading<'_>, from: usize) -
 
 // ---- what is done with a token
 
-// Before a line's head.
+// Decides what to do with a token before its line's head.
 fn act_leading(
     callable: &Callable<'_>,
     reading: &Reading<'_>,
@@ -292,7 +292,7 @@ fn act_leading(
     }
 }
 
-// The token at `place`, behind which the body goes on from `next` on. Its length is not read but where it may be a call.
+// Decides what to do with the token at `place`; the body goes on at `next`. The token's length matters only where it may be a call.
 pub fn act_at(
     callable: &Callable<'_>,
     reading: &Reading<'_>,
@@ -305,7 +305,7 @@ pub fn act_at(
     ensures { ActIs callable.now.source.macros.now callable.now.limit (act_of (above callable.now.source.macros.now callable.now.limit) mode (token_record callable.now.source.text.now callable.now.source.macros.now place) (read_from callable.now.source.text.now callable.now.source.macros.now reading.now.list.now reading.now.body next)) result }
 {
     let kind = token_at(&callable.source, place).kind();
-    // kept: an arm `Copied | LeftOut if kind == NEW_LINE` is no plainer, since each arm behind it is then proved twice
+    // kept: an arm `Copied | LeftOut if kind == NEW_LINE` is no plainer, since each arm after it is then proved twice
     match mode {
         Mode::Leading => act_leading(callable, reading, place, kind, next),
         Mode::Labelled => Act::Write(Mode::Leading),

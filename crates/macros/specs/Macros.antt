@@ -9,7 +9,7 @@ use Rattle.macros.specs.declared.Head.{Head}
 
 -- ---- names in a macro's body of bytes b
 
--- "each name of 1 to 64 bytes after a length byte": the name whose length byte stands at i, and the place behind it
+-- "each name of 1 to 64 bytes after a length byte": the name whose length byte is at i, and the place after it
 abbrev pub name_at : List ℕ → ℕ → List ℕ
 name_at b i = part b (i + 1) (byte_at b i)
 
@@ -19,7 +19,7 @@ behind_name b i = i + 1 + byte_at b i
 abbrev pub name_ok : List ℕ → ℕ → Bool
 name_ok b i = leb 1 (byte_at b i) && leb (byte_at b i) 64 && leb (behind_name b i) (length b) && all is_text (name_at b i)
 
--- the places of n names from i on, and the place behind them
+-- the places of n names from i on, and the place after them
 unfoldable pub name_places : ℕ → List ℕ → ℕ → List ℕ
 name_places zero b i = []
 name_places (suc n) b i = i ∷ name_places n b (behind_name b i)
@@ -52,7 +52,7 @@ macro_of b = record { name = name_at b 0; parameters = map (name_at b) (paramete
 
 -- ---- layout
 
--- the number of the name among the names, or their count
+-- the name's index among the names, or their count
 unfoldable pub index_of : (name : List ℕ) → (names : List (List ℕ)) → ℕ
 unfolding same_bytes
 index_of n [] = 0
@@ -99,7 +99,7 @@ unfoldable pub macro_at_ok : List ℕ → ℕ → Bool
 unfolding macro_ok
 macro_at_ok s at = whole s at && eqb (kind_at s at) 40 && macro_ok (body_at s at)
 
--- refusal 1: the first record that is no macro
+-- refusal 1: the first record that is not a macro
 unfoldable pub macro_layout : List ℕ → Option ℕ
 unfolding macro_at_ok first_bad places within_limit
 macro_layout s = within_limit s (first_bad (macro_at_ok s) (places s))

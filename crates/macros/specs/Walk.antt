@@ -4,13 +4,13 @@ use denote.Ref.{Bor}
 use Rattle.macros.specs.Macros.{name_at, behind_name}
 use Rattle.macros.specs.declared.Names.{Names}
 
--- the first name of s is x, and t has those behind it
+-- x is the first name of s, and t has the names after it
 pub record NameFirst (s : Names) (x : List ℕ) (t : Names) : Type 0 where
   pub more : s.count ≡ suc t.count
   pub list : t.list.now ≡ s.list.now
   pub behind : t.at ≡ behind_name s.list.now s.at
   pub name : x ≡ name_at s.list.now s.at
 
--- a name with those behind it, which the walk goes on with, or None where no name is left
+-- gives a name and the names after it, with which the walk goes on, or None if no name is left
 abbrev pub gives_name : Names → Option (Bor (List ℕ) × Names) → Names → Type 0
 gives_name s r t = MatchOption r ((s.count ≡ 0) × (t.count ≡ 0)) (λ p. (p.1 ≡ t) × NameFirst s p.0.now t)

@@ -1,4 +1,4 @@
-// Macro records: their layout, and the macro of a name.
+// Macro records: their layout, their parameters' names, and where their bodies begin.
 #![tactic(auto)]
 
 ghost use Rattle.std.proofs.Props.{props};
@@ -10,13 +10,13 @@ ghost use Rattle.macros.specs.Macros.{name_at, behind_name, name_ok, name_places
 
 mod walk;
 
-// The kind of a Parameter, as wide as a record has it.
+// The kind of a Parameter token, as a usize: half_at returns a record's kind as one.
 const PARAMETER: usize = lexer::PARAMETER as usize;
 
 // "up to 8 different parameters"
 pub const MOST: usize = 8;
 
-// The place behind the name whose length byte stands at `at`.
+// Returns the place after the name whose length byte is at `at`.
 fn behind_name(list: &[u8], at: usize) -> usize
     requires { at < length list.now }
     ensures { (result ≡ behind_name list.now at) × (at < result) × (result ≤ at + 256) }
@@ -24,7 +24,7 @@ fn behind_name(list: &[u8], at: usize) -> usize
     at + 1 + record::wide(list[at])
 }
 
-// Whether a name of 1 to 64 bytes stands at `at`, behind its length byte.
+// Whether `at` holds the length byte of a name of 1 to 64 text bytes, and the name follows whole.
 fn name_ok(list: &[u8], at: usize) -> bool
     requires { at < 65536 }
     ensures { result ≡ name_ok list.now at }
@@ -51,7 +51,7 @@ fn names_ok(list: &[u8], count: usize, at: usize) -> bool
     true
 }
 
-// The names of a macro's parameters: `count` of its bytes' names from `at` on.
+// The names of a macro's parameters: `count` names in the macro's bytes, from `at` on.
 #[derive(Clone, Copy)]
 pub struct Names<'a> {
     pub list: &'a [u8],
@@ -61,7 +61,7 @@ pub struct Names<'a> {
 }
 
 impl<'a> Names<'a> {
-    // The number of the name among them, or their count.
+    // Returns the name's index among these, or `count` if it is none of them.
     pub fn index_of(&self, name: &[u8]) -> usize
         ensures { result ≡ index_of name.now (map (name_at self.now.list.now) (name_places self.now.count self.now.list.now self.now.at)) }
     {
@@ -73,7 +73,7 @@ impl<'a> Names<'a> {
         self.count
     }
 
-    // The place behind them.
+    // Returns the place after the last name.
     pub fn behind(&self) -> usize
         requires { self.now.at ≤ length self.now.list.now }
         ensures { (result ≡ behind_names self.now.count self.now.list.now self.now.at) × (result ≤ length self.now.list.now) }
@@ -85,7 +85,7 @@ impl<'a> Names<'a> {
         end
     }
 
-    // Whether no two are the same.
+    // Whether no two names are the same.
     fn differ(&self) -> bool
         ensures { result ≡ different (map (name_at self.now.list.now) (name_places self.now.count self.now.list.now self.now.at)) }
     {
@@ -97,7 +97,7 @@ impl<'a> Names<'a> {
         true
     }
 
-    // Whether the token at `at` is no Parameter, or one of them.
+    // Whether the token at `at` is not a Parameter, or is one of these.
     fn knows(&self, body: &[u8], at: usize) -> bool
         requires { TokenIs body.now at }
         ensures { result ≡ knows (map (name_at self.now.list.now) (name_places self.now.count self.now.list.now self.now.at)) (record_at body.now at) }
@@ -106,7 +106,7 @@ impl<'a> Names<'a> {
             || self.index_of(&body[at + 12..record::next(body, at)]) < self.count
     }
 
-    // Whether each Parameter of the tokens is one of them.
+    // Whether each Parameter in `body` is one of these.
     fn know_all(&self, body: &[u8]) -> bool
         requires { token_layout body.now ≡ None }
         ensures { result ≡ known (map (name_at self.now.list.now) (name_places self.now.count self.now.list.now self.now.at)) (records_of body.now) }
@@ -120,7 +120,7 @@ impl<'a> Names<'a> {
     }
 }
 
-// Whether the bytes are those of a macro.
+// Whether the bytes are a macro's.
 fn macro_ok(list: &[u8]) -> bool
     requires { length list.now < 65536 }
     ensures { result ≡ macro_ok list.now }
@@ -151,7 +151,7 @@ fn macro_ok(list: &[u8]) -> bool
 // The record kind.
 const MACRO: usize = 40;
 
-// The records that are macros.
+// The layout of a macro list: each record is a macro.
 struct EachMacro;
 
 impl record::Layout for EachMacro {
@@ -165,7 +165,7 @@ impl record::Layout for EachMacro {
     }
 }
 
-// The place of the first record that is no macro, or the limit.
+// Returns the place of the first record that is not a macro, or the limit if the list is longer than that.
 #[tactic(auto, unfolding(crate::specs::Macros::macro_layout))]
 pub fn first_bad_macro(list: &[u8]) -> Option<usize>
     ensures { result ≡ macro_layout list.now }
@@ -180,7 +180,7 @@ pub struct Macros<'a> {
     pub ghost good: { macro_layout bytes.now ≡ None } by { Prim.hlevel props },
 }
 
-// Where the names of a macro's parameters, and its body, stand in its bytes.
+// Where in a macro's bytes its parameter names and its body begin, and how many names there are.
 #[derive(Clone, Copy)]
 pub struct Head {
     pub names: usize,

@@ -5,7 +5,7 @@ ghost use Rattle.macros.specs.Walk.{gives_name};
 
 use crate::{Names, behind_name};
 
-// A name, and those behind it.
+// Gives each name together with the names after it.
 impl<'a> Iterator for Names<'a> {
     type Item = (&'a [u8], Names<'a>);
 

@@ -1,4 +1,4 @@
-// Makes the index of the pendings and labels of standard input and prints it or the refusal (document 02, P1).
+// Reads pendings and labels from standard input, makes their index and prints it, or the refusal (document 02, P1).
 #![tactic(auto)]
 
 use index_text::MakeIndexText;

@@ -1,4 +1,4 @@
-// What `make_index` prints for each case of standard input (vectors/make_index_cases). A case is an input after its 4-byte count.
+// Prints what `make_index` prints, for each case on standard input (vectors/make_index_cases). A case is a 4-byte count and then an input.
 #![tactic(auto)]
 
 use index_text::MakeIndexText;

@@ -12,7 +12,7 @@ use Rattle.names.specs.Names.{is_first}
 use Rattle.std.specs.declared.cmp.Ordering.TheVariants.{Less, Equal, Greater}
 use Rattle.std.specs.declared.cmp.Ordering.{Ordering}
 
--- "an ordered index": the places of the list's records, each as often as there, by name, then by owner, then by place
+-- "an ordered index": the places of the list's records, sorted by name, then by owner, then by place
 abbrev pub IndexOf : ℕ → List ℕ → List ℕ → Type 0
 IndexOf skip s l = SortOf (before skip s) (places s) l
 
@@ -21,7 +21,7 @@ is_less Less = true
 is_less Equal = false
 is_less Greater = false
 
--- the name and owner of the record at p go before those of the record at q
+-- the record at p goes before the record at q by name, then by owner
 abbrev pub below : ℕ → List ℕ → ℕ → ℕ → Bool
 below skip s p q = is_less (key_order (key_of skip s p) (key_of skip s q))
 
@@ -32,8 +32,8 @@ names_rise skip s = in_order (below skip s) (places s)
 abbrev pub middle : ℕ → ℕ → ℕ
 middle lo hi = lo + (hi - lo) / 2
 
--- A search among those of the index from lo on and before hi, after c comparisons of names: the middle one is compared, and what is left is
--- searched before it or behind it. At most `fuel` comparisons are made.
+-- A binary search of the index from lo to before hi, after c comparisons of names: it compares the middle one, then searches before it or
+-- after it. At most `fuel` comparisons are made.
 unfoldable pub search_f : (fuel : ℕ) → (stands : ℕ → Ordering) → (index : List ℕ) → (lo hi c : ℕ) → Looked
 search_f zero stands index lo hi c = record { named = None; compared = c; end = lo }
 search_f (suc f) stands index lo hi c =
@@ -51,7 +51,7 @@ unfoldable pub search_from : (stands : ℕ → Ordering) → (index : List ℕ) 
 unfolding search_f
 search_from stands index lo hi c = search_f (hi - lo) stands index lo hi c
 
--- how a record stands to a name of an owner
+-- compares the record at p with a name and an owner
 abbrev pub standing : ℕ → List ℕ → (owner : ℕ) → (name : List ℕ) → ℕ → Ordering
 standing skip s owner name p = key_order (key_of skip s p) (name, owner)
 
@@ -64,7 +64,7 @@ unfoldable pub lookup : ℕ → List ℕ → (index : List ℕ) → (owner : ℕ
 unfolding lookup_from
 lookup skip s index owner name = lookup_from skip s index owner name 0
 
--- whether the record at p has the owner and the name, after c comparisons of names: the name of a record that has another owner is not compared
+-- whether the record at p has the owner and the name, after c comparisons of names; if the owner differs, the name is not compared
 abbrev pub told : ℕ → List ℕ → (owner : ℕ) → (name : List ℕ) → (p c : ℕ) → Told
 told skip s owner name p c =
     elim (eqb (owner_of skip s p) owner) [
@@ -72,6 +72,6 @@ told skip s owner name p c =
       | false ↦ record { same = false; compared = c }
     ]
 
--- the record at p is the first of its owner and name
+-- the record at p is the first with its owner and name
 abbrev pub owned_first : ℕ → List ℕ → ℕ → Bool
 owned_first skip s p = is_first (same_owned skip s) (places s) p

@@ -1,4 +1,4 @@
-// An ordered index of the names of a list of records, made in lent arrays: finds a record by owner and name, and the first that repeats both.
+// An ordered index of a list's names, made in lent arrays. Finds a record by owner and name, and the first record that repeats both.
 #![tactic(auto)]
 
 ghost use Rattle.std.specs.Prelude.{◌≡◌, true, not, ◌+◌, ◌≤◌, ◌<◌, length, take, drop, get_or};
@@ -46,7 +46,7 @@ impl<'a, const SKIP: usize> NameIndex<'a, SKIP> {
         NameIndex { list, order }
     }
 
-    // The index of the list, made in a lent array; the other is scratch.
+    // Makes the index of the list in `order`. `spare` is scratch.
     pub fn make(list: Named<'a, SKIP>, order: &'a mut [u16], spare: &mut [u16]) -> Self
         requires list_len_bound { length list ≤ limit }
         requires places_in_bounds { (length (places list) ≤ length order.old) × (length (places list) ≤ length spare.old) }
@@ -56,7 +56,7 @@ impl<'a, const SKIP: usize> NameIndex<'a, SKIP> {
         NameIndex::new(list, &order[..n])
     }
 
-    // The bytes of the list.
+    // Returns the list's bytes.
     pub fn bytes(&self) -> &'a [u8]
         ensures value { result.now ≡ self.now.list }
         ensures named { first_bad (has_owned_name SKIP self.now.list) (places self.now.list) ≡ None }
@@ -64,7 +64,7 @@ impl<'a, const SKIP: usize> NameIndex<'a, SKIP> {
         self.list.bytes()
     }
 
-    // The places of its records in the order of their names.
+    // Returns the places of the list's records, in the order of their names.
     pub fn order(&self) -> &'a [u16]
         ensures value { result.now ≡ self.now.order }
         ensures index_of { IndexOf SKIP self.now.list self.now.order }
@@ -72,7 +72,7 @@ impl<'a, const SKIP: usize> NameIndex<'a, SKIP> {
         self.order
     }
 
-    // The record at the place `i` of the index.
+    // Returns the record at position `i` of the index.
     pub fn record(&self, i: usize) -> NamedRecord<'a, SKIP>
         requires { i < length self.now.order }
         ensures value { (result.list.now ≡ self.now.list) × (result.at ≡ get_or self.now.order i 0) }
@@ -81,8 +81,8 @@ impl<'a, const SKIP: usize> NameIndex<'a, SKIP> {
         NamedRecord::new(self.list.bytes(), usize::from(self.order[i]))
     }
 
-    // The place of the record of that owner and name; so many names have been compared before.
-    // kept: a loop over `lo` and `hi`, as no search of the library counts its comparisons and says where it has ended.
+    // Looks up the record with that owner and name. Counts comparisons on from `before`.
+    // kept: a loop over `lo` and `hi`, as no library search counts its comparisons and says where it ended.
     pub fn find_from(&self, owner: u32, name: &[u8], before: u32) -> Looked
         requires { (length self.now.order < 65536) × (before < 65536) }
         ensures { result ≡ lookup_from SKIP self.now.list self.now.order owner name.now before }
@@ -112,7 +112,7 @@ impl<'a, const SKIP: usize> NameIndex<'a, SKIP> {
         }
     }
 
-    // The same where none has been compared before.
+    // As `find_from`, with no comparison before.
     #[tactic(auto, unfolding(crate::specs::Index::lookup))]
     pub fn find(&self, owner: u32, name: &[u8]) -> Looked
         requires { length self.now.order < 65536 }
@@ -121,7 +121,7 @@ impl<'a, const SKIP: usize> NameIndex<'a, SKIP> {
         self.find_from(owner, name, 0)
     }
 
-    // Whether the record at the index's place `i` has the owner and name of an earlier one: equal ones are neighbours.
+    // Whether the record at position `i` has the owner and name of an earlier one. Equal ones are neighbours, so it compares with the one before.
     fn repeats(&self, i: usize) -> bool
         requires { (0 < i) × (i < length self.now.order) }
         ensures { owned_first SKIP self.now.list (get_or self.now.order i 0) ≡ not result }
@@ -130,7 +130,7 @@ impl<'a, const SKIP: usize> NameIndex<'a, SKIP> {
         self.record(i - 1).is_owned(named.owner(), named.name())
     }
 
-    // The first record that shares its owner and name with an earlier one.
+    // Returns the place of the first record that has the owner and name of an earlier one.
     pub fn first_repeat(&self) -> Option<usize>
         ensures { result ≡ owned_repeat SKIP self.now.list }
     {
@@ -146,8 +146,8 @@ impl<'a, const SKIP: usize> NameIndex<'a, SKIP> {
     }
 }
 
-// Writes the places of the list's records, and answers their count. What stands behind them stays.
-// kept: `n` is counted by hand, since the count is the answer too: `enumerate` would count the same records a second time.
+// Writes the places of the list's records into `index`, and returns their count. The rest of `index` stays.
+// kept: `n` is counted by hand, since the count is the answer too: with `enumerate` the records would be counted twice.
 pub fn fill<const SKIP: usize>(list: &Named<'_, SKIP>, index: &mut [u16]) -> usize
     requires { (length list.now ≤ limit) × (length (places list.now) ≤ length index.old) }
     ensures { (result ≡ length (places list.now)) × (take result index.new ≡ places list.now) × (drop result index.new ≡ drop result index.old) }
@@ -160,7 +160,7 @@ pub fn fill<const SKIP: usize>(list: &Named<'_, SKIP>, index: &mut [u16]) -> usi
     n
 }
 
-// Whether the one record of a list has a name and an owner that go before those of the other.
+// Whether the name and owner of `p` go before the name and owner of `q`.
 fn is_below<const SKIP: usize>(p: NamedRecord<'_, SKIP>, q: NamedRecord<'_, SKIP>) -> bool
     requires { p.list.now ≡ q.list.now }
     ensures { result ≡ below SKIP p.entry.list.now p.entry.at q.entry.at }
@@ -168,7 +168,7 @@ fn is_below<const SKIP: usize>(p: NamedRecord<'_, SKIP>, q: NamedRecord<'_, SKIP
     name_sort::stands(p, q.owner(), q.name()).is_lt()
 }
 
-// Whether each record's name and owner go before the next one's: then none repeats another, and no index is needed to say so.
+// Whether each record's name and owner go before the next one's. Then no two are the same, and no index is needed to tell.
 pub fn rises<const SKIP: usize>(list: &Named<'_, SKIP>) -> bool
     ensures { result ≡ names_rise SKIP list.now }
 {
@@ -185,7 +185,7 @@ pub fn rises<const SKIP: usize>(list: &Named<'_, SKIP>) -> bool
     true
 }
 
-// Makes the index of the list's records, and answers their count; `spare` is scratch.
+// Makes the index of the list's records, and returns their count. `spare` is scratch.
 pub fn make<const SKIP: usize>(
     list: &Named<'_, SKIP>,
     index: &mut [u16],
@@ -199,8 +199,7 @@ pub fn make<const SKIP: usize>(
     n
 }
 
-// Compares a record's name, and then its owner. On the way of a lookup names are compared here and in `is_owned`, and the count of comparisons
-// grows where they are.
+// Compares a record's name, then its owner, and counts the comparison. A lookup compares names only here and in `is_owned`.
 fn stands<const SKIP: usize>(
     named: NamedRecord<'_, SKIP>,
     owner: u32,
@@ -214,7 +213,7 @@ fn stands<const SKIP: usize>(
     name_sort::stands(named, owner, name)
 }
 
-// Whether a record has that owner and name. The owner is looked at first: a name of another owner is not compared.
+// Whether a record has that owner and name. Looks at the owner first: if it differs, the name is not compared.
 pub fn is_owned<const SKIP: usize>(
     named: NamedRecord<'_, SKIP>,
     owner: u32,

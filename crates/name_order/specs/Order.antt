@@ -3,7 +3,7 @@ use Rattle.std.specs.Prelude.{ℕ, List, [], ◌∷◌, true, false, ltb}
 use Rattle.std.specs.declared.cmp.Ordering.TheVariants.{Less, Equal, Greater}
 use Rattle.std.specs.declared.cmp.Ordering.{Ordering}
 
--- the first that does not say the same decides
+-- the first one that is not Equal decides
 abbrev pub then_by : Ordering → Ordering → Ordering
 then_by Less o = Less
 then_by Equal o = o
@@ -12,7 +12,7 @@ then_by Greater o = Greater
 abbrev pub numbers : ℕ → ℕ → Ordering
 numbers x y = elim (ltb x y) [ true ↦ Less | false ↦ elim (ltb y x) [ true ↦ Greater | false ↦ Equal ] ]
 
--- by bytes; a name goes before one that it begins
+-- by bytes; a prefix goes before the longer name
 unfoldable pub order : List ℕ → List ℕ → Ordering
 order [] [] = Equal
 order [] (y ∷ ys) = Less

@@ -1,4 +1,4 @@
-// The order of names by their bytes, and of owners as numbers.
+// Compares names by their bytes, and owners as numbers.
 #![tactic(auto)]
 
 ghost use Rattle.std.specs.Prelude.{◌≡◌};
@@ -7,14 +7,14 @@ ghost use Rattle.name_order.specs.EightBytes.{high_first, Bytes};
 
 use std::cmp::Ordering;
 
-// Eight bytes as a number, the first highest.
+// Returns eight bytes as a number, the first byte highest.
 fn high_first(s: &[u8; 8]) -> u64
     ensures { (result ≡ high_first s.now 0) × Bytes s.now 0 }
 {
     u64::from_be_bytes(*s)
 }
 
-// Where two names first differ the smaller byte goes first; a name goes before one that it begins. Names often begin alike: they are read by eight bytes.
+// Compares two names by the first byte in which they differ; a prefix goes first. Reads eight bytes at a time, as names often begin alike.
 pub fn compare(a: &[u8], b: &[u8]) -> Ordering
     ensures { result ≡ order a.now b.now }
 {

@@ -1,4 +1,5 @@
-// The linked calls: a build and a line in each sort of job, the counts of a range, a text's tokens, a dry run, a list with its macros written out, a page, a line with an index, an index made afresh, patching by steps and a lookup of a label, each with its answer as bytes. nazgwern_c exports them to C.
+// The linked calls, each with its answer as bytes; nazgwern_c exports them to C. They build, emit a line, count a range's constants by form, read a
+// text, make a dry run, write out macros, lay out a page, patch by steps, look up a label, emit a line with an index, and make an index.
 #![tactic(auto)]
 
 ghost use Rattle.std.specs.Prelude.{◌≡◌};
@@ -93,7 +94,7 @@ pub fn nazgwern_read_text(text: &[u8], source: u32, tokens: &mut [u8], answer: &
     linked_text::read_text(text, source, tokens, answer)
 }
 
-// Runs a region list dry or refuses: linked_dry_run says how.
+// Makes a dry run of a region list or refuses: linked_dry_run says how.
 pub fn nazgwern_dry_run(
     regions: &[u8],
     registers: &mut [u8],
@@ -107,7 +108,7 @@ pub fn nazgwern_dry_run(
     linked_dry_run::dry_run(regions, registers, pc, allowance, answer)
 }
 
-// Writes a token list's macros out or refuses: linked_macros says how.
+// Writes out a token list's macros or refuses: linked_macros says how.
 pub fn nazgwern_write_out(tokens: &[u8], macros: &[u8], out: &mut [u8], answer: &mut [u8]) -> u32
     ensures { linked_macros tokens.now macros.now out.old answer.old
         ≡ (record { result = result; out = out.new; answer = answer.new }) }
@@ -115,7 +116,7 @@ pub fn nazgwern_write_out(tokens: &[u8], macros: &[u8], out: &mut [u8], answer: 
     linked_macros::write_out(tokens, macros, out, answer)
 }
 
-// Lays a region list out with its labels or refuses: linked_page says how.
+// Lays out a page of a region list and its labels or refuses: linked_page says how.
 pub fn nazgwern_lay_out(labels: &[u8], regions: &[u8], page: &mut [u8], answer: &mut [u8]) -> u32
     ensures { linked_page labels.now regions.now page.old answer.old
         ≡ (record { result = result; page = page.new; answer = answer.new }) }
@@ -123,7 +124,7 @@ pub fn nazgwern_lay_out(labels: &[u8], regions: &[u8], page: &mut [u8], answer: 
     linked_page::lay_out(labels, regions, page, answer)
 }
 
-// Patches one pending, ends or refuses: linked_patching says how.
+// Patches the next pending, ends if none is left, or refuses: linked_patching says how.
 pub fn nazgwern_patch_step(
     job: Job,
     labels: &[u8],
@@ -181,14 +182,14 @@ pub fn nazgwern_patch_line(
     )
 }
 
-// Looks a label up or refuses: linked_label says how.
+// Looks up a label or refuses: linked_label says how.
 pub fn nazgwern_find_label(labels: &[u8], name: &[u8], source: u32, answer: &mut [u8]) -> u32
     ensures { linked_find labels.now name.now source answer.old ≡ (record { result = result; answer = answer.new }) }
 {
     linked_label::find_label(labels, name, source, answer)
 }
 
-// Emits a line in the job of a number and updates the index of label uses, or refuses: linked_index says how.
+// Emits a line in the job numbered `job` and updates the index of label uses, or refuses: linked_index says how.
 pub fn nazgwern_do_indexed(
     tokens: &[u8],
     mnemonic: &[u8],
@@ -237,7 +238,7 @@ pub fn nazgwern_do_indexed(
     )
 }
 
-// Makes an index of label uses afresh or refuses: linked_index says how.
+// Makes a new index of label uses or refuses: linked_index says how.
 pub fn nazgwern_make_index(
     pending: &[u8],
     fill: u32,

@@ -1,5 +1,5 @@
-// The library to link, libnazgwern.a: the calls of nazgwern by the C calling convention, where a slice goes as a pointer and a length. Each export
-// calls the function of its name there and promises the same.
+// The library to link, libnazgwern.a: the calls of nazgwern by the C calling convention, which passes a slice as a pointer and a length. Each export
+// calls nazgwern's function for its task, some in a fixed job, and promises the same.
 #![tactic(auto)]
 
 ghost use Rattle.std.specs.Prelude.{◌≡◌};
@@ -33,7 +33,7 @@ pub extern "C" fn nazgwern_build(
     nazgwern::nazgwern_build(Job::Commit, labels, entry, regions, pending, answer)
 }
 
-// The same by the manual.
+// The same in a job by the manual.
 #[unsafe(no_mangle)]
 pub extern "C" fn nazgwern_build_manual(
     labels: &[u8],
@@ -199,7 +199,7 @@ pub extern "C" fn nazgwern_read_text(
     nazgwern::nazgwern_read_text(text, source, tokens, answer)
 }
 
-// Runs a region list dry or refuses: linked_dry_run says how.
+// Makes a dry run of a region list or refuses: linked_dry_run says how.
 #[unsafe(no_mangle)]
 pub extern "C" fn nazgwern_dry_run(
     regions: &[u8],
@@ -214,7 +214,7 @@ pub extern "C" fn nazgwern_dry_run(
     nazgwern::nazgwern_dry_run(regions, registers, pc, allowance, answer)
 }
 
-// Writes a token list's macros out or refuses: linked_macros says how.
+// Writes out a token list's macros or refuses: linked_macros says how.
 #[unsafe(no_mangle)]
 pub extern "C" fn nazgwern_write_out(
     tokens: &[u8],
@@ -228,7 +228,7 @@ pub extern "C" fn nazgwern_write_out(
     nazgwern::nazgwern_write_out(tokens, macros, out, answer)
 }
 
-// Lays a region list out with its labels or refuses: linked_page says how.
+// Lays out a page of a region list and its labels or refuses: linked_page says how.
 #[unsafe(no_mangle)]
 pub extern "C" fn nazgwern_lay_out(
     labels: &[u8],
@@ -242,7 +242,7 @@ pub extern "C" fn nazgwern_lay_out(
     nazgwern::nazgwern_lay_out(labels, regions, page, answer)
 }
 
-// Patches one pending, ends or refuses: linked_patching says how.
+// Patches the next pending, ends if none is left, or refuses: linked_patching says how.
 #[unsafe(no_mangle)]
 pub extern "C" fn nazgwern_patch_step(
     labels: &[u8],
@@ -269,7 +269,7 @@ pub extern "C" fn nazgwern_patch_step(
     )
 }
 
-// The same by the manual.
+// The same in a job by the manual.
 #[unsafe(no_mangle)]
 pub extern "C" fn nazgwern_patch_step_manual(
     labels: &[u8],
@@ -416,7 +416,7 @@ pub extern "C" fn nazgwern_patch_release_6_line(
     )
 }
 
-// Looks a label up or refuses: linked_label says how.
+// Looks up a label or refuses: linked_label says how.
 #[unsafe(no_mangle)]
 pub extern "C" fn nazgwern_find_label(
     labels: &[u8],
@@ -429,7 +429,7 @@ pub extern "C" fn nazgwern_find_label(
     nazgwern::nazgwern_find_label(labels, name, source, answer)
 }
 
-// Emits a line in the job of a number and updates the index of label uses, or refuses: linked_index says how.
+// Emits a line in the job numbered `job` and updates the index of label uses, or refuses: linked_index says how.
 #[unsafe(no_mangle)]
 pub extern "C" fn nazgwern_do_indexed(
     tokens: &[u8],
@@ -476,7 +476,7 @@ pub extern "C" fn nazgwern_do_indexed(
     )
 }
 
-// Makes an index of label uses afresh or refuses: linked_index says how.
+// Makes a new index of label uses or refuses: linked_index says how.
 #[unsafe(no_mangle)]
 pub extern "C" fn nazgwern_make_index(
     pending: &[u8],

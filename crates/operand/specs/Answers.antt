@@ -18,7 +18,7 @@ pub data Answer (A : Type 0) : Type 0 where
   Got : A → Answer A
   Missed : Miss → Answer A
 
--- what is read where this is asked for
+-- the type of what is read for each want
 abbrev pub Asked : Want → Type 0
 Asked a_register = RegisterSlot
 Asked an_fp_register = FPRegisterSlot
@@ -30,7 +30,7 @@ Asked a_label = AddressLabel
 Asked an_offset = OffsetOrLabel
 Asked nothing = Unit {0}
 
--- the same as an operand
+-- what was read, as an operand
 abbrev pub operand_of : (w : Want) → Asked w → Operand
 operand_of a_register r = Register r
 operand_of an_fp_register r = FPRegister r
@@ -52,6 +52,6 @@ answer_of w (Missed m) = Err m
 abbrev pub here : {A : Type 0} → A → ℕ → At A
 here x i = record { answer = x; index = i }
 
--- a reading as its reader gives it
+-- an answer as the code returns it: as a `Result`
 abbrev pub given : (w : Want) → At (Answer (Asked w)) → At (Result Operand Miss)
 given w x = here (answer_of w x.answer) x.index

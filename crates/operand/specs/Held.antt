@@ -1,4 +1,4 @@
--- What an operand holds, of each kind that may be asked for; of another kind a zero. Assumes nothing.
+-- What an operand holds, for each kind that may be asked for. An operand of another kind holds a zero, or None. Assumes nothing.
 use Rattle.std.specs.Prelude.{ℕ, Err, Ok, Result, Option, None, Some}
 use Rattle.registers.specs.declared.RegisterSlot.{RegisterSlot}
 use Rattle.registers.specs.declared.RegisterSlot.TheVariants.{Zero}
@@ -109,7 +109,7 @@ held a_label o = label_in o
 held an_offset o = offset_in o
 held nothing o = tt
 
--- an answer, taken for what was asked for
+-- an answer, with its operand taken as what was asked for
 abbrev pub held_answer : (w : Want) → Result Operand Miss → Answer (Asked w)
 held_answer w (Ok o) = Got (held w o)
 held_answer w (Err m) = Missed m

@@ -1,4 +1,4 @@
-// An operand of a line: what may stand there, and why it could not be read (assembler_util.rs).
+// An operand of a line: what it may be, and why it could not be read (assembler_util.rs).
 #![tactic(auto)]
 
 ghost use Rattle.std.specs.Prelude.{◌≡◌};
@@ -44,7 +44,7 @@ pub enum Want {
     Nothing,
 }
 
-// What was read there: an offset without braces is a Label, and a value or nothing may stand for MaybeValue.
+// What was read for a `Want`. An offset without braces is a Label; for MaybeValue it is a Value or Absent.
 #[derive(Clone, Copy)]
 pub enum Operand {
     Register(RegisterSlot),
@@ -57,8 +57,8 @@ pub enum Operand {
     Absent,
 }
 
-// What an operand holds. One that was asked for as something else holds a zero; no reader gives such a one (`held_given`).
-// kept: each of these takes another variant, and one function for all would be handed the `match`, which is all that each of them is.
+// Returns what the operand holds, or a zero if it is of another kind. No reader returns another kind than was asked for (`held_given`).
+// kept: each of these takes another variant and is nothing but its `match`; one function for all would have to be handed that `match`.
 pub fn slot_in(operand: Operand) -> RegisterSlot
     ensures { result ≡ slot_in operand }
 {

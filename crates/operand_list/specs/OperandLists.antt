@@ -11,7 +11,7 @@ use Rattle.operand_list.specs.declared.Wants.{Wants}
 use Rattle.operand_list.specs.declared.Operands.{Operands}
 use Rattle.operand.specs.declared.Miss.{Miss}
 
--- the operand that is asked for, from an index on
+-- reads the operand that is asked for, from an index on
 unfoldable pub read_operand : (w : Want) → List Token → ℕ → At (Answer (Asked w))
 unfolding get_register get_fp_register get_cc get_value maybe_get_value get_constant get_label get_offset_or_label
 read_operand a_register ts i = get_register ts i
@@ -24,11 +24,11 @@ read_operand a_label ts i = get_label ts i
 read_operand an_offset ts i = get_offset_or_label ts i
 read_operand nothing ts i = here (Got tt) i
 
--- what is read of a line whose instruction asks for these
+-- the type of what is read for a line's wants
 abbrev pub AskedAll : Wants → Type 0
 AskedAll w = Asked w.first × Asked w.second × Asked w.third
 
--- reading goes on behind what was read, and ends with the first miss
+-- reading goes on after what was read, and ends with the first miss
 abbrev pub then_read : {A B : Type 0} → Answer A → ℕ → (A → ℕ → At (Answer B)) → At (Answer B)
 then_read (Got a) i next = next a i
 then_read (Missed m) i next = here (Missed m) i
@@ -44,7 +44,7 @@ module _ (w : Wants) (ts : List Token) where
   unfolding read_operand
   read_operands i = then_read (read_operand w.first ts i).answer (read_operand w.first ts i).index second_from
 
--- the same as operands
+-- what was read, as operands
 abbrev pub operands_of : (w : Wants) → AskedAll w → Operands
 operands_of w x = record { first = operand_of w.first x.0; second = operand_of w.second x.1; third = operand_of w.third x.2 }
 

@@ -1,4 +1,4 @@
-// The operands of a line, read left to right by what its instruction asks for.
+// Reads a line's operands left to right, as its instruction asks for them.
 #![tactic(auto)]
 
 ghost use Rattle.std.specs.Prelude.{◌≡◌};
@@ -25,7 +25,7 @@ pub struct Operands {
     pub third: Operand,
 }
 
-// The next operand, of the kind that is asked for.
+// Reads the next operand, of the kind that is asked for.
 fn read_operand(want: Want, cursor: &mut LexerCursor<'_>) -> Result<Operand, Miss>
     ensures { Reads cursor.old (given want (read_operand want (tokens cursor.old.list) cursor.old.index)) result cursor.new }
 {
@@ -42,7 +42,7 @@ fn read_operand(want: Want, cursor: &mut LexerCursor<'_>) -> Result<Operand, Mis
     }
 }
 
-// The operands of a line, in order; the first that is missed ends the reading.
+// Reads a line's operands in order; stops at the first that cannot be read.
 #[tactic(auto, unfolding(crate::specs::OperandLists::read_operands))]
 pub fn read_operands(wants: Wants, cursor: &mut LexerCursor<'_>) -> Result<Operands, Miss>
     ensures { Reads cursor.old (given_all wants (read_operands wants (tokens cursor.old.list) cursor.old.index)) result cursor.new }

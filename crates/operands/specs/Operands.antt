@@ -12,7 +12,7 @@ use Rattle.operand.specs.declared.InstructionValue.TheVariants.{Slot, Literal}
 use Rattle.operand.specs.Answers.{Answer, Got, Missed, here}
 use Rattle.lexer.specs.Views.{as_register, as_fp_register, as_integer}
 
--- the token is of the kind with that number
+-- whether the token's kind has that number
 abbrev pub is_kind : ℕ → Token → Bool
 is_kind n t = strip t.kind == n
 
@@ -78,7 +78,7 @@ get_cc ts i = here (code_seen (next_adjacent ts i).answer) (next_adjacent ts i).
 abbrev pub with_sign : Bool → ℕ → ℕ
 with_sign minus n = elim minus [ true ↦ (2 ^ 64 - n) % 2 ^ 64 | false ↦ n ]
 
--- "A sign must be followed by an IntegerLiteral ... After a failed sign the cursor is set back": to the index behind the sign
+-- "A sign must be followed by an IntegerLiteral ... After a failed sign the cursor is set back": to the index after the sign
 abbrev pub literal_met : Bool → ℕ → ℕ → Option ℕ → At (Option ℕ)
 literal_met minus back next (Some n) = here (Some (with_sign minus n)) next
 literal_met minus back next None = here None back
@@ -91,13 +91,13 @@ unfoldable pub signed : Bool → List Token → ℕ → At (Option ℕ)
 unfolding next_adjacent
 signed minus ts i = literal_seen minus i (next_adjacent ts i).index (next_adjacent ts i).answer
 
--- the number whose first token is t, with i the index behind that token
+-- the number that begins with the token t; i is the index after t
 unfoldable pub get_integer : Token → List Token → ℕ → At (Option ℕ)
 unfolding signed
 get_integer t ts i =
     elim (is_kind 9 t) [ true ↦ signed false ts i | false ↦ elim (is_kind 10 t) [ true ↦ signed true ts i | false ↦ here (as_integer t.kind) i ] ]
 
--- what is made of the next token and the number that begins with it
+-- what `make` gives for the next token and the number that begins with it
 abbrev pub number_seen : {A : Type 0} → (Token → Option ℕ → Answer A) → List Token → ℕ → Option Token → At (Answer A)
 number_seen make ts i None = here (Missed EndOfFile) i
 number_seen make ts i (Some t) = here (make t (get_integer t ts i).answer) (get_integer t ts i).index
@@ -127,7 +127,7 @@ unfoldable pub get_value : List Token → ℕ → At (Answer InstructionValue)
 unfolding next_adjacent get_integer
 get_value ts i = number_seen value_met ts (next_adjacent ts i).index (next_adjacent ts i).answer
 
--- the optional third operand of Inputs: a value, with i the index behind it, or none, with j that of the token that is not passed over
+-- the optional third operand of Inputs: a value, and i is the index after it; or none, and j is the index of the next token that is not passed over
 abbrev pub maybe_met : ℕ → ℕ → Answer InstructionValue → At (Answer (Option InstructionValue))
 maybe_met j i (Got v) = here (Got (Some v)) i
 maybe_met j i (Missed m) = here (Got None) j

@@ -1,4 +1,4 @@
-// Registers, numbers and values: the first operand readers (assembler_util.rs), over a cursor.
+// Reads registers, numbers and values at a cursor: the first operand readers (assembler_util.rs).
 #![tactic(auto)]
 
 ghost use Rattle.std.specs.Prelude.{◌≡◌};
@@ -24,7 +24,7 @@ fn expected_constant(token: Token) -> Miss
     Miss::ExpectedConstant(lexer::strip(token.kind), token.location)
 }
 
-// The next token that is not passed over.
+// Returns the next token other than Comment and Comma.
 #[tactic(auto, unfolding(crate::specs::Operands::get_token))]
 pub fn get_token(cursor: &mut LexerCursor<'_>) -> Result<Token, Miss>
     ensures { Reads cursor.old (get_token (tokens cursor.old.list) cursor.old.index) result cursor.new }
@@ -64,7 +64,7 @@ fn fp_register_met(token: Token) -> Result<Operand, Miss>
     }
 }
 
-// A condition code takes no sign, and its low byte.
+// Reads a condition code: a number without a sign.
 #[tactic(auto, unfolding(crate::specs::Operands::get_cc, crate::specs::Operands::get_token))]
 pub fn get_cc(cursor: &mut LexerCursor<'_>) -> Result<Operand, Miss>
     ensures { Reads cursor.old (given Want.Code (get_cc (tokens cursor.old.list) cursor.old.index)) result cursor.new }
@@ -81,14 +81,14 @@ fn code_met(token: Token) -> Result<Operand, Miss>
     }
 }
 
-// A number with its sign; negation wraps at 64 bits.
+// Returns the number with its sign; negation wraps at 64 bits.
 pub fn with_sign(minus: bool, n: u64) -> u64
     ensures { result ≡ with_sign minus n }
 {
     if minus { n.wrapping_neg() } else { n }
 }
 
-// The literal behind a sign; where there is none, the cursor is set back to stand behind the sign.
+// Reads the literal after a sign. If there is none, sets the cursor back to just after the sign.
 #[tactic(auto, unfolding(crate::specs::Operands::signed))]
 fn signed(minus: bool, cursor: &mut LexerCursor<'_>) -> Option<u64>
     ensures { Reads cursor.old (signed minus (tokens cursor.old.list) cursor.old.index) result cursor.new }
@@ -106,7 +106,7 @@ fn signed(minus: bool, cursor: &mut LexerCursor<'_>) -> Option<u64>
     }
 }
 
-// The number whose first token is `first`, which the cursor stands behind.
+// Reads the number that begins with `first`; the cursor is just after that token.
 #[tactic(auto, unfolding(crate::specs::Operands::get_integer))]
 pub fn get_integer(first: Token, cursor: &mut LexerCursor<'_>) -> Option<u64>
     ensures { Reads cursor.old (get_integer first (tokens cursor.old.list) cursor.old.index) result cursor.new }
@@ -152,7 +152,7 @@ fn value_met(token: Token, number: Option<u64>) -> Result<Operand, Miss>
     }
 }
 
-// The optional third operand of Inputs: where no value is read, reading stands at the token that is not passed over.
+// Reads the optional third operand of Inputs. If there is no value, leaves the cursor at the next token other than Comment and Comma.
 #[tactic(auto, unfolding(crate::specs::Operands::maybe_get_value))]
 pub fn maybe_get_value(cursor: &mut LexerCursor<'_>) -> Result<Operand, Miss>
     ensures { Reads cursor.old (given Want.MaybeValue (maybe_get_value (tokens cursor.old.list) cursor.old.index)) result cursor.new }

@@ -1,4 +1,4 @@
-// Prints the page of an image and its labels, or the refusal (document 02, P3): labels, regions and the page buffer's length from standard input.
+// Reads labels, regions and the page buffer's length from standard input, and prints the page or the refusal (document 02, P3).
 #![tactic(auto)]
 
 use page_text::PageText;

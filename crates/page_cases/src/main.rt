@@ -1,4 +1,4 @@
-// What `page` prints for each case of standard input (vectors/make_page). A case is an input after its 4-byte count.
+// Prints what `page` prints, for each case on standard input (vectors/make_page). A case is a 4-byte count and then an input.
 #![tactic(auto)]
 
 use page_text::PageText;

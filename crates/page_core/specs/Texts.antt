@@ -1,4 +1,4 @@
--- The page as it is put: region by region, and word by word. Assumes nothing.
+-- The page as it is written: region by region, and word by word. Assumes nothing.
 use Rattle.std.specs.Prelude.{ℕ, List, ◌++◌, map}
 use mathlib.Core.List.{flatten}
 use Rattle.reading.specs.Reading.{ImageRegion, Image}

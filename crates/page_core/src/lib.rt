@@ -21,10 +21,10 @@ use regions::Regions;
 // "the page buffer, alone allowed up to 1,195,959 bytes"
 pub const LIMIT: usize = 1_195_959;
 
-// Labels and regions of so many bytes together are short. A label has nine bytes at least.
+// Labels and regions of at most this many bytes together count as short. A label has at least nine bytes.
 const SHORT: usize = 2304;
 
-// The line of a word, or of a last part word.
+// Writes the line of a word, or of a last, incomplete word.
 #[tactic(auto, using(text::proofs::TextLaws::text_whole, text::proofs::TextLaws::text_part))]
 fn put_row(out: &mut [u8], at: usize, pc: u32, bytes: &[u8], name: &[u8]) -> usize
     requires { (at + 73 ≤ length out.old) × (length bytes.now ≤ 4) }
@@ -37,7 +37,7 @@ fn put_row(out: &mut [u8], at: usize, pc: u32, bytes: &[u8], name: &[u8]) -> usi
     }
 }
 
-// A line for each four bytes, and one for what is left behind them.
+// Writes a line for each four bytes, and one for any bytes left over.
 fn put_data(
     out: &mut [u8],
     at: usize,
@@ -60,7 +60,7 @@ fn put_data(
     end
 }
 
-// The region of that number, with the labels of its words in the lent slots.
+// Writes the region of this number; the lent slots take the labels of its words.
 fn put_region(
     out: &mut [u8],
     at: usize,
@@ -92,7 +92,7 @@ fn put_region(
     )
 }
 
-// All regions in turn.
+// Writes all regions in turn.
 fn put_page(
     out: &mut [u8],
     labels: &LabelTable<'_>,
@@ -110,7 +110,7 @@ fn put_page(
     end
 }
 
-// How many lines a page has: one for each region, for which the four bytes of its address are counted, and one for each of its words.
+// Counts the lines of a page: one for each region and one for each of its words. The four address bytes in a record count as the region's own line.
 fn count_lines(regions: &Regions<'_>) -> usize
     ensures { (result ≡ line_count (image_of regions.now)) × (result < 16384) }
 {
@@ -134,7 +134,7 @@ fn check_layouts(labels: &[u8], regions: &[u8], page: &[u8]) -> Result<(), Refus
     Ok(())
 }
 
-// What the call does with lists that keep their layouts, in the lent arrays: the slots are scratch while the index is made.
+// Lays out lists that have passed refusal 1, with the lent arrays as work space: the slots also serve while the index is made.
 fn lay_out_in(
     labels: &[u8],
     regions: &[u8],
@@ -156,7 +156,7 @@ fn lay_out_in(
     Ok(put_page(page, &table, &regions, slots) as u32)
 }
 
-// Lays the image out and gives the page's length, or refuses and leaves every byte as it was. Short lists have small arrays.
+// Lays the image out and returns the page's length, or refuses and changes no byte. Short lists use small arrays.
 pub fn lay_out(labels: &[u8], regions: &[u8], page: &mut [u8]) -> Result<u32, Refusal>
     ensures { page_outcome labels.now regions.now page.old ≡ (record { answer = result; page = page.new }) }
 {

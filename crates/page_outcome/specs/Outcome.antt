@@ -8,7 +8,7 @@ use Rattle.regions.specs.Regions.{region_layout}
 use Rattle.page_outcome.specs.Page.{page_of}
 use Rattle.refusal.specs.declared.Refusal.{Refusal}
 
--- ---- the checks in order; the page buffer is looked at by its length alone
+-- ---- the checks in order; of the page buffer only the length matters
 
 -- "the page buffer, alone allowed up to 1,195,959 bytes"
 abbrev pub page_limit : ℕ
@@ -39,7 +39,7 @@ pub record PageOutcome : Type 0 where
   pub answer : Result ℕ Refusal
   pub page : List ℕ
 
--- what is refused leaves every byte; a page leaves those behind it
+-- a refusal leaves every byte; a page leaves the bytes after it
 abbrev pub outcome_by : Verdict → (text page : List ℕ) → PageOutcome
 outcome_by (Ok tt) text page = record { answer = Ok (length text); page = append page 0 text }
 outcome_by (Err refusal) text page = record { answer = Err refusal; page = page }

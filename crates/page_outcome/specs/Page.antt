@@ -41,7 +41,7 @@ word_line pc word name = line (last_digits 16 8 pc ++ bytes_of "  " ++ columns 8
 
 -- ---- the label at a pc
 
--- the names of those of the labels whose address is pc
+-- the names of the labels at these places whose address is pc
 unfoldable pub names_at : (labels : List ℕ) (pc : ℕ) → (ps : List ℕ) → List (List ℕ)
 names_at labels pc [] = []
 names_at labels pc (p ∷ ps) =
@@ -57,7 +57,7 @@ unfolding smaller
 smallest a [] = a
 smallest a (b ∷ bs) = smallest (smaller a b) bs
 
--- where there is none, nothing
+-- with no label at the pc, nothing is shown
 abbrev pub shown : List (List ℕ) → List ℕ
 shown [] = []
 shown (a ∷ others) = smallest a others
@@ -72,7 +72,7 @@ label_at labels pc = shown (names_at labels pc (places labels))
 abbrev pub row_line : (ℕ → List ℕ) → Row → List ℕ
 row_line label r = word_line r.pc (word_text r.bytes) (label r.pc)
 
--- the regions from a number on
+-- the lines of regions that are numbered from `number` on
 unfoldable pub page_lines : (label : ℕ → List ℕ) (number : ℕ) → Image → List (List ℕ)
 unfolding rows word_text word_line region_line
 page_lines label number [] = []
@@ -82,7 +82,7 @@ unfoldable pub page_of : (labels regions : List ℕ) → List ℕ
 unfolding flatten page_lines label_at image_of
 page_of labels regions = flatten (page_lines (label_at labels) 0 (image_of regions))
 
--- one for each region, and one for each four bytes of it and for those left behind them
+-- one line for each region, one for each four bytes of it, and one for any bytes left over
 unfoldable pub line_count : Image → ℕ
 line_count [] = 0
 line_count (r ∷ rs) = 1 + (length r.bytes + 3) / 4 + line_count rs

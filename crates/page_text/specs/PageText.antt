@@ -1,4 +1,4 @@
--- What `page` prints (document 02, P3), as docs/DECISIONS.md has it. Assumes nothing.
+-- What `page` prints (document 02, P3), as docs/DECISIONS.md says. Assumes nothing.
 use Rattle.std.specs.Prelude.{ℕ, true, false, List, leb, length, take, replicate, Err, Ok, Result}
 use Rattle.record.specs.Bytes.{le32}
 use Rattle.refusal.specs.Numbers.{numbered}
@@ -15,10 +15,10 @@ answer_text (Err r) page = refused_line (numbered r)
 abbrev pub outcome_text : PageOutcome → List ℕ
 outcome_text o = answer_text o.answer o.page
 
--- behind the lists stands the length of the page buffer; where bytes of it are missing, it is the limit
+-- the length of the page buffer comes after the lists; if one of its four bytes is missing, it is the limit
 abbrev pub length_in : List ℕ → ℕ
 length_in rest = elim (leb 4 (length rest)) [ true ↦ le32 rest 0 | false ↦ page_limit ]
 
--- an input is the labels and the regions, each after its count, and the length of the page buffer
+-- an input is the labels and the regions, each after its count, and then the length of the page buffer
 unfoldable pub page_text : List ℕ → List ℕ
 page_text s = outcome_text (page_outcome (list_of 0 s) (list_of 1 s) (replicate (length_in (behind_lists 2 s)) 0))

@@ -1,4 +1,4 @@
-// What `page` does (document 02, P3), from the bytes that it reads to those that it prints.
+// The program `page` (document 02, P3), from the bytes it reads to the text it prints.
 #![tactic(auto)]
 
 ghost use Rattle.std.specs.Prelude.{◌≡◌};
@@ -7,10 +7,10 @@ ghost use Rattle.page_text.specs.PageText.{length_in, page_text};
 use program::Program;
 use text::Printed;
 
-// Room for a page buffer of one byte more than its limit.
+// Room for a page buffer that is one byte over its limit.
 pub const MOST: usize = page_core::LIMIT + 1;
 
-// The length of the page buffer, from the bytes behind the two lists.
+// Reads the page buffer's length from the bytes after the two lists; if there are fewer than four, it is the limit.
 fn length_in(rest: &[u8]) -> usize
     ensures { result ≡ length_in rest.now }
 {
@@ -20,8 +20,8 @@ fn length_in(rest: &[u8]) -> usize
     record::word_at(rest, 0) as usize
 }
 
-// The text that `page` prints for an input: the page, or the refusal alone. Of a page buffer over its limit one byte more
-// than the limit is held.
+// Writes the text that `page` prints for an input: the page, or the refusal alone. A page buffer over its limit is made one byte over it,
+// so that the call still refuses it.
 #[tactic(auto, using(text::proofs::TextLaws::refused_most))]
 pub fn page(input: &[u8], out: &mut Printed)
     ensures { out.new ≡ page_text input.now }

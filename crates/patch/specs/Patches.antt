@@ -27,7 +27,7 @@ abbrev pub plus_offset : Option ℕ → ℕ → Option ℕ
 plus_offset (Some address) offset = Some (wrap32 (address + offset))
 plus_offset None offset = None
 
--- "A destination is a constant's low 32 bits, or label address plus offset." The name stands in the list s, and resolves by "the source in
+-- "A destination is a constant's low 32 bits, or label address plus offset." The name is in the list s, and resolves by "the source in
 -- the name's location" (document 02, P6).
 unfoldable pub destination : (labels : Table) (s : List ℕ) → AddressLabel → Option ℕ
 destination labels s (Constant value) = Some (wrap32 value)
@@ -45,7 +45,7 @@ pc_of region p = wrap32 (region.address + p.offset)
 abbrev pub after : ℕ → ℕ
 after pc = wrap32 (pc + 4)
 
--- the bits that a patch writes, from bit 0 on
+-- how many bits a patch writes, from bit 0 on
 unfoldable pub field_width : InstructionLabelKind → ℕ
 field_width Branch = 16
 field_width Jump = 26
@@ -65,7 +65,7 @@ field_value Lower pc dest = dest % 65536
 field_value Upper pc dest = dest / 65536
 field_value Full pc dest = dest
 
--- "-0x10000 to 0xFFFF is accepted", or as a job has it: the distance of a branch that a build takes
+-- whether a build accepts a branch's distance: "-0x10000 to 0xFFFF is accepted", or the job's own range
 unfoldable pub branch_in_range : Job → ℕ → ℕ → Bool
 branch_in_range job pc dest = nat_le (after pc / 4) (dest / 4 + most_back job) && nat_le (dest / 4) (after pc / 4 + most_ahead job)
 
@@ -85,7 +85,7 @@ in_range job Full pc dest = true
 abbrev pub patched_word : InstructionLabelKind → ℕ → ℕ → ℕ → ℕ
 patched_word kind pc dest word = set_field word 0 (field_width kind) (field_value kind pc dest)
 
--- the region that a pending names, in the list of regions, and where its four bytes stand there
+-- the region that a pending names, and where the patch's four bytes are in the list of regions
 abbrev pub region_for : List ℕ → Pending → Region
 region_for regions p = region_at regions (region_place regions p.region)
 
@@ -105,7 +105,7 @@ unfolding in_range
 reach_verdict job p pc None = Err (UnknownLabel (name_location p.label))
 reach_verdict job p pc (Some dest) = elim (in_range job p.kind pc dest) [ true ↦ Ok tt | false ↦ Err (JumpOutOfRange p.location dest pc) ]
 
--- "14. A patch, taken in patch order, ends past its region's data"; its destination is given
+-- "14. A patch, taken in patch order, ends past its region's data"; the patch's destination is given
 abbrev pub patch_stop : Job → Region → Pending → Option ℕ → Verdict
 patch_stop job region p address =
     elim (nat_le (p.offset + 4) region.size) [
@@ -119,12 +119,12 @@ pending_verdict job labels pending region p = patch_stop job region p (destinati
 
 -- ---- the word written
 
--- what is known of an address; an unknown one has been refused
+-- the address, or `other` for an unknown one, which has been refused before
 abbrev pub address_or : ℕ → Option ℕ → ℕ
 address_or other (Some address) = address
 address_or other None = other
 
--- the region list with the patch's word stored; its destination is given
+-- the region list with the patch's word stored; the patch's destination is given
 abbrev pub write_word : Region → Pending → Option ℕ → List ℕ → List ℕ
 write_word region p address d =
     append d (region.start + p.offset)

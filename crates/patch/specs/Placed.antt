@@ -1,4 +1,4 @@
--- The destination of a patch by the place of its label, which is looked up once (document 02, P13). Assumes nothing.
+-- A patch's destination from the place of its label, so that the label is looked up only once (document 02, P13). Assumes nothing.
 use Rattle.std.specs.Prelude.{ℕ, ◌+◌, true, false, List, ◌==◌, ◌≤◌, length, ◌≢◌, None, Option, Some}
 use Rattle.record.specs.Bytes.{le32, part}
 use Rattle.labels.specs.Labels.{labelled}
@@ -6,7 +6,7 @@ use Rattle.address_label.specs.declared.AddressLabel.{AddressLabel}
 use Rattle.address_label.specs.declared.AddressLabel.TheVariants.{Constant, Label}
 use Rattle.patch.specs.Patches.{wrap32, plus_offset}
 
--- the place of no label: a list of 65,536 bytes has no record there
+-- stands for no label: in a list of 65,536 bytes no whole record begins there
 abbrev pub no_place : ℕ
 no_place = 0xFFFF
 
@@ -26,6 +26,6 @@ unfoldable pub placed_destination : List ℕ → AddressLabel → (place : ℕ) 
 placed_destination labels (Constant value) place = Some (wrap32 value)
 placed_destination labels (Label name) place = plus_offset (address_at labels place) name.offset
 
--- a place that a label may be read at
+-- the place is `no_place`, or a label of at least nine bytes fits there
 abbrev pub Placed : List ℕ → ℕ → Type 0
 Placed labels place = (place ≢ no_place) → place + 9 ≤ length labels

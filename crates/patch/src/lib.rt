@@ -16,7 +16,7 @@ use record::Location;
 use refusal::Refusal;
 use regions::Region;
 
-// The destination of a constant, or of a name that stands in `list`.
+// Returns the destination of a constant, or of a name in `list`; None if the name is unknown.
 #[tactic(auto, using(crate::proofs::PatchesLaws::destination_label), unfolding(crate::specs::Patches::destination))]
 pub fn get_address(label: AddressLabel, list: &[u8], labels: &LabelTable<'_>) -> Option<u32>
     requires { name_end label ≤ length list.now }
@@ -34,7 +34,7 @@ pub fn get_address(label: AddressLabel, list: &[u8], labels: &LabelTable<'_>) ->
     }
 }
 
-// The place of the label that a name in `list` stands for.
+// Returns the place of the label that a name in `list` resolves to, or `NO_PLACE`.
 #[tactic(auto, unfolding(crate::specs::Placed::label_place))]
 pub fn label_place(label: AddressLabel, list: &[u8], labels: &LabelTable<'_>) -> u16
     requires { name_end label ≤ length list.now }
@@ -51,7 +51,7 @@ pub fn label_place(label: AddressLabel, list: &[u8], labels: &LabelTable<'_>) ->
     }
 }
 
-// The destination of a constant, or of a name whose label stands at `place`.
+// Returns the destination of a constant, or of a name whose label is at `place`; None if that is `NO_PLACE`.
 #[tactic(auto, using(crate::proofs::PlacedLaws::placed_label, crate::proofs::PlacedLaws::address_there), unfolding(crate::specs::Placed::placed_destination))]
 pub fn address_at(label: AddressLabel, labels: &[u8], place: u16) -> Option<u32>
     requires { Placed labels.now place }
@@ -89,10 +89,10 @@ pub fn name_location(label: AddressLabel) -> Location
     }
 }
 
-// No label stands there. Kept a number in place of an Option: an array of places has two bytes for each, and its memory is fixed.
+// The place of no label. Kept a number, not an Option: an array of places has two bytes for each, and its memory is fixed.
 const NO_PLACE: u16 = 0xFFFF;
 
-// Where a patch stands, and where it goes.
+// A patch's own address, and its destination.
 #[derive(Clone, Copy)]
 struct Span {
     pc: u32,
@@ -112,7 +112,7 @@ fn in_range(job: Job, kind: InstructionLabelKind, pc: u32, destination: u32) -> 
     }
 }
 
-// A distance that the job takes.
+// Whether the job accepts a branch over this distance in words.
 fn branch_in_range(job: Job, from: u32, to: u32) -> bool
     requires { (from < 2 ^ 30) × (to < 2 ^ 30) }
     ensures { result ≡ (nat_le from (to + most_back job) && nat_le to (from + most_ahead job)) }
@@ -120,7 +120,7 @@ fn branch_in_range(job: Job, from: u32, to: u32) -> bool
     from <= to + jobs::most_back(job) && to <= from + jobs::most_ahead(job)
 }
 
-// The word with the patch's field written.
+// Returns the word with the patch's field written.
 #[tactic(auto, using(crate::proofs::PatchesLaws::patched_branch, crate::proofs::PatchesLaws::patched_jump, crate::proofs::PatchesLaws::patched_lower, crate::proofs::PatchesLaws::patched_upper, crate::proofs::PatchesLaws::patched_full))]
 fn add_label(instruction: u32, kind: InstructionLabelKind, span: Span) -> u32
     ensures { result ≡ patched_word kind span.pc span.destination instruction }
@@ -140,7 +140,7 @@ fn add_label(instruction: u32, kind: InstructionLabelKind, span: Span) -> u32
     }
 }
 
-// The checks of one patch, of which the destination is given: 14, 15, 16.
+// Checks one patch whose destination is given: refusals 14, 15 and 16.
 #[tactic(auto, using(crate::proofs::PatchesLaws::stops_unknown, crate::proofs::PatchesLaws::stops_far, crate::proofs::PatchesLaws::passes))]
 pub fn check_pending(
     job: Job,
@@ -161,7 +161,7 @@ pub fn check_pending(
     Ok(())
 }
 
-// Writes one patch, of which the destination is given, into the region list.
+// Writes one patch whose destination is given into the region list.
 pub fn write_pending(regions: &mut [u8], region: Region, patch: Pending, address: Option<u32>)
     requires { region.start + patch.offset + 4 ≤ length regions.old }
     ensures { regions.new ≡ write_word region patch address regions.old }

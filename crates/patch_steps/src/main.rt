@@ -1,4 +1,4 @@
-// Patches by steps, with lines between them, as the script of standard input says, and prints what each call answers and what is left (document 02, P12).
+// Runs the script of steps and lines on standard input, and prints what each call answers and what the buffers hold at the end (document 02, P12).
 #![tactic(auto)]
 
 use patching_text::PatchStepsText;

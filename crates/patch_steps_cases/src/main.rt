@@ -1,4 +1,4 @@
-// What `patch_steps` prints for each case of standard input (vectors/make_patching). A case is an input after its 4-byte count.
+// Prints what `patch_steps` prints, for each case on standard input (vectors/make_patching). A case is a 4-byte count and then an input.
 #![tactic(auto)]
 
 use patching_text::PatchStepsText;

@@ -1,4 +1,4 @@
-// Refusal 1 for what a step and a line of patching share: the filled parts of the region list and of the pendings, and the kept words.
+// Refusal 1 for the lists of patching by steps: the filled part of the region list, the filled part of the pendings, and a step's kept words.
 #![tactic(auto)]
 
 ghost use Rattle.std.specs.Prelude.{◌≡◌, ◌*◌, ◌≤◌, length, take};
@@ -9,14 +9,14 @@ ghost use Rattle.breakpoints.specs.Breakpoints.{filled_layout};
 ghost use Rattle.binary_builder.specs.Steps.{PendingList, most_pendings};
 ghost use Rattle.patching_outcome.specs.Patching.{has_patched};
 
-// The layout of the first `fill` bytes as a list of regions.
+// Returns where the first `fill` bytes break the layout of a region list, or None.
 pub fn check_regions(buffer: &[u8], fill: usize) -> Option<usize>
     ensures { result ≡ filled_layout fill buffer.now (region_layout (take fill buffer.now)) }
 {
     breakpoints::filled(buffer, fill).or_else(|| regions::first_bad_region(&buffer[..fill]))
 }
 
-// How many pendings a list has.
+// Counts the pendings of a list.
 pub fn count_pendings(pending: &[u8]) -> usize
     requires { PendingList pending.now }
     ensures { (result ≡ length (places pending.now)) × (result ≤ most_pendings) }
@@ -24,7 +24,7 @@ pub fn count_pendings(pending: &[u8]) -> usize
     record::places(pending).count()
 }
 
-// The layout of a list of pendings, of which `patches` are patched.
+// Returns where a pending list breaks its layout, or None. A list of fewer than `patches` pendings breaks it at its end.
 fn check_patched(pending: &[u8], regions: usize, patches: usize) -> Option<usize>
     ensures { result ≡ has_patched patches pending.now (pending_layout regions pending.now) }
 {
@@ -36,7 +36,7 @@ fn check_patched(pending: &[u8], regions: usize, patches: usize) -> Option<usize
     }
 }
 
-// The layout of the first `fill` bytes as a list of pendings, of which `patches` are patched.
+// The same for the first `fill` bytes of a buffer, which must be within the limit and have that many bytes.
 pub fn check_pendings(buffer: &[u8], fill: usize, regions: usize, patches: usize) -> Option<usize>
     ensures { result ≡ filled_layout fill buffer.now
         (has_patched patches (take fill buffer.now) (pending_layout regions (take fill buffer.now))) }
@@ -44,7 +44,7 @@ pub fn check_pendings(buffer: &[u8], fill: usize, regions: usize, patches: usize
     breakpoints::filled(buffer, fill).or_else(|| check_patched(&buffer[..fill], regions, patches))
 }
 
-// Whether there are four bytes for each pending.
+// Checks that the kept words have four bytes for each pending: None if they do.
 pub fn check_kept(kept: &[u8], pending: &[u8]) -> Option<usize>
     requires { PendingList pending.now }
     ensures { result ≡ filled_layout (4 * length (places pending.now)) kept.now None }

@@ -1,2 +1,2 @@
-// A script of steps and lines computed, which meets the premises of the claims. This crate has no code.
+// Two scripts of steps and lines, computed, to show that the claims' premises can be met. This crate has no code.
 #![tactic(auto)]

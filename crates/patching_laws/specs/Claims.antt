@@ -1,4 +1,4 @@
--- P12's claims on every script, as statements (document 02); ScriptLaws proves them. Assumes nothing.
+-- P12's claims about every script, as statements (document 02); ScriptLaws proves them. Assumes nothing.
 use Rattle.std.specs.Prelude.{ℕ, ◌+◌, ◌-◌, ◌*◌, ◌/◌, ◌<◌, ◌≤◌, Bool, true, false, ◌||◌, ◌⊎◌, ◌≡◌, length, drop, eqb, Err, Ok}
 use mathlib.Core.List.{List, [], ◌∷◌, ◌++◌, Memᴰ}
 use Rattle.jobs.specs.declared.Job.{Job}
@@ -37,7 +37,7 @@ AllInside p =
     (at : ℕ) → Memᴰ at (places (pendings_of p))
     → (pending_at (pendings_of p) at).offset + 4 ≤ (region_for (regions_of p) (pending_at (pendings_of p) at)).size
 
--- a line's elements are bytes, as those of a lent slice are
+-- the elements of a line's lists are bytes, as in a lent slice
 abbrev pub OfBytes : Turn → Type 0
 OfBytes Step = Unit {0}
 OfBytes (Line job g) = Bytes g.token_list × Bytes g.mnemonic
@@ -46,7 +46,7 @@ abbrev pub AllOfBytes : List Turn → Type 0
 AllOfBytes [] = Unit {0}
 AllOfBytes (t ∷ ts) = OfBytes t × AllOfBytes ts
 
--- "their pendings join the end of their region's part": behind the list, of region r, and in patch order behind all of the regions up to r
+-- "their pendings join the end of their region's part": they end the list, are of region r, and in patch order follow all pendings up to region r
 pub record JoinsEnd (before after : Patching) (r : ℕ) : Type 0 where
   pub added : List ℕ
   pub places_then : places (pendings_of after) ≡ places (pendings_of before) ++ added
@@ -56,7 +56,7 @@ pub record JoinsEnd (before after : Patching) (r : ℕ) : Type 0 where
 
 module _ (job : Job) (labels : Table) (entry : List ℕ) where
   -- "After each step the lent image, the region list, is its starting bytes and the appended lines with exactly the patches so far written in":
-  -- q is where a script has come to, b the accepted lines of that script alone
+  -- q is the state after a script, b the state after only that script's accepted lines
   pub record ImageIs (q b : Patching) : Type 0 where
     pub image_is : regions_of q ≡ write_patches labels (regions_of b) (pendings_of b) (done_of q) (regions_of b)
     pub order_is : order_of q ≡ order_of b
@@ -71,13 +71,13 @@ module _ (job : Job) (labels : Table) (entry : List ℕ) where
       (ts : List Turn) (p : Patching) → AllOfBytes ts → Start p
       → ImageIs (run job labels entry ts p) (lines_first job labels entry ts p)
 
-  -- each accepted line is accepted too where all of them come first
+  -- each accepted line is also accepted if all of them come first
   abbrev pub AcceptedFirst : Type 0
   AcceptedFirst =
       (ts : List Turn) (p : Patching) → AllOfBytes ts → Start p
       → accepted_lines job labels entry (accepted_lines job labels entry ts p) p ≡ accepted_lines job labels entry ts p
 
-  -- a line is answered as where all accepted lines come first, unless it is late: 29 is all that patching adds
+  -- a line that is not late gets the same answer as with all accepted lines first: patching adds refusal 29 and no other
   abbrev pub SameAnswers : Type 0
   SameAnswers =
       (ts : List Turn) (p : Patching) → AllOfBytes ts → Start p → (of : Job) (g : LineGiven) → is_late (run job labels entry ts p) g.region ≡ false
@@ -96,7 +96,7 @@ module _ (job : Job) (labels : Table) (entry : List ℕ) where
       (p : Patching) → step_checks labels entry p ≡ Ok tt → p.counts.state ≡ 0 → p.counts.patches < length (order_of p)
       → ((n : ℕ) → (step_outcome job labels entry p).answer ≡ Ok (Patched n) → (n ≡ p.counts.patches + 1) × ((step_outcome job labels entry p).after.counts.patches ≡ n))
 
-  -- the steps of a script that patched
+  -- how many steps of a script patched a pending
   abbrev pub patched_by : StepAnswer → ℕ
   patched_by (Ok (Patched n)) = 1
   patched_by (Ok (Ended a)) = 0
@@ -111,7 +111,7 @@ module _ (job : Job) (labels : Table) (entry : List ℕ) where
   patched_steps [] p = 0
   patched_steps (t ∷ ts) p = patched_turn t p + patched_steps ts (turn job labels entry t p)
 
-  -- "exactly the patches so far .. one more for each step that finds one": unless refused, as many as steps that patched
+  -- "exactly the patches so far .. one more for each step that finds one": unless refused, the count is the number of steps that patched
   abbrev pub Counted : Type 0
   Counted =
       (ts : List Turn) (p : Patching) → AllOfBytes ts → Start p
@@ -149,13 +149,13 @@ module _ (job : Job) (labels : Table) (entry : List ℕ) where
   abbrev pub AsRequested : Type 0
   AsRequested = (ts : List Turn) (p : Patching) → AllOfBytes ts → Start p → AllInside p → EqualsBuild ts p
 
--- ---- a late line: 29 stands "before 11", and so behind 10
+-- ---- a late line: 29 comes "before 11", and so after 10
 
--- 11 and 12 are what a line gets for want of room
+-- a line gets 11 or 12 when there is no room for it
 abbrev pub is_room : Refusal → Bool
 is_room r = eqb (numbered r).number 11 || eqb (numbered r).number 12
 
--- what a late line answers, by what the same line would answer were it not late
+-- a late line's answer, given the answer that the line would get if it were not late
 abbrev pub instead : Location → EmitAnswer → EmitAnswer
 instead line (Ok done) = refused_at (LateLine line) done.position
 instead line (Err refused) = refused_at (elim (is_room refused.refusal) [ true ↦ LateLine line | false ↦ refused.refusal ]) refused.position

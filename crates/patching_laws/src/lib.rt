@@ -1,2 +1,2 @@
-// Patching step by step with lines added between: scripts of steps and lines, the claims on every script, and their proofs. This crate has no code.
+// Patching by steps, with lines added in between: scripts of steps and lines, the claims about each script, and the proofs. This crate has no code.
 #![tactic(auto)]

@@ -1,4 +1,4 @@
--- What a line while patching runs promises: the answer, the caller's record and every lent byte. Assumes nothing.
+-- What the call that adds a line while patching runs promises: the answer, the caller's record and every lent byte. Assumes nothing.
 use Rattle.std.specs.Prelude.{List, ◌≡◌, ℕ}
 use Rattle.jobs.specs.declared.Job.{Job}
 use Rattle.emit_outcome.specs.Answer.{EmitAnswer}
@@ -9,7 +9,7 @@ use Rattle.patching_outcome.specs.Line.{LineGiven, LineOutcome, line_outcome}
 abbrev pub given_of : (tokens mnemonic descriptors : List ℕ) → (position region : ℕ) → LineGiven
 given_of tokens mnemonic descriptors position region = record { token_list = tokens; mnemonic = mnemonic; descriptors = descriptors; position = position; region = region }
 
--- A line is lent no kept words: with whatever kept words, they are after it what they were.
+-- A line is lent no kept words: whatever they are, they stay as they were.
 abbrev pub LinesTo : (Patching → LineOutcome) → (regions pending breakpoints : List ℕ) → PatchCounts → EmitAnswer → PatchCounts → (regions_after pending_after breakpoints_after : List ℕ) → Type 0
 LinesTo outcome regions pending breakpoints counts answer counts_after regions_after pending_after breakpoints_after =
     (kept : List ℕ)

@@ -1,4 +1,4 @@
--- What a line is given besides the lent lists, as the definitions take it. Assumes nothing.
+-- A line's inputs besides the lent lists, in the form that the definitions take. Assumes nothing.
 use Rattle.patching_outcome.specs.Line.{LineGiven}
 use Rattle.patching_line.specs.Contract.{given_of}
 use Rattle.patching_line.specs.declared.Line.{Line}

@@ -26,12 +26,12 @@ filled_regions regions counts = take counts.regions regions
 abbrev pub filled_pendings : List ℕ → PatchCounts → List ℕ
 filled_pendings pending counts = take counts.pending pending
 
--- the region list of a line, by its buffer and fill count
+-- the layout of a line's region list, from its buffer and fill count
 abbrev pub listed_in : (region fill : ℕ) → List ℕ → Option ℕ
 listed_in region fill s =
     elim (region_number_ok region) [ true ↦ filled_layout fill s (only_listed (is_listed (take fill s) region) (region_layout (take fill s))) | false ↦ Some 0 ]
 
--- what the layouts of all lists come to; none reads the position or the kept words
+-- the verdict on the layouts of all lists; none reads the position or the kept words
 abbrev pub LayoutsAre : (tokens mnemonic descriptors : List ℕ) (region : ℕ) (regions pending breakpoints : List ℕ) → PatchCounts → Verdict → Type 0
 LayoutsAre tokens mnemonic descriptors region regions pending breakpoints counts verdict =
     (position : ℕ) (kept : List ℕ)
@@ -59,7 +59,7 @@ nowhere tokens mnemonic descriptors pending breakpoints counts position =
 
 -- ---- the region that was found
 
--- how many free bytes of the list's buffer the line may take
+-- how many free bytes of the list's buffer the line may use
 abbrev pub room_of : List ℕ → PatchCounts → ℕ
 room_of regions counts = min most_words (length regions - counts.regions)
 
@@ -77,7 +77,7 @@ FoundIn job tokens mnemonic descriptors regions pending breakpoints counts posit
     EmittedIn job (found_call tokens mnemonic descriptors regions pending breakpoints counts position region g) regions g.start counts.regions
     answer filled regions_after pending_after breakpoints_after
 
--- the words that an accepted call has added have their room
+-- there is room for the words that an accepted call has added
 pub record GrowsTo (regions : List ℕ) (counts : PatchCounts) (g : Region) (filled : FillCounts) : Type 0 where
   pub head : 8 ≤ g.start
   pub start_within : g.start ≤ length regions
@@ -96,7 +96,7 @@ counts_grown counts g filled = record {
 
 -- ---- a line that its checks may refuse
 
--- the answer and the record that a refusal by a check leaves: the record is as it was
+-- the line's answer and record; a refusal by a check leaves the record as it was
 abbrev pub answered : PatchCounts → (position : ℕ) → Result Lined Refusal → Lined
 answered counts position (Ok lined) = lined
 answered counts position (Err r) = record { answer = refused_at r position; counts = counts }

@@ -1,4 +1,4 @@
-// A line while patching runs: its words go behind its region's data in the region list, or it is refused and nothing changes (document 02, P12).
+// Adds a line while patching runs: its words go after its region's data in the region list, or it is refused and nothing changes (document 02, P12).
 #![tactic(auto)]
 
 ghost use Rattle.std.specs.Prelude.{◌≡◌, [], ◌≤◌, ◌<◌, ◌+◌, ◌-◌, min, length};
@@ -20,7 +20,7 @@ use patching_outcome::{Lined, PatchCounts};
 use refusal::Refusal;
 use regions::{Region, Regions};
 
-// What a line is given besides the lent lists: the job, the lists that it only reads, a token position and its region's number.
+// A line's inputs besides the lent lists: the job, the lists that it only reads, a token position and its region's number.
 #[derive(Clone, Copy)]
 struct Line<'a> {
     job: Job,
@@ -36,7 +36,7 @@ fn number_ok(region: u16) -> bool
     region <= 15 || region == emit_outcome::NO_REGION
 }
 
-// Whether a region list has that number, or no region is selected.
+// Whether the list has a region of this number, or no region is selected.
 fn is_listed(regions: &Regions<'_>, region: u16) -> bool
     ensures { result ≡ is_listed regions.now region }
 {
@@ -46,7 +46,7 @@ fn is_listed(regions: &Regions<'_>, region: u16) -> bool
     (region as usize) < regions.count()
 }
 
-// The layout of the first `fill` bytes as a list of regions with the one selected.
+// Returns where the first `fill` bytes break the layout of a region list, or None. If the selected region is not listed, that is 0.
 fn check_listed(buffer: &[u8], fill: usize, region: u16) -> Option<usize>
     ensures { result ≡ listed_in region fill buffer.now }
 {
@@ -87,7 +87,7 @@ fn check_layouts(
     refusal::check_layout(5, breakpoints::check_breakpoint_buffer(breakpoints, kept))
 }
 
-// Whether patching has ended or was refused, or the region is below that of a patched pending: the last one patched has the greatest.
+// Whether patching has ended or was refused, or a pending of a greater region is patched. The last one patched has the greatest region.
 fn is_late(counts: PatchCounts, regions: &[u8], pending: &[u8], region: u16) -> bool
     requires { LineLists regions.now pending.now counts }
     ensures { result ≡ is_late (patching_of regions.now pending.now [] [] counts) region }
@@ -108,7 +108,7 @@ fn is_late(counts: PatchCounts, regions: &[u8], pending: &[u8], region: u16) -> 
     (region as usize) < patch.region
 }
 
-// The answer of the line with no region selected: it is refused, with 10 at the latest, and changes nothing.
+// Returns the line's answer with no region selected: always a refusal, 10 at the latest. Nothing changes.
 fn emit_nowhere(
     line: Line<'_>,
     counts: PatchCounts,
@@ -140,7 +140,7 @@ fn emit_nowhere(
     out.answer
 }
 
-// 29 where 10 would be.
+// Puts refusal 29 in the place of 10.
 fn late_refusal(refusal: Refusal) -> Refusal
     ensures { result ≡ late_refusal refusal }
 {
@@ -159,14 +159,14 @@ fn late_answer(answer: EmitAnswer) -> EmitAnswer
     })
 }
 
-// How many of the free bytes a line may take: as many as its words may have.
+// Returns how many of the free bytes a line may use: no more than its words can need.
 fn room_in(free: usize) -> usize
     ensures { result ≡ min most_words free }
 {
     free.min(20)
 }
 
-// The emit call of a line in the region that was found.
+// Makes the line's emit call in the region that was found.
 fn emit_found(
     line: Line<'_>,
     counts: PatchCounts,
@@ -208,7 +208,7 @@ fn emit_found(
     )
 }
 
-// The length of the region's record and the list's fill count with the words that a line has added.
+// Updates the length of the region's record after a line has added words, and returns the new counts.
 fn grow(regions: &mut [u8], counts: PatchCounts, found: Region, filled: FillCounts) -> PatchCounts
     requires { GrowsTo regions.old counts found filled }
     ensures { (result ≡ counts_grown counts found filled) × (regions.new ≡ append regions.old (found.start - 8) (le16_bytes (filled.data_len + 4))) }
@@ -224,7 +224,7 @@ fn grow(regions: &mut [u8], counts: PatchCounts, found: Region, filled: FillCoun
     }
 }
 
-// A line whose region is listed and not late.
+// Emits a line that is not late and whose region is listed.
 fn emit_listed(
     line: Line<'_>,
     counts: PatchCounts,
@@ -251,7 +251,7 @@ fn emit_listed(
     }
 }
 
-// A line whose lists keep their layouts.
+// Emits or refuses a line whose lists have passed refusal 1.
 fn emit_checked(
     line: Line<'_>,
     counts: PatchCounts,
@@ -276,7 +276,7 @@ fn emit_checked(
     emit_listed(line, counts, regions, pending, breakpoints)
 }
 
-// A line that the layouts of its lists may refuse: a refusal by them changes nothing.
+// Checks the layouts and then emits or refuses the line. Refusal 1 changes nothing.
 fn checked_line(
     line: Line<'_>,
     counts: PatchCounts,

@@ -1,4 +1,4 @@
--- A whole line while patching runs, by the definition of an emit call (document 02, P12). Assumes nothing.
+-- A whole line added while patching runs, defined by an emit call (document 02, P12). Assumes nothing.
 use Rattle.std.specs.Prelude.{ℕ, ◌+◌, ◌-◌, List, [], ◌++◌, Bool, true, false, ◌&&◌, ◌||◌, not, length, get_or, take, drop, ltb, eqb, Err, None, Ok, Option, Some}
 use Rattle.jobs.specs.declared.Job.{Job}
 use Rattle.record.specs.Bytes.{part}
@@ -23,7 +23,7 @@ use Rattle.emit_outcome.specs.Answer.{EmitAnswer, refused_at}
 use Rattle.patching_outcome.specs.Patching.{Patching, regions_of, pendings_of, order_of, pendings_layout}
 use Rattle.patching_outcome.specs.Grown.{grown}
 
--- what else a line's call is given: its lists, a token position and the region's number; the address stands in the region's record
+-- what else a line's call is given: its lists, a token position and the region's number; the address is in the region's record
 pub record LineGiven : Type 0 where
   pub token_list : List ℕ
   pub mnemonic : List ℕ
@@ -33,11 +33,11 @@ pub record LineGiven : Type 0 where
 
 -- ---- refusal 1
 
--- a region of the list, or none selected
+-- the list has this region, or no region is selected
 abbrev pub is_listed : (regions : List ℕ) (region : ℕ) → Bool
 is_listed regions region = eqb region no_region || ltb region (region_count regions)
 
--- "A line for an unlisted region gets refusal 1 for that list (b 0)": what a list lists is known where it keeps its layout
+-- "A line for an unlisted region gets refusal 1 for that list (b 0)": asked only of a list that keeps its layout
 abbrev pub only_listed : Bool → Option ℕ → Option ℕ
 only_listed true l = l
 only_listed false None = Some 0
@@ -51,7 +51,7 @@ listed_layout region p =
       | false ↦ Some 0
     ]
 
--- an emit call's buffers, with the region list where the region's data stands
+-- an emit call's buffers, with the region list in the place of the region's data
 unfoldable pub line_layouts : LineGiven → Patching → Verdict
 unfolding token_layout mnemonic_layout descriptor_layout listed_layout pendings_layout breakpoint_buffer_layout
 line_layouts g p =
@@ -71,7 +71,7 @@ region_on p region = region_at (regions_of p) (region_place (regions_of p) regio
 abbrev pub most_words : ℕ
 most_words = 20
 
--- the region's data, and behind it free bytes of the list's buffer, as many as a line may take
+-- the region's data, then free bytes of the list's buffer, no more than a line may use
 abbrev pub data_on : Patching → Region → List ℕ
 data_on p g = part p.regions g.start g.size ++ take most_words (drop p.counts.regions p.regions)
 
@@ -82,7 +82,7 @@ emit_call g p =
     (record { data_len = r.size; pending = p.counts.pending; breakpoints = p.counts.breakpoints })
     (record { position = g.position; region = g.region; address = r.address })
 
--- the same with no region selected: it is refused, with 10 at the latest
+-- the same call with no region selected: always refused, with 10 at the latest
 abbrev pub none_call : LineGiven → Patching → Call
 none_call g p =
     call_of g.token_list g.mnemonic g.descriptors (lent_of [] p.pending p.breakpoints)
@@ -91,14 +91,14 @@ none_call g p =
 
 -- ---- refusal 29
 
--- "a line for a region below that of a patched pending, or after patching ended or refused": the last one patched has the greatest region
+-- "a line for a region below that of a patched pending, or after patching ended or refused"; the last pending patched has the greatest region
 abbrev pub is_below : Patching → ℕ → Bool
 is_below p region = ltb 0 p.counts.patches && ltb region (region_of (pendings_of p) (get_or (order_of p) (p.counts.patches - 1) 0))
 
 abbrev pub is_late : Patching → ℕ → Bool
 is_late p region = not (eqb p.counts.state 0) || is_below p region
 
--- "before 11", and so behind 10: it is due where 10 would be, were no region selected
+-- "before 11", and so after 10: the line gets 29 if it would get 10 with no region selected
 abbrev pub late_refusal : Refusal → Refusal
 late_refusal r = elim (eqb (numbered r).number 10) [ true ↦ LateLine (numbered r).location | false ↦ r ]
 
@@ -116,7 +116,7 @@ pub record LineOutcome : Type 0 where
 abbrev pub new_words : (size : ℕ) → EmitOutcome → List ℕ
 new_words size o = part o.lent.region_data size (o.counts.data_len - size)
 
--- the region's data grows by them; what stands behind the list's new end stays
+-- the region's data grows by them; the bytes after the list's new end stay
 abbrev pub lined : Patching → (region : ℕ) → EmitOutcome → Patching
 lined p region o =
     let words = new_words (region_on p region).size o in

@@ -16,7 +16,7 @@ use patching_outcome::{PatchCounts, Progress, StepAnswer, Stepped};
 use refusal::Refusal;
 use regions::Regions;
 
-// Puts four bytes back at the patch of the pending at `at`, if it ends within its region's data.
+// Puts four bytes back where the pending at `at` is patched, unless they would run past its region's data.
 fn put_back_one(regions: &mut [u8], fill: usize, pending: &[u8], at: usize, bytes: &[u8])
     requires { FilledRegions fill regions.old × PatchAt (take fill regions.old) pending.now at × (length bytes.now ≡ 4) }
     ensures { regions.new ≡ back_at (take fill regions.old) pending.now bytes.now at regions.old }
@@ -30,7 +30,7 @@ fn put_back_one(regions: &mut [u8], fill: usize, pending: &[u8], at: usize, byte
     record::put_all(regions, region.start + patch.offset as usize, bytes);
 }
 
-// Puts the kept bytes of the patches at these places back, those of the last patch first.
+// Puts the kept bytes of these patches back, the last patch first.
 fn put_back(regions: &mut [u8], fill: usize, pending: &[u8], order: &[u16], kept: &[u8])
     requires { FilledRegions fill regions.old × PatchesAt (take fill regions.old) pending.now order.now kept.now }
     ensures { regions.new ≡ put_back (take fill regions.old) pending.now kept.now 0 order.now regions.old }
@@ -41,7 +41,7 @@ fn put_back(regions: &mut [u8], fill: usize, pending: &[u8], order: &[u16], kept
     }
 }
 
-// The caller's record with other numbers of patches and of the state.
+// Returns the caller's record with a new count of patches and a new state.
 fn now_at(counts: PatchCounts, patches: u32, state: u32) -> PatchCounts
     ensures { result ≡ now_at counts patches state }
 {
@@ -54,9 +54,9 @@ fn now_at(counts: PatchCounts, patches: u32, state: u32) -> PatchCounts
     }
 }
 
-// The next pending: 14, 15, 16, and then it is written and what stood there kept. Where it is refused, what was patched is put back.
-// kept: the lists and the record of counts go apart, here and in the calls above. A struct of them would hold two lists that are lent to be
-// written, and each contract would say besides which ones they still are.
+// Patches the next pending and keeps the bytes that stood there, or refuses it with 14, 15 or 16 and undoes every patch.
+// kept: the lists and the counts are separate parameters, here and in the calls above. A struct would hold two mutably borrowed lists, and each
+// contract would also have to say that they are still the same lists.
 fn patch_next(
     job: Job,
     labels: &LabelTable<'_>,
@@ -99,7 +99,7 @@ fn patch_next(
     }
 }
 
-// A step while patching runs: the next pending, or the end.
+// Makes a step while patching runs: patches the next pending, or ends if none is left.
 fn running_step(
     job: Job,
     labels: &LabelTable<'_>,
@@ -124,7 +124,7 @@ fn running_step(
     patch_next(job, labels, counts, regions, pending, kept, order)
 }
 
-// A step after patching has ended or was refused; the arrays are scratch.
+// Answers a step after patching has ended or was refused; `order` and `found` are scratch space.
 fn stopped_step<'a>(
     job: Job,
     labels: &LabelTable<'_>,
@@ -149,7 +149,7 @@ fn stopped_step<'a>(
     Ok(Progress::Ended(entry))
 }
 
-// A step by a table of labels; `found` is scratch. Refusal 13 changes nothing.
+// Makes a step of lists that have passed refusals 1 and 2; `found` is scratch space. Refusal 13 changes nothing.
 fn step_with(
     job: Job,
     labels: &LabelTable<'_>,
@@ -164,7 +164,7 @@ fn step_with(
     requires layouts_are { LayoutsAre (table_of labels.now.list) entry.now regions.old pending.now kept.old counts (Ok tt) }
     ensures { CheckedStep job (table_of labels.now.list) entry.now regions.old pending.now kept.old counts result regions.new kept.new }
 {
-    // its contract says that no two labels share a name and an owner
+    // called for its contract: it says that no two labels share a name and an owner
     let _ = labels.bytes();
     let address = binary_builder::find_entry(labels, entry)?;
     let mut order = [0u16; binary_builder::MOST_PENDINGS];
@@ -213,7 +213,7 @@ fn check_layouts(
     refusal::check_layout(4, patching_checks::check_kept(kept, &pending[..filled]))
 }
 
-// A step that its checks may refuse: refusals 1, 2 and 13 change nothing.
+// Checks the lists and makes a step. Refusals 1, 2 and 13 change nothing.
 fn checked_step(
     job: Job,
     labels: &[u8],
@@ -236,7 +236,7 @@ fn checked_step(
     )
 }
 
-// A step: it patches the next pending in patch order, ends where none is left, or refuses; a refusal 14 to 16 puts every patch back.
+// Makes a step: patches the next pending in patch order, ends if none is left, or refuses. Refusals 14 to 16 undo every patch.
 pub fn patch_step(
     job: Job,
     labels: &[u8],

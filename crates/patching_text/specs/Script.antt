@@ -1,4 +1,4 @@
--- What `patch_steps` prints (document 02, P12), as docs/DECISIONS.md has it. Assumes nothing.
+-- What `patch_steps` prints (document 02, P12), as docs/DECISIONS.md says. Assumes nothing.
 use Rattle.std.specs.Prelude.{ℕ, zero, suc, List, ◌++◌, true, false, leb, eqb, drop, get_or, replicate, None, Option, Some, Err, Ok}
 use Rattle.io.specs.Digits.{last_digits}
 use Rattle.jobs.specs.declared.Job.{Job}
@@ -50,7 +50,7 @@ end_text c regions pending breakpoints =
 
 -- ---- the script
 
--- what all turns have: the job, the labels, the entry record and the descriptors
+-- what every turn uses: the job, the labels, the entry record and the descriptors
 pub record Given : Type 0 where
   pub job : Job
   pub labels : List ℕ
@@ -64,7 +64,7 @@ script_given job labels entry descriptors = record { job = job; labels = labels;
 abbrev pub turn_byte : List ℕ → ℕ
 turn_byte s = get_or s 0 2
 
--- a line's tokens and mnemonic, each after its count, its position and its region
+-- a line is its tokens and its mnemonic, each after its count, then its position and its region
 abbrev pub line_in : (descriptors : List ℕ) → List ℕ → LineGiven
 line_in descriptors s =
     let numbers = behind_lists 2 s in
@@ -91,7 +91,7 @@ turn_of g p s = elim (eqb (turn_byte s) 0) [ true ↦ step_turn g.job g.labels g
 unfoldable pub behind_turn : List ℕ → List ℕ
 behind_turn s = elim (eqb (turn_byte s) 0) [ true ↦ drop 1 s | false ↦ drop 6 (behind_lists 2 (drop 1 s)) ]
 
--- the lines of all turns, each of which gets what the last left, and those of the end; of a longer script so many turns
+-- the lines of all turns, at most `most` of them, each starting with what the last one left; then the lines of the end
 unfoldable pub script_text : (most : ℕ) → Given → Patching → List ℕ → List ℕ
 unfolding turn_of behind_turn end_text
 script_text zero g p s = end_text p.counts p.regions p.pending p.breakpoints
@@ -122,7 +122,7 @@ unfoldable pub job_text : Job → List ℕ → List ℕ
 unfolding script_text
 job_text job s = lent_text job s (held (list_of 3 s)) (held (list_of 4 s)) (held (list_of 5 s))
 
--- a byte that is no job's goes before everything else
+-- a byte that no job has is answered before anything else
 abbrev pub asked_text : List ℕ → Option Job → List ℕ
 asked_text s (Some job) = job_text job s
 asked_text s None = bytes_of "no such job\n"

@@ -1,4 +1,4 @@
--- What all turns have, as the definitions take it. Assumes nothing.
+-- What every turn uses, in the form that the definitions take. Assumes nothing.
 use Rattle.patching_text.specs.Script.{Given, script_given}
 use Rattle.patching_text.specs.declared.Setup.{Setup}
 

@@ -1,4 +1,4 @@
--- A turn of a script made: its text pushed, and what it leaves. Assumes nothing.
+-- What the code promises of one turn of a script: the text that it prints, and what it leaves. Assumes nothing.
 use Rattle.std.specs.Prelude.{ℕ, ◌≤◌, ◌≡◌, Bool, ◌&&◌, List, ◌++◌, leb, ltb, length}
 use Rattle.jobs.specs.declared.Job.{Job}
 use Rattle.patching_outcome.specs.declared.PatchCounts.{PatchCounts}
@@ -6,7 +6,7 @@ use Rattle.patching_outcome.specs.Patching.{Patching, patching_of}
 use Rattle.patching_outcome.specs.Line.{LineGiven}
 use Rattle.patching_text.specs.Script.{Turned, turn_byte, step_turn, line_turn, most_turns}
 
--- what a turn promises: its text, of 144 bytes at most, stands behind what was printed, and what it leaves is its definition's
+-- what a turn promises: it appends its text, at most 144 bytes, and leaves what its definition says
 pub record Turns (t : Turned) (out out_after : List ℕ) (after : Patching) : Type 0 where
   pub pushed : out_after ≡ out ++ t.text
   pub short : length t.text ≤ 144

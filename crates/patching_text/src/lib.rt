@@ -1,4 +1,4 @@
-// What `patch_steps` does (document 02, P12), from the bytes that it reads to those that it prints: a script of steps and lines.
+// The program `patch_steps` (document 02, P12), from the bytes it reads to the text it prints: it runs a script of steps and lines.
 #![tactic(auto)]
 
 ghost use Rattle.std.specs.Prelude.{◌≡◌, ◌++◌, ◌+◌, ◌*◌, ◌≤◌, length};
@@ -14,13 +14,13 @@ use text::{MOST, Printed};
 
 mod lines;
 
-// A longer script ends here.
+// The most turns of a script that are made; a longer script ends here.
 const MOST_TURNS: usize = 4096;
 
 // Four bytes for each pending that a list may have.
 const KEPT: usize = 7_280;
 
-// What all turns have: the job, the labels, the entry record and the descriptors.
+// What every turn uses: the job, the labels, the entry record and the descriptors.
 #[derive(Clone, Copy)]
 struct Setup<'a> {
     job: Job,
@@ -29,7 +29,7 @@ struct Setup<'a> {
     descriptors: &'a [u8],
 }
 
-// The script behind its next turn.
+// Returns the script after its next turn.
 #[tactic(auto, using(input::proofs::InputLaws::rest_is), unfolding(crate::specs::Script::behind_turn))]
 fn behind_turn(script: &[u8]) -> &[u8]
     requires { 1 ≤ length script.now }
@@ -44,7 +44,7 @@ fn behind_turn(script: &[u8]) -> &[u8]
     &numbers[start..]
 }
 
-// A step's line, and the caller's record after it.
+// Makes a step, prints its answer and returns the caller's record after it.
 #[tactic(auto, using(crate::proofs::TurnsLaws::step_most))]
 fn do_step(
     out: &mut Printed,
@@ -71,7 +71,7 @@ fn do_step(
     stepped.counts
 }
 
-// The lines of a line, and the caller's record after it; `line` is the script behind the byte that says so.
+// Adds a line, prints its answer and returns the caller's record after it. `line` is the script after the byte 1.
 #[tactic(auto, using(crate::proofs::TurnsLaws::line_most))]
 fn do_line(
     out: &mut Printed,
@@ -103,7 +103,7 @@ fn do_line(
     lined.counts
 }
 
-// The next turn of a script.
+// Makes the next turn of a script: a step or a line.
 fn do_turn(
     out: &mut Printed,
     setup: Setup<'_>,
@@ -133,7 +133,7 @@ fn do_turn(
     )
 }
 
-// The lines of all turns in the place of what was there, and the caller's record then. With the lines of the end this is the script's whole text.
+// Clears `out`, makes all turns and prints their lines. Returns the caller's record after them; only the lines of the end are then missing.
 fn put_turns(
     out: &mut Printed,
     setup: Setup<'_>,
@@ -174,7 +174,7 @@ fn put_turns(
     counts
 }
 
-// The caller's record at the start, of the numbers behind the lists.
+// Reads the caller's record at the start from the numbers after the lists.
 fn counts_in(numbers: &[u8]) -> PatchCounts
     ensures { result ≡ counts_in numbers.now }
 {
@@ -187,7 +187,7 @@ fn counts_in(numbers: &[u8]) -> PatchCounts
     }
 }
 
-// The text of an input's script in a job.
+// Writes the text of an input's script in this job.
 fn put_job(job: Job, input: &[u8], out: &mut Printed)
     ensures { out.new ≡ job_text job input.now }
 {
@@ -222,7 +222,7 @@ fn put_job(job: Job, input: &[u8], out: &mut Printed)
     lines::put_end(out, counts, regions, pending, breakpoints);
 }
 
-// The text that `patch_steps` prints for an input.
+// Writes the text that `patch_steps` prints for an input.
 #[tactic(auto, unfolding(crate::specs::Script::steps_text))]
 pub fn patch_steps(input: &[u8], out: &mut Printed)
     ensures { out.new ≡ steps_text input.now }

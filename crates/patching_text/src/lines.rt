@@ -6,7 +6,7 @@ use emit_outcome::{EmitAnswer, FillCounts};
 use patching_outcome::{PatchCounts, Progress, StepAnswer};
 use text::{MOST, Printed};
 
-// The entry of patching that has ended.
+// Prints the entry address once patching has ended.
 fn put_ended(out: &mut Printed, address: u32)
     requires { length out.old + length (step_text (Ok (Progress.Ended address))) ≤ MOST }
     ensures { out.new ≡ out.old ++ step_text (Ok (Progress.Ended address)) }
@@ -54,7 +54,7 @@ fn put_state(out: &mut Printed, state: u32)
     }
 }
 
-// The caller's record.
+// Prints the caller's record.
 #[tactic(auto, using(crate::proofs::TurnsLaws::counts_length, std::proofs::lemmas::Grind::common_steps), unfolding(crate::specs::Script::counts_text))]
 fn put_counts(out: &mut Printed, counts: PatchCounts)
     requires { length out.old + length (counts_text counts) ≤ MOST }
@@ -70,7 +70,7 @@ fn put_counts(out: &mut Printed, counts: PatchCounts)
     out.push_number_line(b"patches", counts.patches as u64);
 }
 
-// What is printed behind the turns.
+// Prints what comes after the turns: the caller's record and the buffers.
 #[tactic(auto, using(crate::proofs::TurnsLaws::end_length, std::proofs::lemmas::Grind::common_steps), unfolding(crate::specs::Script::end_text))]
 pub(crate) fn put_end(
     out: &mut Printed,

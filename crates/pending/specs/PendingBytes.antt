@@ -1,4 +1,4 @@
--- A pending record as bytes, the twin of `pending_at` (document 01, 'Pending 36, breakpoint 37'). Assumes nothing.
+-- A pending record as bytes, the reverse of `pending_at` (document 01, 'Pending 36, breakpoint 37'). Assumes nothing.
 use Rattle.std.specs.Prelude.{ℕ, ◌^◌, ◌<◌, List, ◌∷◌, ◌++◌}
 use Rattle.record.specs.Stores.{le16_bytes, le32_bytes, location_bytes, record_bytes, LocationFits}
 use Rattle.address_label.specs.LabelBytes.{label_bytes, LabelFits}

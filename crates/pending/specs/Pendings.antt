@@ -18,7 +18,7 @@ patch_kind_of s at = byte_at s (at + 18)
 abbrev pub label_of : List ℕ → ℕ → AddressLabel
 label_of s at = address_label_at s (at + 19) (next s at)
 
--- a pending of one of `regions` regions: "a pending whose number has no region breaks the layout"
+-- a pending for one of `regions` regions: "a pending whose number has no region breaks the layout"
 abbrev pub pending_body : ℕ → List ℕ → ℕ → Bool
 pending_body regions s at =
     eqb (kind_at s at) 36 && leb 32 (body_len s at) && ltb (region_of s at) regions && leb (patch_kind_of s at) 4 && address_label_ok s (at + 19) (next s at)
@@ -46,7 +46,7 @@ pending_at s at = record {
   label = label_of s at;
 }
 
--- what a reader of the record at `at` asks of it
+-- what reading the record at `at` requires
 pub record PendingIs (s : List ℕ) (at : ℕ) : Type 0 where
   pub whole_at : whole s at ≡ true
   pub record_kind : kind_at s at ≡ 36

@@ -24,7 +24,7 @@ pub enum InstructionLabelKind {
     Full = 4,
 }
 
-// The kind of a number; a number over 4 gives the last.
+// Converts a number to its kind; a number over 4 gives the last.
 impl From<u8> for InstructionLabelKind {
     ghost from_gives = { λ n kind. kind ≡ kind_from n };
 
@@ -64,7 +64,7 @@ pub struct Origin {
     pub location: Location,
 }
 
-// The number of the region that the record at `at` patches.
+// Returns the number of the region that the record at `at` patches.
 fn region_of(list: &[u8], at: usize) -> usize
     requires { at + 6 ≤ length list.now }
     ensures { result ≡ region_of list.now at }
@@ -72,7 +72,7 @@ fn region_of(list: &[u8], at: usize) -> usize
     record::half_at(list, at + 4)
 }
 
-// The layout of a list of pendings, each of one of so many regions.
+// The layout of a list of pendings, each for one of `regions` regions.
 #[derive(Clone, Copy)]
 struct Pendings {
     regions: usize,
@@ -92,7 +92,7 @@ impl record::Layout for Pendings {
     }
 }
 
-// The place of the first record that breaks the layout, or the limit.
+// Returns the place of the first record that breaks the layout, or the limit if the list is longer.
 #[tactic(auto, unfolding(crate::specs::Pendings::pending_layout))]
 pub fn first_bad_pending(list: &[u8], regions: usize) -> Option<usize>
     ensures { result ≡ pending_layout regions list.now }
@@ -100,7 +100,7 @@ pub fn first_bad_pending(list: &[u8], regions: usize) -> Option<usize>
     record::first_bad_within(&Pendings { regions }, list)
 }
 
-// The pending at `at`, of a list that keeps its layout.
+// Reads the pending at `at`, a record that keeps its layout.
 pub fn read_pending(list: &[u8], at: usize) -> Pending
     requires { PendingIs list.now at }
     ensures { result ≡ pending_at list.now at }
@@ -120,7 +120,7 @@ pub fn read_pending(list: &[u8], at: usize) -> Pending
     }
 }
 
-// One pending record from `at` on. The label's name is a part of `names`.
+// Writes one pending record from `at` on. The label's name is a part of `names`.
 pub fn put_pending(d: &mut [u8], names: &[u8], at: usize, origin: Origin, waits: InstructionLabel)
     requires { at + 36 + length (name_bytes names.now waits.label) ≤ length d.old }
     ensures { d.new ≡ append d.old at (pending_bytes names.now origin waits) }

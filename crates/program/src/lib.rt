@@ -1,34 +1,34 @@
-// What every program does: it reads bytes of standard input, puts together a text made of them, and writes that; or does so for each stored case.
+// What every program does: it reads standard input, makes a text from it and prints that text, or does so for each stored case.
 #![tactic(auto)]
 
 ghost use Rattle.std.specs.Prelude.{◌≡◌, List, ℕ};
 
 use text::{Printed, Text};
 
-// What a program prints for its input.
+// A program: the text that it prints for its input.
 pub trait Program {
     ghost text_of: { List ℕ → List ℕ };
 
-    // Puts that text in the place of what was there.
+    // Replaces what is in `out` by that text.
     fn print(&self, input: &[u8], out: &mut Printed)
         ensures { out.new ≡ text_of input.now };
 }
 
-// Prints what a program has for standard input.
+// Reads standard input and prints the program's text for it.
 pub fn run<P: Program>(program: &P) {
     let mut input = [0u8; input::MOST];
     let count = io::read_full(input::STDIN, &mut input);
     put(program, &input[..count], &mut Printed::new());
 }
 
-// Prints what a program has for each case of standard input, behind the case's number. A case is an input after its 4-byte count.
+// Prints, for each case of standard input, the case's number and then the program's text. A case is an input after its 4-byte count.
 pub fn run_cases<P: Program>(program: &P) {
     let mut input = [0u8; input::MOST];
     let count = io::read_full(input::STDIN, &mut input);
     put_cases(program, &input[..count]);
 }
 
-// A case takes four bytes at least, so there are fewer than the input has bytes.
+// Prints each case. A case takes at least four bytes, so there are never more cases than bytes.
 fn put_cases<P: Program>(program: &P, input: &[u8]) {
     let mut out = Printed::new();
     let mut rest = input;

@@ -1,4 +1,4 @@
--- What each comparison says of two values of 32 bits (document 02, P11: "the comparison of 32-bit values"). Assumes nothing.
+-- What each comparison says about two 32-bit values (document 02, P11: "the comparison of 32-bit values"). Assumes nothing.
 use Rattle.std.specs.Prelude.{ℕ, Bool, true, false}
 use Rattle.std.specs.Int.Signed.{lt_z, le_z}
 use Rattle.machine.specs.Numbers.{signed}

@@ -25,8 +25,8 @@ use Rattle.finished_words.specs.Listed.{In}
 use Rattle.routine.specs.PatchValues.{patch_at}
 use Rattle.routine.specs.CallValues.{call_pairs, call_patches}
 
--- An accepted line of the pseudo-instruction p with the operands x. "A descriptor goes before a pseudo-instruction of that name": the
--- mnemonic has to mean p.
+-- An accepted line of the pseudo-instruction p with the operands x. "A descriptor goes before a pseudo-instruction of that name": so the
+-- mnemonic must really mean p.
 pub record Emitted (job : Job) (c : Call) (p : Pseudo) (x : AskedAll (pseudo_wants p)) : Type 0 where
   pub position : ℕ
   pub loaded : LoadForm
@@ -34,7 +34,7 @@ pub record Emitted (job : Job) (c : Call) (p : Pseudo) (x : AskedAll (pseudo_wan
   pub means : meaning c.descriptors (mnemonic_name c.mnemonic) ≡ Builtin p
   pub operands_are : (read_operands (pseudo_wants p) (tokens c.token_list) (start_of c)).answer ≡ Got x
 
--- A line's call and a build: each has its job. `own` are the places of the line's own patches in the pending list.
+-- A line's call and a build, each with its own job. `own` holds the places of the line's own patches in the pending list.
 pub record LineInBuild : Type 0 where
   pub job : Job
   pub call : Call
@@ -46,7 +46,7 @@ pub record LineInBuild : Type 0 where
   pub own : List ℕ
 
 module _ (site : LineInBuild) where
-  -- the region that the call selected, as the build has it, and its data
+  -- the region that the call selected, as the build got it, and its data
   abbrev pub line_region : Region
   line_region = region_at site.regions (region_place site.regions site.call.numbers.place.region)
 

@@ -22,7 +22,7 @@ call name tokens = record {
   };
 }
 
--- what the call leaves goes into the build; `own` are the places of its patches there
+-- what the call leaves goes into the build; `own` holds the places of its patches there
 abbrev built_of : Job → Call → EmitOutcome → (own : List ℕ) → LineInBuild
 built_of job c left own = record {
   job = job;

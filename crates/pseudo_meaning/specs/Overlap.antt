@@ -3,7 +3,7 @@ use Rattle.std.specs.Prelude.{ℕ, ◌^◌, ◌<◌, ◌≡◌, length}
 use Rattle.reading.specs.Reading.{ImageRegion, Image, region_in}
 use Rattle.dry_run_outcome.specs.Fetch.{offset_in}
 
--- The address a is one of the region's. Addresses wrap at 2^32, as pcs do: a region may go on from 0xFFFFFFFF at 0.
+-- The region has a byte at address a. Addresses wrap at 2^32, as pcs do: a region may run on from 0xFFFFFFFF to 0.
 abbrev pub HasByte : ImageRegion → (a : ℕ) → Type 0
 HasByte region a = offset_in region.address a < length region.bytes
 

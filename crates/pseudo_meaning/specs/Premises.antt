@@ -1,4 +1,4 @@
--- What P11 asks beforehand (document 02). That "the region ends below 2^32" is not asked: the claims hold without it, as pcs wrap.
+-- The premises of P11 (document 02), but not that "the region ends below 2^32": the claims hold without it, since pcs wrap.
 -- Assumes nothing.
 use Rattle.std.specs.Prelude.{ℕ, ◌+◌, ◌/◌, ◌%◌, ◌≤◌, ◌≡◌, List, length, Ok, Some}
 use Rattle.jobs.specs.declared.Job.TheVariants.{Commit}
@@ -25,17 +25,17 @@ module _ (site : LineInBuild) where
   -- the line in an accepted build
   pub record Placed : Type 0 where
     pub built : build_verdict site.build site.labels site.entry site.regions site.pending ≡ Ok tt
-    -- the elements of the region list are bytes, as those of a lent slice are
+    -- the region list's elements are bytes, as in every lent slice
     pub of_bytes : Bytes site.regions
-    -- its words and patches are there, and "no other patch touches the line"
+    -- the line's words and patches are there, and "no other patch touches the line"
     pub stands : Stands site
     -- "the line starts on a multiple of four"
     pub aligned : line_pc site % 4 ≡ 0
     -- "the region .. overlaps no other"
     pub alone : Alone (image_of finished_regions) site.call.numbers.place.region
 
-  -- "The destination is a multiple of four and within 16 signed bits". A build by the manual refuses longer distances, so there the second
-  -- half needs no premise.
+  -- "The destination is a multiple of four and within 16 signed bits". A build by the manual refuses longer distances, so the second half is
+  -- a premise only in a build by the commit.
   pub record Reached (label : AddressLabel) (dest : ℕ) : Type 0 where
     pub known : target_address site.labels (target_of label (name_bytes site.call.token_list label)) ≡ Some dest
     pub multiple : dest % 4 ≡ 0

@@ -11,7 +11,7 @@ use Rattle.pseudo_meaning.specs.Lines.{LineInBuild}
 abbrev pub filled_region : (regions : List ℕ) → (r : ℕ) → List ℕ
 filled_region regions r = part regions (region_at regions (region_place regions r)).start (region_at regions (region_place regions r)).size
 
--- the line l, emitted on the buffers `found`, in a build of the pendings that the routine left
+-- the line l, emitted into the buffers `found`, in a build with the pendings that the routine left
 abbrev pub in_build : RoutineLine → (found left : Buffers) → (build : Job) (labels : Table) (entry regions own : List ℕ) → LineInBuild
 in_build l found left build labels entry regions own = record {
   job = l.job;

@@ -10,7 +10,7 @@ pub record PseudoName : Type 0 where
   pub name : List ℕ
   pub pseudo : Pseudo
 
--- a text's bytes: its characters are ASCII ones
+-- the bytes of a text; its characters are ASCII
 abbrev pub bytes_of : String → List ℕ
 bytes_of empty = []
 bytes_of (c then s) = code c ∷ bytes_of s
@@ -18,7 +18,7 @@ bytes_of (c then s) = code c ∷ bytes_of s
 abbrev pub called : String → Pseudo → PseudoName
 called name pseudo = record { name = bytes_of name; pseudo = pseudo }
 
--- the names in dispatch_pseudo's order; a comparison has: greater than, result true, unsigned
+-- the names in dispatch_pseudo's order; the flags of a comparison are: greater than, result true, unsigned
 abbrev pub pseudo_names : List PseudoName
 pseudo_names =
     called "nop" Nop
@@ -52,7 +52,7 @@ pseudo_names =
     ∷ called "subiu" Subiu
     ∷ []
 
--- the first of that name
+-- the first with that name
 unfoldable pub pseudo_in : List ℕ → List PseudoName → Option Pseudo
 unfolding same_bytes
 pseudo_in name [] = None

@@ -4,7 +4,7 @@
 ghost use Rattle.std.specs.Prelude.{◌≡◌, drop};
 ghost use Rattle.pseudo_names.specs.PseudoNames.{pseudo_names, pseudo_in, pseudo_of};
 
-// A pseudo-instruction, with how it compares.
+// A pseudo-instruction. A custom branch or set says how it compares.
 #[derive(Clone, Copy)]
 pub enum Pseudo {
     Nop,
@@ -34,10 +34,10 @@ pub enum Pseudo {
     Subiu,
 }
 
-// The names in order, in comparisons of ten each. Kept: a match on the bytes of the name was tried, and its proof did not close, since
-// where no arm fits nothing can be cited of the bytes.
+// The names in order, at most ten in each function. Kept: a match on the name's bytes was tried, and its proof did not close, since
+// nothing is known about the bytes where no arm fits.
 
-// The pseudo-instruction of a name among the names behind the first twenty.
+// Returns the pseudo-instruction with that name, among the names after the first twenty.
 #[tactic(auto, unfolding(crate::specs::PseudoNames::pseudo_in))]
 fn last_pseudo_of(name: &[u8]) -> Option<Pseudo>
     ensures { result ≡ pseudo_in name.now (drop 20 pseudo_names) }
@@ -72,7 +72,7 @@ fn last_pseudo_of(name: &[u8]) -> Option<Pseudo>
     None
 }
 
-// The pseudo-instruction of a name among the names behind the first ten.
+// Returns the pseudo-instruction with that name, among the names after the first ten.
 #[tactic(auto, unfolding(crate::specs::PseudoNames::pseudo_in))]
 fn later_pseudo_of(name: &[u8]) -> Option<Pseudo>
     ensures { result ≡ pseudo_in name.now (drop 10 pseudo_names) }
@@ -134,7 +134,7 @@ fn later_pseudo_of(name: &[u8]) -> Option<Pseudo>
     last_pseudo_of(name)
 }
 
-// The pseudo-instruction of a name.
+// Returns the pseudo-instruction with that name.
 #[tactic(auto, unfolding(crate::specs::PseudoNames::pseudo_in))]
 pub fn pseudo_of(name: &[u8]) -> Option<Pseudo>
     ensures { result ≡ pseudo_of name.now }

@@ -1,4 +1,4 @@
-// Reads the text of standard input and prints its tokens or the refusal (document 02, P7).
+// Reads the text on standard input and prints its tokens or the refusal (document 02, P7).
 #![tactic(auto)]
 
 use token_text::ReadTextText;

@@ -1,4 +1,4 @@
-// What `read_text` prints for each case of standard input (vectors/make_text). A case is an input after its 4-byte count.
+// Prints what `read_text` prints for each case on standard input (vectors/make_text). A case is an input after its 4-byte count.
 #![tactic(auto)]
 
 use token_text::ReadTextText;

@@ -12,7 +12,7 @@ use Rattle.finished_words.specs.Listed.{destination_at}
 use Rattle.reading.specs.Reading.{image_of, reading}
 use Rattle.reading.specs.Premises.{Near}
 
--- a branch's or a jump's patch: the other kinds are halves of an address and whole words
+-- the patch is a branch's or a jump's; the other kinds are halves of an address, or whole words
 abbrev pub Going : InstructionLabelKind → Type 0
 Going Branch = Unit {0}
 Going Jump = Unit {0}
@@ -26,7 +26,7 @@ pub record OnTarget (job : Job) (labels : Table) (regions pending : List ℕ) (p
   pub on_word_lem : destination_at labels pending p % 4 ≡ 0
   pub near : job ≡ Commit → (pending_at pending p).kind ≡ Branch → Near labels regions pending p
 
--- "document 01's MIPS32 reading of each patch in the finished words, by its kind, equals its destination": of the patch of the record at p
+-- "document 01's MIPS32 reading of each patch in the finished words, by its kind, equals its destination": for the patch of the record at p
 abbrev pub ReadsBack : Job → (labels : Table) (entry regions pending : List ℕ) → ℕ → Type 0
 ReadsBack job labels entry regions pending p =
     Some (reading (image_of (build_outcome job labels entry regions pending).regions) (pending_at pending p)) ≡ destination labels pending (pending_at pending p).label

@@ -1,4 +1,4 @@
--- What the tender asks beforehand: the premises of reading back. Assumes nothing.
+-- The tender's premises for reading back. Assumes nothing.
 use Rattle.std.specs.Prelude.{ℕ, ◌+◌, ◌-◌, ◌/◌, ◌%◌, ◌≤◌, ◌≡◌, List, Ok}
 use Rattle.jobs.specs.declared.Job.{Job}
 use Rattle.jobs.specs.declared.Job.TheVariants.{Commit}
@@ -22,8 +22,8 @@ pub record SharedTarget (pending : List ℕ) (p q : ℕ) : Type 0 where
   pub same : SameTarget pending p q
   pub source : le32 pending (p + 28) ≡ le32 pending (q + 28)
 
--- "A pair is an Upper and, four bytes later in the same region, a Lower with equal form, value and name", wherever the two stand in the list;
--- what the two have to share is given
+-- "A pair is an Upper and, four bytes later in the same region, a Lower with equal form, value and name", anywhere in the list;
+-- `Shared` says what the two must share
 pub record Pair (Shared : (pending : List ℕ) (p q : ℕ) → Type 0) (pending : List ℕ) (upper lower : ℕ) : Type 0 where
   pub upper_in : In pending upper
   pub lower_in : In pending lower
@@ -33,13 +33,13 @@ pub record Pair (Shared : (pending : List ℕ) (p q : ℕ) → Type 0) (pending 
   pub later : (pending_at pending lower).offset ≡ (pending_at pending upper).offset + 4
   pub target : Shared pending upper lower
 
--- "branch distances within -32,768 to 32,767 words": that of the patch of the record at p
+-- "branch distances within -32,768 to 32,767 words": for the patch of the record at p
 abbrev pub Near : (labels : Table) (regions pending : List ℕ) → ℕ → Type 0
 Near labels regions pending p =
     (after (pc_at regions pending p) / 4 ≤ destination_at labels pending p / 4 + 32768)
     × (destination_at labels pending p / 4 ≤ after (pc_at regions pending p) / 4 + 32767)
 
--- The tender's premises, for a label table, a region list, an entry record and a pending list in whatever order.
+-- The tender's premises, for a label table, a region list, an entry record and a pending list in any order.
 pub record PremisesBy (Shared : (pending : List ℕ) (p q : ℕ) → Type 0) (job : Job) (labels : Table) (entry regions pending : List ℕ) : Type 0 where
   -- "An accepted build is one to which no refusal is due"
   pub accepted : build_verdict job labels entry regions pending ≡ Ok tt
@@ -61,7 +61,7 @@ pub record PremisesBy (Shared : (pending : List ℕ) (p q : ℕ) → Type 0) (jo
 abbrev pub Premises : (job : Job) (labels : Table) (entry regions pending : List ℕ) → Type 0
 Premises = PremisesBy SharedTarget
 
--- those of a label list without owners: document 01's pair, whatever the sources of its names (document 02, P6: "With kind 34 alone, answers
+-- the premises for a label list without owners: document 01's pair, whose names may have any source (document 02, P6: "With kind 34 alone, answers
 -- equal the commit's")
 abbrev pub StraightPremises : (job : Job) (labels : Table) (entry regions pending : List ℕ) → Type 0
 StraightPremises = PremisesBy SameTarget

@@ -46,8 +46,8 @@ unfoldable pub signed_bytes : ℕ → ℕ
 signed_bytes n = elim (ltb n 32768) [ true ↦ 4 * n | false ↦ 4 * n + (2 ^ 32 - 4 * 65536) ]
 
 -- "Branch: pc+4 plus four times the word's low 16 bits signed, wrapping. Jump: top four bits of pc+4, then the low 26 bits times four.
--- Full: the word. A half is a word's low 16 bits, read with its pair": the Upper's half times 65,536 plus the Lower's, which stands four
--- bytes later.
+-- Full: the word. A half is a word's low 16 bits, read with its pair": the Upper's half times 65,536 plus the Lower's, which is four bytes
+-- later.
 unfoldable pub read_by : InstructionLabelKind → Image → Pending → ℕ
 unfolding signed_bytes
 read_by Branch image p = wrap32 (after (pc_in image p) + signed_bytes (half (word_in image p.region p.offset)))
@@ -59,7 +59,7 @@ read_by Full image p = word_in image p.region p.offset
 abbrev pub reading : Image → Pending → ℕ
 reading image p = read_by p.kind image p
 
--- one reading for each pending of a list, in list order, and one destination
+-- one reading for each pending of a list, in list order; then one destination for each
 unfoldable pub readings : Image → List ℕ → List (Option ℕ)
 unfolding places read_by
 readings image pending = map (λ (at : ℕ). Some (reading image (pending_at pending at))) (places pending)

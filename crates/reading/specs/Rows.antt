@@ -11,7 +11,7 @@ pub record Row : Type 0 where
 abbrev pub row : (address i : ℕ) (bytes : List ℕ) → Row
 row address i bytes = record { pc = wrap32 (address + i); bytes = bytes }
 
--- data from offset i on: one for each four bytes, and one for a last part word
+-- the rows of data that begins at offset i: one for each four bytes, and one for what is left
 unfoldable pub rows : (address i : ℕ) → List ℕ → List Row
 rows address i [] = []
 rows address i (a ∷ []) = row address i (a ∷ []) ∷ []

@@ -1,2 +1,2 @@
-// Reading the patches of a finished image back: demand 3's first half, as definitions and theorems; the words of an image in order. This crate has no code.
+// Reads a finished image's patches back (demand 3's first half) and lists its words in order: definitions and theorems. This crate has no code.
 #![tactic(auto)]

@@ -1,4 +1,4 @@
--- The places that an iterator over a list's records has left. Assumes nothing.
+-- The places that an iterator over a list's records has yet to yield. Assumes nothing.
 use Rattle.std.specs.Prelude.{ℕ, List}
 use Rattle.record.specs.Records.{places_from}
 use Rattle.record.specs.declared.Iter.{Iter}

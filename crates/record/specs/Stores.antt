@@ -15,7 +15,7 @@ le64_bytes n = le32_bytes (n % 2 ^ 32) ++ le32_bytes (n / 2 ^ 32)
 abbrev pub location_bytes : Location → List ℕ
 location_bytes l = le32_bytes l.source ++ le32_bytes l.index
 
--- a location whose two numbers fit their bytes
+-- a location whose two numbers fit four bytes each
 pub record LocationFits (l : Location) : Type 0 where
   pub source_fits : l.source < 2 ^ 32
   pub index_fits : l.index < 2 ^ 32
@@ -24,10 +24,10 @@ pub record LocationFits (l : Location) : Type 0 where
 abbrev pub record_bytes : ℕ → List ℕ → List ℕ
 record_bytes kind body = le16_bytes (length body) ++ le16_bytes kind ++ body
 
--- a buffer with bytes written from its fill count on
+-- a buffer after bytes are written from its fill count on
 unfoldable pub append : List ℕ → ℕ → List ℕ → List ℕ
 append buffer fill bytes = take fill buffer ++ bytes ++ drop (fill + length bytes) buffer
 
--- its filled part then
+-- the filled part of that buffer
 abbrev pub filled_with : (buffer : List ℕ) (fill : ℕ) (bytes : List ℕ) → List ℕ
 filled_with buffer fill bytes = take (fill + length bytes) (append buffer fill bytes)

@@ -1,2 +1,2 @@
-// Records that grow within their list, and bytes written into one: laws on lists of bytes. This crate has no code.
+// Laws about lists of bytes: what happens when a record in the list grows, and when bytes are written into the list. This crate has no code.
 #![tactic(auto)]

@@ -35,7 +35,7 @@ numbered (ShiftOutOfRange l) = refusal 19 l 0 0
 numbered (CodeOutOfRange l) = refusal 20 l 0 0
 -- document 02, P9: "27, an Inputs line with a third operand or a Func 18 line in a Release 6 job"
 numbered (DroppedInstruction l) = refusal 27 l 0 0
--- document 02, P7: "at its location", that of the faulty token
+-- document 02, P7: "at its location", where the faulty token is
 numbered (BadByte l) = refusal 21 l 0 0
 numbered (BadToken l) = refusal 22 l 0 0
 numbered (NoTokenSpace l) = refusal 23 l 0 0

@@ -1,4 +1,4 @@
-// The refusals and what documents 01 and 02 return for each: a number, a location and two numbers.
+// The refusals, and what each returns by documents 01 and 02: a number, a location and two numbers.
 #![tactic(auto)]
 
 ghost use Rattle.std.specs.Prelude.{◌≡◌, ◌<◌, ◌^◌};
@@ -9,7 +9,7 @@ ghost use Rattle.refusal.specs.Verdicts.{layout_verdict, name_verdict};
 
 use record::Location;
 
-// Why a call stops, in the order of the checks. The names are the Rust's where it has one.
+// Why a call stops. The names are the Rust's where it has one.
 #[derive(Clone, Copy)]
 pub enum Refusal {
     // a buffer, by its argument's number, and the place in it
@@ -17,7 +17,7 @@ pub enum Refusal {
     DuplicateName(u32, u32),
     UnknownInstruction(Location),
     EndOfFile(Location),
-    // the met token's kind
+    // the kind of the token found instead
     ExpectedRegister(Location, u8),
     ExpectedConstant(Location, u8),
     ExpectedLabel(Location, u8),
@@ -33,28 +33,28 @@ pub enum Refusal {
     UnknownLabel(Location),
     // the destination and the patch's pc
     JumpOutOfRange(Location, u32, u32),
-    // of a line that is made by the manual
+    // of a line in a manual or a Release 6 job
     ShiftOutOfRange(Location),
     CodeOutOfRange(Location),
     // of a line for a Release 6 board
     DroppedInstruction(Location),
-    // a text's token that cannot be read, or is none that a record may hold, or has no room
+    // a token of a text that cannot be read, that no record can hold, or that has no room
     BadByte(Location),
     BadToken(Location),
     NoTokenSpace(Location),
-    // a macro's call that has a wrong count of arguments, or is a ninth level, or a written-out token that has no room
+    // a macro call with a wrong count of arguments, or nine deep; or a written-out token that has no room
     WrongArguments(Location),
     NinthLevel(Location),
     NoWrittenSpace(Location),
     // the index of a pending list is longer than its buffer
     NoIndexSpace(Location),
-    // a line for a region that patching has passed, or behind its end
+    // a line for a region that patching has passed, or after patching ended or was refused
     LateLine(Location),
     // a page for the wall is longer than its buffer
     NoPageSpace,
-    // a dry run's pc is no multiple of four, or has no whole word
+    // a dry run's starting pc is no multiple of four, or has no whole word
     BadStart,
-    // a range of constants to count
+    // a range of constants to count starts past its end
     StartPastEnd,
 }
 
@@ -114,7 +114,7 @@ pub fn numbers(refusal: Refusal) -> Numbered
     }
 }
 
-// Refusal 1, where a list of that buffer has a bad place.
+// Returns refusal 1 if the buffer's list has a bad place.
 pub fn check_layout(buffer: u32, bad: Option<usize>) -> Result<(), Refusal>
     requires { ForSome bad (λ place. place < 2 ^ 32) }
     ensures { result ≡ layout_verdict buffer bad }
@@ -125,7 +125,7 @@ pub fn check_layout(buffer: u32, bad: Option<usize>) -> Result<(), Refusal>
     }
 }
 
-// Refusal 2, where a name of that buffer stands again at a later place.
+// Returns refusal 2 if a name of the buffer's list is repeated at a later place.
 pub fn check_names(buffer: u32, later: Option<usize>) -> Result<(), Refusal>
     requires { ForSome later (λ place. place < 2 ^ 32) }
     ensures { result ≡ name_verdict buffer later }
@@ -136,7 +136,7 @@ pub fn check_names(buffer: u32, later: Option<usize>) -> Result<(), Refusal>
     }
 }
 
-// The number is `size`, or where it is negative -1 - `size`.
+// A signed number in two parts: it is `size`, or -1 - `size` if negative.
 #[derive(Clone, Copy)]
 pub struct Parts {
     pub negative: bool,

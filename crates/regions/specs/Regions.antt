@@ -8,7 +8,7 @@ use Rattle.regions.specs.declared.Region.{Region}
 unfoldable pub region_ok : List ℕ → ℕ → Bool
 region_ok s at = whole s at && (eqb (kind_at s at) 35 && leb 4 (body_len s at))
 
--- "1 to 16 regions": without one the list's end is the place, and a seventeenth breaks the layout.
+-- "1 to 16 regions": an empty list is bad at its end, and a seventeenth region breaks the layout.
 unfoldable pub region_records : List ℕ → List ℕ → Option ℕ
 unfolding region_ok first_bad_of
 region_records s [] = Some (length s)

@@ -54,7 +54,7 @@ impl<'a> Regions<'a> {
         self.bytes
     }
 
-    // The places of its records, in order.
+    // Returns the places of its records, in order.
     pub fn places(&self) -> record::Iter<'a>
         ensures value { places_left result ≡ places self.now }
         ensures layout { region_layout self.now ≡ None }
@@ -68,7 +68,7 @@ impl<'a> Regions<'a> {
         record::places(self.bytes).count()
     }
 
-    // The region of that number.
+    // Returns the region with that number, counted from 0.
     pub fn region(&self, number: usize) -> Region
         requires { number < region_count self.now }
         ensures { result ≡ region_at self.now (region_place self.now number) }
@@ -100,7 +100,7 @@ impl record::Layout for RegionLayout {
     }
 }
 
-// The place of the first record that breaks the layout, the list's end where there is none, or the limit.
+// Returns the place of the first record that breaks the layout, the end of an empty list, or the limit if the list is longer.
 #[tactic(auto, using(crate::proofs::RegionsLaws::layout_none, crate::proofs::RegionsLaws::layout_first))]
 pub fn first_bad_region(regions: &[u8]) -> Option<usize>
     ensures { result ≡ region_layout regions.now }

@@ -2,7 +2,7 @@
 use Rattle.std.specs.Prelude.{ℕ, zero, suc, ◌+◌, List, [], ◌∷◌}
 use Rattle.input.specs.Input.{word_or_zero}
 
--- so many numbers, one behind the other
+-- reads `count` numbers in a row, from `at` on
 unfoldable pub words_in : (count : ℕ) → List ℕ → (at : ℕ) → List ℕ
 words_in zero s at = []
 words_in (suc n) s at = word_or_zero s at ∷ words_in n s (at + 4)

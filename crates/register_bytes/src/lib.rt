@@ -1,10 +1,10 @@
-// The 32 registers of a machine in bytes, four each.
+// The 32 registers of a machine as bytes, four each.
 #![tactic(auto)]
 
 ghost use Rattle.std.specs.Prelude.{◌≡◌};
 ghost use Rattle.register_bytes.specs.RegisterBytes.{registers_in};
 
-// The registers that stand first; one of which bytes are missing is 0.
+// Reads 32 registers from the start of `bytes`; a register with missing bytes is 0.
 pub fn registers_in(bytes: &[u8]) -> [u32; 32]
     ensures { result ≡ registers_in bytes.now }
 {

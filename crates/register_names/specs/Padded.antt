@@ -1,4 +1,4 @@
--- The names as the table has them: four bytes each, with blanks behind a shorter name. Assumes nothing.
+-- The names as the table has them: four bytes each, a shorter name padded with blanks. Assumes nothing.
 use Rattle.std.specs.Prelude.{ℕ, ◌+◌, ◌*◌, List, [], ◌∷◌, ◌++◌, get_or}
 use Rattle.register_names.specs.RegisterNames.{names}
 

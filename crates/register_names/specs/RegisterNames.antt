@@ -8,12 +8,12 @@ use Rattle.registers.specs.Slots.{register_of, fp_register_of}
 use Rattle.register_names.specs.declared.NamedRegister.{NamedRegister}
 use Rattle.register_names.specs.declared.NamedRegister.TheVariants.{General, Float}
 
--- a text's bytes: its characters are ASCII ones
+-- a string's bytes: its characters are ASCII
 abbrev pub bytes_of : String → List ℕ
 bytes_of empty = []
 bytes_of (c then s) = code c ∷ bytes_of s
 
--- those of registers.rs, in the order of the registers' numbers
+-- the names in registers.rs, in the order of the registers' numbers
 unfoldable pub general_names : List (List ℕ)
 general_names =
     map bytes_of
@@ -42,7 +42,7 @@ unfolding same_bytes
 place_of name [] = 0
 place_of name (n ∷ ns) = elim (same_bytes name n) [ true ↦ 0 | false ↦ suc (place_of name ns) ]
 
--- the register of the name's place in the list, if it has one there
+-- the register by the name's place in the list; `other` if the list does not have the name
 abbrev pub among : List (List ℕ) → (ℕ → Option NamedRegister) → List ℕ → Option NamedRegister → Option NamedRegister
 among ns register name other = elim (ltb (place_of name ns) (length ns)) [ true ↦ register (place_of name ns) | false ↦ other ]
 
@@ -56,7 +56,7 @@ unfoldable pub register_named : List ℕ → Option NamedRegister
 unfolding place_of general_names number_names float_names
 register_named name = among general_names general name (among number_names general name (among float_names float name None))
 
--- all names, as the code's table has them
+-- all names, in the order of the code's table
 unfoldable pub names : List (List ℕ)
 unfolding general_names number_names float_names
 names = general_names ++ (number_names ++ float_names)

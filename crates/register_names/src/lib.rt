@@ -1,4 +1,4 @@
-// The register of a name, as a text has it behind its `$` (registers.rs, `from_string`).
+// Finds a register by the name that a text has after `$` (registers.rs, `from_string`).
 #![tactic(auto)]
 
 ghost use Rattle.std.specs.Prelude.{◌≡◌, true, [], ◌+◌, ◌*◌, ◌<◌, ◌≤◌, length, get_or};
@@ -18,10 +18,10 @@ pub enum NamedRegister {
 
 const COUNT: usize = 96;
 
-// The longest name, and the bytes that each name takes in the table.
+// How many bytes the longest name has, and each name takes in the table.
 const WIDTH: usize = 4;
 
-// The names in the order of the registers' numbers, then the numbers as names, then those of the float registers.
+// The names in the order of the registers' numbers, then the numbers as names, then the names of the float registers.
 const NAMES: [u8; 384] = *b"\
     zeroat  v0  v1  a0  a1  a2  a3  \
     t0  t1  t2  t3  t4  t5  t6  t7  \
@@ -36,7 +36,7 @@ const NAMES: [u8; 384] = *b"\
     f16 f17 f18 f19 f20 f21 f22 f23 \
     f24 f25 f26 f27 f28 f29 f30 f31 ";
 
-// The table as a value: a constant is made anew wherever it stands, so whoever reads a text makes one and lends it.
+// The table as a value. A constant array is made anew at each use, so a reader of a text makes one value and lends it.
 #[derive(Clone, Copy)]
 pub struct RegisterNames {
     table: [u8; 384],
@@ -48,7 +48,7 @@ impl RegisterNames {
         RegisterNames { table: NAMES }
     }
 
-    // The four bytes of the name at that place of the table.
+    // Returns the four bytes at a place of the table, as one number.
     fn key_at(&self, place: usize) -> u32
         requires { place < 96 }
         ensures { result ≡ key_of (get_or names place []) }
@@ -58,7 +58,7 @@ impl RegisterNames {
         u32::from_le_bytes([table[at], table[at + 1], table[at + 2], table[at + 3]])
     }
 
-    // The name's place in the table, or the number of names.
+    // Returns the name's place in the table, or the number of names if it is not there.
     fn place_of(&self, name: &[u8]) -> usize
         requires { all word_byte name.now ≡ true }
         ensures { result ≡ place_of name.now names }
@@ -72,7 +72,7 @@ impl RegisterNames {
             .unwrap_or(COUNT)
     }
 
-    // The register of a name of letters and digits.
+    // Returns the register with this name, which is letters and digits.
     pub fn register_named(&self, name: &[u8]) -> Option<NamedRegister>
         requires { all word_byte name.now ≡ true }
         ensures { result ≡ register_named name.now }
@@ -93,7 +93,7 @@ fn byte_or_blank(name: &[u8], i: usize) -> u8
     name.get(i).copied().unwrap_or(b' ')
 }
 
-// The four bytes of a name as the table has it.
+// Returns the four bytes that a name has in the table, as one number.
 fn key_of(name: &[u8]) -> u32
     ensures { result ≡ key_of name.now }
 {

@@ -77,11 +77,11 @@ pub enum FPRegisterSlot {
     F31,
 }
 
-// A register of a file of 32, general or float.
+// A general or a float register: one of 32.
 pub trait Slot: Copy {
     ghost number: { Self → ℕ };
 
-    // The number of the register, as a field of five bits holds it.
+    // Returns the register's number, which fits a five-bit field.
     fn number(self) -> u32
         ensures value { result ≡ number self }
         ensures below { result < 32 };
@@ -138,7 +138,7 @@ const SLOTS: [RegisterSlot; 32] = [
     RegisterSlot::ReturnAddress,
 ];
 
-// The general register of a number; a number over 31 gives the last.
+// Converts a number to its general register; a number over 31 gives the last.
 impl From<u8> for RegisterSlot {
     ghost from_gives = { λ n slot. slot ≡ register_of n };
 
@@ -182,7 +182,7 @@ const FP_SLOTS: [FPRegisterSlot; 32] = [
     FPRegisterSlot::F31,
 ];
 
-// The float register of a number; a number over 31 gives the last.
+// Converts a number to its float register; a number over 31 gives the last.
 impl From<u8> for FPRegisterSlot {
     ghost from_gives = { λ n slot. slot ≡ fp_register_of n };
 

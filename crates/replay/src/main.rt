@@ -1,5 +1,5 @@
 // Replays a list of calls of both entries with the Rust's answers, and prints how many calls there are, how many differ, and the last that does.
-// `compare/run list` makes the list; compare/src/list.rs says how. Where the Rust has no answer, for refusals 1, 2 and 12, the list has that of
+// `compare/run list` makes the list; compare/src/list.rs says how. For refusals 1, 2 and 12 the Rust has no answer, and the list has one from
 // a model written from document 01.
 #![tactic(auto)]
 

@@ -1,5 +1,5 @@
--- What `replay` prints: how many stored calls there are, how many differ, and the last that does, counted from 1 (0 where none does). A call
--- differs where its answer, fill counts or lent bytes are not those that stand behind its inputs. Assumes nothing.
+-- What `replay` prints: how many stored calls there are, how many differ, and the last that does, counted from 1 (0 if none does). A call differs if
+-- its answer, fill counts or lent bytes are not the ones stored after its inputs. Assumes nothing.
 use Rattle.std.specs.Prelude.{ℕ, zero, suc, ◌+◌, List, ◌++◌, Bool, true, false, ◌&&◌, ltb, replicate}
 use Rattle.record.specs.Bytes.{same_bytes}
 use Rattle.pseudo_names.specs.PseudoNames.{bytes_of}
@@ -17,7 +17,7 @@ answer_space = replicate 24 0
 abbrev pub is_list : List ℕ → (number : ℕ) → (bytes : List ℕ) → Bool
 is_list s number bytes = same_bytes bytes (list_of number s)
 
--- a build: labels, entry, regions, pending; then the answer and the regions that are expected
+-- a build: labels, entry, regions, pending; then the expected answer and regions
 abbrev pub built_met : List ℕ → (regions : List ℕ) → Bool
 built_met s regions =
     let l = linked_build (list_of 0 s) (list_of 1 s) regions (list_of 3 s) answer_space in
@@ -26,8 +26,7 @@ built_met s regions =
 abbrev pub build_met : List ℕ → Bool
 build_met s = built_met s (held (list_of 2 s))
 
--- a line: the six buffers, the fill counts, and position, region and address; then the answer, the counts and the last three buffers that are
--- expected
+-- a line: the six buffers, the fill counts, and position, region and address; then the expected answer, counts and last three buffers
 abbrev pub place_in : List ℕ → LinePlace
 place_in s = record { position = word_or_zero s 0; region = half_or_zero s 4; address = word_or_zero s 6 }
 
@@ -44,7 +43,7 @@ abbrev pub call_met : (build : Bool) → List ℕ → Bool
 call_met true s = build_met s
 call_met false s = line_met s
 
--- ---- the first calls of a list, of which so many are builds; they stand behind the first list
+-- ---- the calls, which come after the first list; the first `builds` of them are builds
 abbrev pub counted : (met : Bool) (number : ℕ) → Tally → Tally
 counted true number t = t
 counted false number t = record { differ = t.differ + 1; last = number }
@@ -56,7 +55,7 @@ tally_of builds (suc n) s = counted (call_met (ltb n builds) (list_of (suc n) s)
 abbrev pub tally_text : (calls : ℕ) → Tally → List ℕ
 tally_text calls t = (bytes_of "calls" ++ last_field calls) ++ (bytes_of "differ" ++ last_field t.differ) ++ (bytes_of "last" ++ last_field t.last)
 
--- the first list has the number of builds and that of all calls
+-- the first list has the number of builds, and the number of all calls
 unfoldable pub replay_text : List ℕ → List ℕ
 replay_text s =
     let head = list_of 0 s in

@@ -1,5 +1,5 @@
-// What `replay` does, from the bytes that it reads to those that it prints: stored calls of both linked entries are made again, and what they
-// give back is compared with what stands there. specs/Replay.antt says how the list of calls is made.
+// What `replay` does: it makes stored calls of both linked entries again, compares what they give back with what is stored, and prints how many
+// differ. specs/Replay.antt says how the list of calls is laid out.
 #![tactic(auto)]
 
 ghost use Rattle.std.specs.Prelude.{◌≡◌, ◌++◌, ◌+◌, ◌^◌, ◌<◌, ◌≤◌, length, ltb};
@@ -14,7 +14,7 @@ use text::Text;
 // Room for the list of calls.
 pub const MOST: usize = 0x40_0000;
 
-// Room for three lines. The list is long, so a text of the most bytes of any program would not stand beside it on the stack.
+// Room for three lines. The list is long, so a text with room for any program's output would not fit beside it on the stack.
 pub const MOST_TEXT: usize = 128;
 
 // How many calls differ, and the last that does, counted from 1.
@@ -24,14 +24,14 @@ pub struct Tally {
     pub last: u64,
 }
 
-// Whether the call's list of that number has these bytes.
+// Whether the call's list with this number has these bytes.
 fn is_list(call: &[u8], number: usize, bytes: &[u8]) -> bool
     ensures { result ≡ same_bytes bytes.now (list_of number call.now) }
 {
     record::same(bytes, input::list_of(call, number))
 }
 
-// Makes a build whose regions are these.
+// Makes a stored build on this copy of its regions. Returns whether the answer and the copy come out as stored.
 fn is_built(call: &[u8], regions: &mut [u8]) -> bool
     ensures { result ≡ built_met call.now regions.old }
 {
@@ -55,7 +55,7 @@ fn is_build_met(call: &[u8]) -> bool
     is_built(call, &mut regions[..count])
 }
 
-// Makes a line's call whose lent buffers and counts are these.
+// Makes a stored line's call on these copies of its buffers and counts. Returns whether the answer and the copies come out as stored.
 fn is_emitted(
     call: &[u8],
     data: &mut [u8],
@@ -109,7 +109,7 @@ fn is_line_met(call: &[u8]) -> bool
     )
 }
 
-// Whether the call of that number is met, counted from 0. The first calls are builds, and the others lines.
+// Whether the call with this number, counted from 0, comes out as stored. The first calls are builds, the others lines.
 fn is_met(input: &[u8], builds: usize, number: usize) -> bool
     requires { number < 2 ^ 32 }
     ensures { result ≡ call_met (ltb number builds) (list_of (number + 1) input.now) }
@@ -148,7 +148,7 @@ fn put_tally(out: &mut Text<MOST_TEXT>, calls: u64, tally: Tally)
     out.push_number_line(b"last", tally.last);
 }
 
-// The text that `replay` prints for an input.
+// Writes the text that `replay` prints for an input.
 #[tactic(auto, using(text::proofs::TextLaws::last_most, std::proofs::lemmas::Grind::common_steps), unfolding(crate::specs::Replay::replay_text))]
 pub fn replay(input: &[u8], out: &mut Text<MOST_TEXT>)
     ensures { out.new ≡ replay_text input.now }

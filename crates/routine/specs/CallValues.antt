@@ -15,7 +15,7 @@ use Rattle.emit_outcome.specs.declared.Meaning.TheVariants.{Table, Builtin, Neit
 use Rattle.routine.specs.PatchValues.{Patch, patches_from}
 use Rattle.routine.specs.BreakpointValues.{Breakpoint}
 
--- the words of the descriptor or pseudo-instruction that the mnemonic is, each with the label it waits for
+-- the words of the mnemonic's descriptor or pseudo-instruction, each with the label that it waits for
 abbrev pub meaning_pairs : Job → Call → Meaning → List InstructionPair
 meaning_pairs job c (Table p) = (table_line job c.descriptors p (tokens c.token_list) (start_of c)).pairs
 meaning_pairs job c (Builtin p) = (pseudo_line job p (tokens c.token_list) (start_of c)).pairs
@@ -25,7 +25,7 @@ unfoldable pub call_pairs : Job → Call → List InstructionPair
 unfolding meaning mnemonic_name table_line pseudo_line tokens
 call_pairs job c = meaning_pairs job c (meaning c.descriptors (mnemonic_name c.mnemonic))
 
--- where the first word stands: the region's data ends there before the call
+-- where the first word goes: at the end of the region's data before the call
 abbrev pub call_origin : Call → Origin
 call_origin c = record { region = c.numbers.place.region; offset = c.numbers.counts.data_len; location = mnemonic_location c.mnemonic }
 

@@ -1,6 +1,6 @@
--- Emit calls one after the other, each where its region's data ended before it: any lines, of any jobs, in any regions in any order, however
--- the other buffers are lent (document 01, 'Pending 36, breakpoint 37': "as lines may go back to an earlier region", "The data's fill count
--- is the data length"). Assumes nothing.
+-- Emit calls one after the other, each starting where the data of its region ended: any lines, jobs and regions in any order, with any other buffers
+-- (document 01, 'Pending 36, breakpoint 37': "as lines may go back to an earlier region", "The data's fill count is the data length").
+-- Assumes nothing.
 use Rattle.std.specs.Prelude.{ℕ, ◌+◌, ◌*◌, ◌≡◌, List, [], ◌∷◌, ◌++◌, length}
 use Rattle.jobs.specs.declared.Job.{Job}
 use Rattle.emit_outcome.specs.Call.{Call}
@@ -19,7 +19,7 @@ selected_by e = e.call.numbers.place.region
 abbrev pub DataLengths : Type 0
 DataLengths = ℕ → ℕ
 
--- the call begins where its region's data ended, and leaves it longer by its words
+-- the call starts where its region's data ended, and makes that longer by its words
 pub record Appends (before after : DataLengths) (e : JobCall) : Type 0 where
   pub begins : e.call.numbers.counts.data_len ≡ before (selected_by e)
   pub ends : after (selected_by e) ≡ before (selected_by e) + 4 * length (call_pairs e.job e.call)
@@ -29,7 +29,7 @@ pub data Chain : DataLengths → List JobCall → DataLengths → Type 0 where
   none : {before : DataLengths} → Chain before [] before
   next : {before mid last : DataLengths} {e : JobCall} {es : List JobCall} → Appends before mid e → Chain mid es last → Chain before (e ∷ es) last
 
--- the patches of all of them, in order
+-- the patches of all the calls, in order
 unfoldable pub chain_patches : List JobCall → List Patch
 chain_patches [] = []
 chain_patches (e ∷ es) = call_patches e.job e.call ++ chain_patches es

@@ -1,5 +1,4 @@
--- Patches as values, with names as bytes, so that those of two buffers can be compared (document 01, 'Pending 36, breakpoint 37').
--- Assumes nothing.
+-- Patches as values, with names as bytes, so that patches in two buffers can be compared (document 01, 'Pending 36, breakpoint 37'). Assumes nothing.
 use Rattle.std.specs.Prelude.{ℕ, ◌+◌, ◌*◌, List, [], ◌∷◌, ◌++◌, map, None, Option, Some}
 use Rattle.record.specs.Records.{places}
 use Rattle.record.specs.declared.Location.{Location}
@@ -28,7 +27,7 @@ pub record Patch : Type 0 where
   pub kind : InstructionLabelKind
   pub target : Target
 
--- a label with its name's bytes
+-- a label, with the bytes of its name, as a target
 abbrev pub target_of : AddressLabel → (name : List ℕ) → Target
 target_of (Constant value) name = Value value
 target_of (Label label) name = Name name label.location label.offset
@@ -39,7 +38,7 @@ abbrev pub target_address : Table → Target → Option ℕ
 target_address labels (Value value) = Some (wrap32 value)
 target_address labels (Name name location offset) = plus_offset (labels.address location.source name) offset
 
--- ---- those of a pending list
+-- ---- the patches of a pending list
 
 abbrev pub patch_of : Pending → (name : List ℕ) → Patch
 patch_of p name = record { region = p.region; offset = p.offset; location = p.location; kind = p.kind; target = target_of p.label name }
@@ -51,22 +50,22 @@ unfoldable pub patches_in : List ℕ → List Patch
 unfolding places
 patches_in pending = map (patch_at pending) (places pending)
 
--- ---- those of a line, whose first word has this origin, and whose names stand in its token list
+-- ---- the patches of a line: its first word has the given origin, and its names are in its token list
 
 -- the origin of the word with index i
 abbrev pub origin_at : Origin → ℕ → Origin
 origin_at origin i = record { region = origin.region; offset = origin.offset + 4 * i; location = origin.location }
 
--- the patch of a word that waits for this
+-- the patch of a word that waits for this target
 abbrev pub patch_to : (word : Origin) → InstructionLabelKind → Target → Patch
 patch_to word kind target = record { region = word.region; offset = word.offset; location = word.location; kind = kind; target = target }
 
--- one for a word that waits for a label
+-- one patch if the word waits for a label, else none
 abbrev pub pair_patches : (token_list : List ℕ) → (word : Origin) → Option InstructionLabel → List Patch
 pair_patches token_list word None = []
 pair_patches token_list word (Some waits) = patch_to word waits.kind (target_of waits.label (name_bytes token_list waits.label)) ∷ []
 
--- from the word with index i on
+-- the patches of the words from index i on
 unfoldable pub patches_from : (token_list : List ℕ) → Origin → (i : ℕ) → List InstructionPair → List Patch
 patches_from token_list origin i [] = []
 patches_from token_list origin i (p ∷ ps) = pair_patches token_list (origin_at origin i) p.label ++ patches_from token_list origin (i + 1) ps

@@ -22,13 +22,13 @@ pub record Buffer : Type 0 where
 abbrev pub filled : Buffer → List ℕ
 filled b = take b.fill b.bytes
 
--- what is lent to one line after the other. A region's data is lent by its number, "as lines may go back to an earlier region".
+-- the buffers that are lent to each line in turn. A region's data is found by its number, "as lines may go back to an earlier region".
 pub record Buffers : Type 0 where
   pub region_data : ℕ → Buffer
   pub pending : Buffer
   pub breakpoints : Buffer
 
--- what else a line's call is given, and the job that it is emitted for
+-- the rest of what a line's call is given, and its job
 pub record RoutineLine : Type 0 where
   pub job : Job
   pub token_list : List ℕ
@@ -43,7 +43,7 @@ call_on l b =
     call_of l.token_list l.mnemonic l.descriptors (lent_of selected.bytes b.pending.bytes b.breakpoints.bytes)
     (record { data_len = selected.fill; pending = b.pending.fill; breakpoints = b.breakpoints.fill }) l.place
 
--- the data of the regions, with that of one of them replaced
+-- the regions' data, with one region's data replaced
 abbrev pub replaced : (ℕ → Buffer) → ℕ → Buffer → ℕ → Buffer
 replaced all selected new region = cond (eqb region selected) new (all region)
 
@@ -51,7 +51,7 @@ replaced all selected new region = cond (eqb region selected) new (all region)
 abbrev pub selected_after : RoutineLine → Buffers → Buffer
 selected_after l b = record { bytes = (emit_outcome l.job (call_on l b)).lent.region_data; fill = (emit_outcome l.job (call_on l b)).counts.data_len }
 
--- all the buffers after it
+-- all the buffers after the call
 abbrev pub after_line : RoutineLine → Buffers → Buffers
 after_line l b =
     let o = emit_outcome l.job (call_on l b) in
@@ -71,12 +71,12 @@ pub data AllAccepted : List RoutineLine → Buffers → Type 0 where
   next : {l : RoutineLine} {ls : List RoutineLine} {b : Buffers} (position : ℕ) (loaded : LoadForm)
       → (emit_outcome l.job (call_on l b)).answer ≡ done_at position loaded → AllAccepted ls (after_line l b) → AllAccepted (l ∷ ls) b
 
--- what holds of each of a list
+-- P holds for each element of a list
 abbrev pub Each : {A : Type 0} → (A → Type 0) → List A → Type 0
 Each P [] = Unit {0}
 Each P (x ∷ xs) = P x × Each P xs
 
--- a line's elements are bytes, as those of a lent slice are
+-- a line's lists have bytes as elements, like any lent slice
 abbrev pub OfBytes : RoutineLine → Type 0
 OfBytes l = Bytes l.token_list × Bytes l.mnemonic
 
@@ -92,7 +92,7 @@ pub record AllEmpty (b : Buffers) : Type 0 where
 
 -- ---- what the lines add, in order
 
--- the words of a line that selects the region, as bytes
+-- a line's words, as bytes, if it selects the region; else none
 abbrev pub words_in : (region : ℕ) → RoutineLine → Buffers → List ℕ
 words_in region l b = cond (eqb region l.place.region) (word_bytes (call_pairs l.job (call_on l b))) []
 

@@ -1,2 +1,2 @@
-// Lines and a build fit together: what accepted lines leave is taken by the next line and by a build, as definitions and theorems. This crate has no code.
+// Definitions and theorems: lines and a build fit together, as the next line and a build take what accepted lines leave. This crate has no code.
 #![tactic(auto)]

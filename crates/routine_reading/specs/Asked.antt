@@ -1,4 +1,4 @@
--- What reading back still asks of a build of what emit calls left: nothing about patches. Assumes nothing.
+-- What must still hold so that a build after emit calls reads back. The premises about patches alone hold already (Tidy). Assumes nothing.
 use Rattle.std.specs.Prelude.{ℕ, ◌%◌, ◌≡◌, List, Ok}
 use Rattle.jobs.specs.declared.Job.{Job}
 use Rattle.labels.specs.Labels.{Table}
@@ -8,7 +8,7 @@ use Rattle.build_outcome.specs.Build.{build_verdict}
 use Rattle.finished_words.specs.Listed.{In}
 use Rattle.reading.specs.OnTarget.{Going, OnTarget}
 
--- the region of the record at p begins at a multiple of four
+-- the region of the patch at p starts at a multiple of four
 abbrev pub RegionOnWord : (regions pending : List ℕ) → ℕ → Type 0
 RegionOnWord regions pending p = (region_for regions (pending_at pending p)).address % 4 ≡ 0
 

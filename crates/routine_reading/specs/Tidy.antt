@@ -1,5 +1,4 @@
--- What holds of every pending list that emit calls leave, without asking: three of the tender's premises, which are about patches alone.
--- Assumes nothing.
+-- What holds for every pending list that emit calls leave: the three premises of the tender that are about patches alone. Assumes nothing.
 use Rattle.std.specs.Prelude.{ℕ, ◌%◌, ◌≡◌, List}
 use Rattle.pending.specs.Pendings.{pending_at}
 use Rattle.pending.specs.declared.InstructionLabelKind.TheVariants.{Lower, Upper, Full}
@@ -7,7 +6,7 @@ use Rattle.finished_words.specs.Listed.{In, Apart}
 use Rattle.reading.specs.Premises.{SharedTarget, Pair}
 
 pub record Tidy (pending : List ℕ) : Type 0 where
-  -- "patch addresses multiples of four", where their regions' are
+  -- "patch addresses multiples of four", if their regions' addresses are
   pub on_words : (p : ℕ) → In pending p → (pending_at pending p).offset % 4 ≡ 0
   -- "patches not overlapping"
   pub apart : Apart pending

@@ -1,2 +1,3 @@
-// What emit calls leave reads back: the tender's premises on patches hold of every routine of accepted lines, as definitions and theorems. This crate has no code.
+// Definitions and theorems: what emit calls leave reads back, as every routine of accepted lines meets the tender's premises on patches. This crate
+// has no code.
 #![tactic(auto)]

@@ -7,18 +7,18 @@ use Rattle.record.specs.declared.Location.{Location}
 use Rattle.pseudo_names.specs.PseudoNames.{bytes_of}
 use Rattle.refusal.specs.declared.Numbered.{Numbered}
 
--- the bytes xs put into d from `at` on: the bytes at exit, and where xs ends
+-- xs is written into d at `at`: `e` is d afterwards, and `end` is where xs ends
 pub record Put (d : List ℕ) (at : ℕ) (xs e : List ℕ) (end : ℕ) : Type 0 where
   pub fits : at + length xs ≤ length d
   pub ends : end ≡ at + length xs
   pub bytes : e ≡ append d at xs
 
--- a number in decimal, of at most so many digits
+-- a number in decimal; the first argument is the most digits that it may have
 unfoldable pub decimal_in : ℕ → ℕ → List ℕ
 decimal_in zero n = []
 decimal_in (suc most) n = elim (ltb n 10) [ true ↦ hex_digit_ascii n ∷ [] | false ↦ decimal_in most (n / 10) ++ (hex_digit_ascii (n % 10) ∷ []) ]
 
--- 64 bits have 20 digits at most
+-- a 64-bit number has at most 20 digits
 abbrev pub decimal : ℕ → List ℕ
 decimal n = decimal_in 20 n
 
@@ -32,16 +32,16 @@ unfoldable pub word_text : List ℕ → List ℕ
 unfolding hex_bytes
 word_text bytes = elim (eqb (length bytes) 4) [ true ↦ last_digits 16 8 (le32 bytes 0) | false ↦ hex_bytes bytes ]
 
--- a field behind "single blanks between fields"
+-- a field with the blank before it: "single blanks between fields"
 abbrev pub field : ℕ → List ℕ
 field n = bytes_of " " ++ decimal n
 
--- with its sign, where it is negative: negsuc n is -1 - n
+-- a field with a minus if the number is negative; negsuc n is -1 - n
 unfoldable pub signed_field : ℤ → List ℕ
 signed_field (pos n) = field n
 signed_field (negsuc n) = bytes_of " -" ++ decimal (n + 1)
 
--- the last field of a line
+-- the last field of a line, and the newline
 abbrev pub last_field : ℕ → List ℕ
 last_field n = field n ++ bytes_of "\n"
 

@@ -1,4 +1,4 @@
-// Pieces of text put into a lent buffer from `at` on: each function answers where its piece ends.
+// Writes pieces of text into a lent buffer at `at`. Each function returns where its piece ends.
 // kept: a page is laid out in the buffer that the C interface lends to `lay_out`.
 ghost use Rattle.std.specs.Prelude.{[], ◌∷◌, ◌+◌, ◌^◌, ◌≤◌, ◌<◌, length};
 ghost use Rattle.io.specs.Digits.{last_digits};
@@ -20,7 +20,7 @@ pub fn put_byte(out: &mut [u8], at: usize, byte: u8) -> usize
     at + 1
 }
 
-// Lower-case hexadecimal digits, with zeros in front.
+// Writes `n` as `width` lower-case hexadecimal digits, with leading zeros.
 pub fn put_hex(out: &mut [u8], at: usize, n: u32, width: usize) -> usize
     requires width_nonzero { (0 < width) × (width ≤ 8) × (n < 16 ^ width) }
     requires width_in_bounds { at + width ≤ length out.old }
@@ -31,7 +31,7 @@ pub fn put_hex(out: &mut [u8], at: usize, n: u32, width: usize) -> usize
     put_text(out, at, &text[..k])
 }
 
-// Two digits for each byte.
+// Writes each byte as two hexadecimal digits.
 pub fn put_hex_bytes(out: &mut [u8], at: usize, bytes: &[u8]) -> usize
     requires { at + length (hex_bytes bytes.now) ≤ length out.old }
     ensures { Put out.old at (hex_bytes bytes.now) out.new result }

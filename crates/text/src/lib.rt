@@ -1,4 +1,4 @@
-// A text of bytes that is put together piece by piece, and the same pieces put into a lent buffer. specs/Text.antt says what the pieces are.
+// A text built piece by piece, and the same pieces written into a lent buffer. specs/Text.antt says what the pieces are.
 #![tactic(auto)]
 
 ghost use Rattle.std.specs.Prelude.{◌≡◌, [], ◌∷◌, ◌++◌, ◌+◌, ◌^◌, ◌≤◌, ◌<◌, length};
@@ -13,7 +13,7 @@ mod lent;
 
 pub use lent::{put_byte, put_hex, put_hex_bytes, put_text};
 
-// Room for the longest text of a program: a page, and one byte more.
+// Room for the longest text that a program prints: a page, and one byte more.
 pub const MOST: usize = 1_195_960;
 
 // The text that a program prints.
@@ -79,7 +79,7 @@ impl<const N: usize> Text<N> {
         self.len += 1;
     }
 
-    // Lower-case hexadecimal digits, with zeros in front.
+    // Appends `n` as `width` lower-case hexadecimal digits, with leading zeros.
     #[tactic(auto, using(crate::proofs::TextLaws::put_taken))]
     pub fn push_hex(&mut self, n: u32, width: usize)
         requires width_nonzero { (0 < width) × (width ≤ 8) × (n < 16 ^ width) }
@@ -90,7 +90,7 @@ impl<const N: usize> Text<N> {
         self.len = end;
     }
 
-    // Two digits for each byte.
+    // Appends each byte as two hexadecimal digits.
     #[tactic(auto, using(crate::proofs::TextLaws::put_taken))]
     pub fn push_hex_bytes(&mut self, bytes: &[u8])
         requires { length self.old + length (hex_bytes bytes.now) ≤ N }
@@ -100,7 +100,7 @@ impl<const N: usize> Text<N> {
         self.len = end;
     }
 
-    // A word of an image: the number's eight digits, or the bytes of a last part word in the order of memory.
+    // Appends a word of an image: the number's eight digits, or, for a shorter last word, its bytes in memory order.
     #[tactic(auto, using(crate::proofs::TextLaws::text_whole, crate::proofs::TextLaws::text_part, crate::proofs::TextLaws::text_length))]
     pub fn push_word(&mut self, bytes: &[u8])
         requires { length self.old + length (word_text bytes.now) ≤ N }
@@ -123,7 +123,7 @@ impl<const N: usize> Text<N> {
         self.push(&text[..k]);
     }
 
-    // A blank and a number.
+    // Appends a blank and a number.
     pub fn push_field(&mut self, n: u64)
         requires { length self.old + length (field n) ≤ N }
         ensures { self.new ≡ self.old ++ field n }
@@ -132,7 +132,7 @@ impl<const N: usize> Text<N> {
         self.push_decimal(n);
     }
 
-    // A line's last field, and the line's end.
+    // Appends a line's last field and its newline.
     pub fn push_last_field(&mut self, n: u64)
         requires { length self.old + length (last_field n) ≤ N }
         ensures { self.new ≡ self.old ++ last_field n }
@@ -141,7 +141,7 @@ impl<const N: usize> Text<N> {
         self.push_byte(b'\n');
     }
 
-    // A line of a name and a number.
+    // Appends a line of a name and a number.
     pub fn push_number_line(&mut self, name: &[u8], n: u64)
         requires { length self.old + length (name.now ++ last_field n) ≤ N }
         ensures { self.new ≡ self.old ++ (name.now ++ last_field n) }
@@ -150,7 +150,7 @@ impl<const N: usize> Text<N> {
         self.push_last_field(n);
     }
 
-    // A blank and a number with its sign.
+    // Appends a blank and a number, with a minus if it is negative.
     #[tactic(auto, using(crate::proofs::TextLaws::signed_from, crate::proofs::TextLaws::signed_below, std::proofs::lemmas::Grind::common_steps))]
     fn push_signed_field(&mut self, n: i64)
         requires { length self.old + length (signed_field n) ≤ N }
@@ -173,7 +173,7 @@ impl<const N: usize> Text<N> {
         self.push_field(location.index as u64);
     }
 
-    // "refused" and number, source, index, a, b.
+    // Appends the line of a refusal: "refused" and number, source, index, a, b.
     #[tactic(auto, using(crate::proofs::TextLaws::refused_length), unfolding(crate::specs::Text::refused_line))]
     pub fn push_refusal(&mut self, n: Numbered)
         requires { length self.old + length (refused_line n) ≤ N }

@@ -1,4 +1,4 @@
--- What stands at a place of a text (document 02, P7). Assumes nothing.
+-- What is at a place of a text (document 02, P7). Assumes nothing.
 use Rattle.std.specs.Prelude.{ℕ, ◌+◌, List, [], ◌∷◌, Bool, true, false, not, ◌&&◌, ◌||◌, length, drop, leb, eqb, Option, Some, None}
 use Rattle.record.specs.Bytes.{byte_at, is_text, all}
 use Rattle.lexer.specs.declared.Text.{Text}
@@ -18,8 +18,8 @@ use Rattle.text_pieces.specs.declared.Piece.{Piece}
 use Rattle.text_pieces.specs.declared.Piece.TheVariants.{Blank, Token, BadByte, BadToken}
 
 -- ---- texts
--- A text of those bytes, which stand from `start` on, in a token of `size` bytes: "a text byte outside 0x20 to 0x7E" is 21, "a text over
--- 64 bytes" is 22, "21 before 22".
+-- A token of `size` bytes with this text, which starts at `start`: "a text byte outside 0x20 to 0x7E" is 21, "a text over 64 bytes" is 22,
+-- "21 before 22".
 unfoldable pub text_piece : (Text → TokenKind) → (start : ℕ) → (text : List ℕ) → (size : ℕ) → Piece
 unfolding all
 text_piece kind start text size =
@@ -119,6 +119,6 @@ unfoldable pub piece_at : List ℕ → ℕ → Piece
 unfolding class_of number_at symbol_at comment_at directive_at parameter_at register_at string_at
 piece_at s at = piece_of (class_of (byte_at s at)) s at
 
--- the text or the line ends there
+-- the text or the line ends at `at`
 abbrev pub line_ends : List ℕ → ℕ → Bool
 line_ends s at = leb (length s) at || is "\n" (byte_at s at)

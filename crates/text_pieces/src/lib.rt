@@ -1,4 +1,4 @@
-// What stands at a place of a text: a blank, a token or a fault.
+// Reads what is at a place of a text: a blank, a token or a fault.
 #![tactic(auto)]
 
 ghost use Rattle.std.specs.Prelude.{◌≡◌, ◌+◌, ◌<◌, ◌≤◌, length, drop};
@@ -10,10 +10,10 @@ use byte_class::{ByteClasses, Class, Mark};
 use lexer::{Text, TokenKind};
 use register_names::{NamedRegister, RegisterNames};
 
-// The most bytes that a text may have.
+// The most bytes that a token's text may have.
 const LONGEST: usize = 64;
 
-// What a text is read with.
+// The tables that a text is read with.
 #[derive(Clone, Copy)]
 pub struct Tables {
     pub classes: ByteClasses,
@@ -42,13 +42,13 @@ pub enum Piece {
     Blank,
     // its kind, and how many bytes of the text it takes
     Token(TokenKind, usize),
-    // what refusals 21 and 22 are for
+    // refusals 21 and 22
     BadByte,
     BadToken,
 }
 
-// A symbol, a directive and a parameter are read alike. Kept as three: a helper called at three places would stay a call, and give its
-// 40 bytes back through memory (CONTRIBUTING.md, 'Speed').
+// A symbol, a directive and a parameter are read alike. Kept as three: a helper called at three places would not be inlined, and would return its
+// 40 bytes through memory (CONTRIBUTING.md, 'Speed').
 fn symbol_at(tables: &Tables, place: &Place<'_>) -> Piece
     ensures { result ≡ symbol_at place.now.text.now place.now.at }
 {
@@ -87,7 +87,7 @@ fn parameter_at(tables: &Tables, place: &Place<'_>) -> Piece
     Piece::Token(TokenKind::Parameter(Text { start, len }), len + 1)
 }
 
-// Whether the line ends there.
+// Whether the text or the line ends at `at`.
 fn line_ends(text: &[u8], at: usize) -> bool
     ensures { result ≡ line_ends text.now at }
 {
@@ -137,7 +137,7 @@ fn register_at(tables: &Tables, place: &Place<'_>) -> Piece
     }
 }
 
-// Whether `0x` stands there.
+// Whether `0x` is at this place.
 fn is_hexadecimal(place: &Place<'_>) -> bool
     ensures { result ≡ starts_hexadecimal place.now.text.now place.now.at }
 {

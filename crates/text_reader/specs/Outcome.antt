@@ -29,7 +29,7 @@ answer_of text source room =
       | false ↦ Err (BadLayout 0 limit)
     ]
 
--- the records stand from the buffer's start on and bytes behind them stay; a refusal changes no byte
+-- the records go to the buffer's start, and the bytes after them stay; a refusal changes no byte
 abbrev pub leaves : Result ℕ Refusal → (records buffer : List ℕ) → List ℕ
 leaves (Ok fill) records buffer = append buffer 0 records
 leaves (Err r) records buffer = buffer
@@ -53,7 +53,7 @@ abbrev pub Accepts : (writes : Bool) → Result ℕ Refusal → Type 0
 Accepts true r = is_read r ≡ true
 Accepts false r = Unit {0}
 
--- the records written into d, or d as it is
+-- d' is d with the records written to its start, or d unchanged
 abbrev pub Leaves : (writes : Bool) → (d d' records : List ℕ) → Type 0
 Leaves true d d' records = d' ≡ append d 0 records
 Leaves false d d' records = d' ≡ d

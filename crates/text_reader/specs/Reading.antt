@@ -17,14 +17,14 @@ pub data Reading : Type 0 where
 abbrev pub location_of : (source at : ℕ) → Location
 location_of source at = record { source = source; index = at }
 
--- by the piece at a location: a blank is passed, a token read, a fault ends the reading; `rest` is what follows so many bytes further on
+-- by the piece at a location: skips a blank, reads a token, or ends at a fault; `rest` gives the reading that many bytes further on
 abbrev pub go_on : Location → Piece → (rest : ℕ → Reading) → Reading
 go_on l Blank rest = rest 1
 go_on l (Token kind size) rest = Next (record { location = l; kind = kind }) (rest size)
 go_on l BadByte rest = Fault (Refusal21 l)
 go_on l BadToken rest = Fault (Refusal22 l)
 
--- from `at` on, at most `fuel` pieces
+-- reads at most `fuel` pieces, from `at` on
 unfoldable pub reading_f : (fuel source : ℕ) → (text : List ℕ) → (at : ℕ) → Reading
 unfolding piece_at
 reading_f zero source text at = End

@@ -1,5 +1,5 @@
-// Reads a text into token records. The answer is found in a first pass over the text; a second pass writes, and only where the first
-// found nothing to refuse.
+// Reads a text into token records. A first pass over the text finds the answer; a second pass writes, and only if the first refused
+// nothing.
 #![tactic(auto)]
 
 ghost use Rattle.std.specs.Prelude.{◌≡◌, true, ◌≤◌, ◌<◌, length};
@@ -14,7 +14,7 @@ use record::Location;
 use refusal::Refusal;
 use text_pieces::{Piece, Place, Tables};
 
-// The location of the token that begins at `at`.
+// Returns the location of the token that begins at `at`.
 fn location_of(source: u32, at: usize) -> Location
     requires { at < limit }
     ensures { result ≡ location_of source at }
@@ -25,7 +25,7 @@ fn location_of(source: u32, at: usize) -> Location
     }
 }
 
-// One pass over the text: its answer for the token buffer and, where `writes`, the records of a text that is accepted.
+// Makes one pass over the text and returns its answer. If `writes` is set, the text must be accepted, and its records are written.
 fn pass(text: &[u8], source: u32, tokens: &mut [u8], writes: bool) -> Result<u32, Refusal>
     requires text_len_bound { (length text.now ≤ limit) × (length tokens.old ≤ limit) }
     requires accepts { Accepts writes (answer_from text.now (length tokens.old) 0 (reading source text.now)) }
@@ -68,7 +68,7 @@ fn pass(text: &[u8], source: u32, tokens: &mut [u8], writes: bool) -> Result<u32
     Ok(fill as u32)
 }
 
-// The tokens of the text as records, from the start of the token buffer on, or a refusal, and then no byte changes.
+// Writes the text's tokens as records to the start of the token buffer and returns the new fill. A refusal changes no byte.
 pub fn read_text(text: &[u8], source: u32, tokens: &mut [u8]) -> Result<u32, Refusal>
     ensures { read_text text.now source tokens.old ≡ (record { answer = result; tokens = tokens.new }) }
 {

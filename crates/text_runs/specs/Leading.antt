@@ -6,6 +6,6 @@ unfoldable pub leading : (ℕ → Bool) → List ℕ → List ℕ
 leading p [] = []
 leading p (b ∷ s) = elim (p b) [ true ↦ b ∷ leading p s | false ↦ [] ]
 
--- a byte that a text may have and that does not end it
+-- a byte that a text may have, other than its `end`
 abbrev pub plain : (end : ℕ) → ℕ → Bool
 plain end b = is_text b && not (eqb b end)

@@ -16,13 +16,13 @@ digit_value b = or_else (between "0" "9" b) (b - code "0") (or_else (between "a"
 abbrev pub is_digit_of : (base : ℕ) → ℕ → Bool
 is_digit_of base b = ltb (digit_value b) base
 
--- the value of digits behind a number, the first digit the highest
+-- the value of n with these digits after it, the highest digit first
 unfoldable pub value_from : (base n : ℕ) → List ℕ → ℕ
 unfolding digit_value
 value_from base n [] = n
 value_from base n (d ∷ ds) = value_from base (n * base + digit_value d) ds
 
--- a value and how many digits it has; "a number over 64 bits" has none here
+-- a value and how many digits it has; none for "a number over 64 bits"
 abbrev pub within64 : (value digits : ℕ) → Option (ℕ × ℕ)
 within64 value digits = elim (ltb value (2 ^ 64)) [ true ↦ Some (value, digits) | false ↦ None ]
 

@@ -1,4 +1,4 @@
-// What a text begins with: letters and digits, bytes of a text, a number.
+// Reads what a text begins with: letters and digits, printable bytes, or a number.
 #![tactic(auto)]
 
 ghost use Rattle.std.specs.Prelude.{◌≡◌, ◌<◌, ◌≤◌, MatchOption, length};
@@ -8,7 +8,7 @@ ghost use Rattle.text_runs.specs.Numbers.{digit_value, number_in};
 
 use byte_class::ByteClasses;
 
-// How many letters and digits the text begins with.
+// Returns how many letters and digits the text begins with.
 pub fn word_len(classes: &ByteClasses, text: &[u8]) -> usize
     ensures { (result ≡ length (leading word_byte text.now)) × (result ≤ length text.now) }
 {
@@ -17,7 +17,7 @@ pub fn word_len(classes: &ByteClasses, text: &[u8]) -> usize
         .unwrap_or(text.len())
 }
 
-// How many bytes the text begins with that are 0x20 to 0x7E and not `end`.
+// Returns how many bytes the text begins with that are 0x20 to 0x7E and not `end`.
 pub fn text_len(text: &[u8], end: u8) -> usize
     ensures { (result ≡ length (leading (plain end) text.now)) × (result ≤ length text.now) }
 {
@@ -26,7 +26,7 @@ pub fn text_len(text: &[u8], end: u8) -> usize
         .unwrap_or(text.len())
 }
 
-// The value of a digit below `base`, in either case of its letter; none for another byte.
+// Returns the value of a digit below `base`, upper or lower case; none for any other byte.
 #[tactic(auto, unfolding(crate::specs::Numbers::digit_value))]
 fn digit_below(base: u64, byte: u8) -> Option<u64>
     requires { base ≤ 16 }
@@ -41,7 +41,7 @@ fn digit_below(base: u64, byte: u8) -> Option<u64>
     if value < base { Some(value) } else { None }
 }
 
-// The number of the digits below `base` that the text begins with, and how many these are; none where it is over 64 bits.
+// Reads the digits below `base` that the text begins with. Returns their value and how many they are; none if the value is over 64 bits.
 pub fn number_in(text: &[u8], base: u64) -> Option<(u64, usize)>
     requires { (1 < base) × (base ≤ 16) }
     ensures { result ≡ number_in base text.now }

@@ -1,4 +1,4 @@
--- A token apart from the place where its text stands: its location, its kind and its text's bytes. Assumes nothing.
+-- What a token means, wherever its text is: its location, its kind and its text's bytes. Assumes nothing.
 use Rattle.std.specs.Prelude.{ℕ, List, []}
 use Rattle.record.specs.declared.Location.{Location}
 use Rattle.lexer.specs.declared.Text.{Text as TextPlace}
@@ -9,7 +9,7 @@ use Rattle.token_bytes.specs.declared.Carried.{Carried}
 use Rattle.token_bytes.specs.declared.Carried.TheVariants.{Text, Slot, Number, Name, Nothing}
 use Rattle.token_bytes.specs.TokenBytes.{carried_by, text_bytes}
 
--- a text's length, its place left out
+-- a text's length, without its place
 abbrev pub unplaced : TextPlace → TextPlace
 unplaced t = record { start = 0; len = t.len }
 
@@ -31,7 +31,7 @@ kind_meant NewLine = NewLine
 kind_meant LeftBrace = LeftBrace
 kind_meant RightBrace = RightBrace
 
--- the bytes of the text that is carried, none for what is no text
+-- the bytes of the text that a token carries; none if it carries no text
 abbrev pub text_carried : (texts : List ℕ) → Carried → List ℕ
 text_carried texts (Text t) = text_bytes texts t
 text_carried texts (Slot n) = []
@@ -44,6 +44,6 @@ pub record Meant : Type 0 where
   pub kind : TokenKind
   pub text : List ℕ
 
--- what a token means whose text stands in `texts`
+-- what a token means; its text is in `texts`
 abbrev pub meant : (texts : List ℕ) → Token → Meant
 meant texts t = record { location = t.location; kind = kind_meant t.kind; text = text_carried texts (carried_by t.kind) }

@@ -1,4 +1,4 @@
--- A token record as bytes, the twin of `token_at` (document 01, 'Tokens'). Assumes nothing.
+-- A token record as bytes, the reverse of `token_at` (document 01, 'Tokens'). Assumes nothing.
 use Rattle.std.specs.Prelude.{ℕ, ◌+◌, ◌^◌, ◌≤◌, ◌<◌, List, [], ◌∷◌, ◌++◌, true, ◌≡◌, length, T, Float}
 use Rattle.std.specs.Float.{binary64}
 use Rattle.std.specs.Float.Ieee.{to_bits, fits}
@@ -33,7 +33,7 @@ carried_by NewLine = Nothing
 carried_by LeftBrace = Nothing
 carried_by RightBrace = Nothing
 
--- the bytes of a text, which stands in `texts`
+-- the bytes of a text, which are a part of `texts`
 abbrev pub text_bytes : (texts : List ℕ) → TextPlace → List ℕ
 text_bytes texts t = part texts t.start t.len
 
@@ -66,7 +66,7 @@ pub record TokenFits (texts : List ℕ) (token : Token) : Type 0 where
   pub carried_fits : CarriedFits texts (carried_by token.kind)
   pub float_fits : (x : Float) → token.kind ≡ FloatLiteral x → T (fits binary64 x)
 
--- how many bytes the payload of such a token has
+-- how many bytes the payload has
 abbrev pub carried_size : Carried → ℕ
 carried_size (Text t) = t.len
 carried_size (Slot n) = 1

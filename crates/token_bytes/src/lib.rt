@@ -1,4 +1,4 @@
-// Tokens by value into token records: the way back of `token_at`.
+// Writes tokens as token records, the reverse of `token_at`.
 #![tactic(auto)]
 
 ghost use Rattle.std.specs.Prelude.{◌≡◌, ◌+◌, ◌≤◌, length};
@@ -10,10 +10,10 @@ ghost use Rattle.token_bytes.specs.TokenBytes.{carried_by, carried_size, carried
 use lexer::{Text, Token, TokenKind};
 use registers::Slot;
 
-// The length and the kind, then the location.
+// The bytes before the payload: the length and the kind, then the location.
 const BEFORE_PAYLOAD: usize = 12;
 
-// What a token carries behind its location. The bytes of a text stand in another list.
+// What a token carries after its location. A text's bytes are in another list.
 #[derive(Clone, Copy)]
 pub enum Carried {
     Text(Text),
@@ -23,7 +23,7 @@ pub enum Carried {
     Nothing,
 }
 
-// The bits of a float; of a NaN, of which the machine knows one, those of the quiet NaN.
+// Returns the bits of a float. Every NaN gives the quiet NaN's bits, since the model of floats has only one NaN.
 fn bits_of(x: f64) -> u64
     ensures { result ≡ to_bits binary64 x }
 {
@@ -62,7 +62,7 @@ fn carried_size(carried: Carried) -> usize
     }
 }
 
-// How many bytes the record of a token has, of which a text has at most 64.
+// Returns how many bytes a token's record has. Its text has at most 64 of them.
 pub fn record_size(kind: TokenKind) -> usize
     requires { carried_size (carried_by kind) ≤ 64 }
     ensures { result ≡ 12 + carried_size (carried_by kind) }
@@ -70,7 +70,7 @@ pub fn record_size(kind: TokenKind) -> usize
     BEFORE_PAYLOAD + carried_size(carried_by(kind))
 }
 
-// The text that stands at that place of `texts`.
+// Copies a token's text from its place in `texts`.
 fn put_text(d: &mut [u8], texts: &[u8], at: usize, text: Text)
     requires text_fits { TextFits texts.now text }
     requires len_in_bounds { at + text.len ≤ length d.old }
@@ -92,7 +92,7 @@ fn put_carried(d: &mut [u8], texts: &[u8], at: usize, carried: Carried)
     }
 }
 
-// One token record from `at` on. The token's text, if it has one, is a part of `texts`.
+// Writes one token record at `at`. The token's text, if it has one, is a part of `texts`.
 pub fn put_token(d: &mut [u8], texts: &[u8], at: usize, token: Token)
     requires carried_fits { CarriedFits texts.now (carried_by token.kind) }
     requires kind_in_bounds { at + 12 + carried_size (carried_by token.kind) ≤ length d.old }

@@ -1,4 +1,4 @@
-// What `read_text` does (document 02, P7), from the bytes that it reads to those that it prints.
+// What `read_text` does (document 02, P7), from its input bytes to the bytes that it prints.
 #![tactic(auto)]
 
 ghost use Rattle.std.specs.Prelude.{◌≡◌, ◌++◌, ◌+◌, ◌≤◌, length, drop};
@@ -7,7 +7,7 @@ ghost use Rattle.token_text.specs.TokenText.{tokens_line, read_text_text};
 use program::Program;
 use text::{Printed, Text};
 
-// The text, which stands behind the two numbers.
+// Returns the text, which follows the two numbers.
 fn text_of(input: &[u8]) -> &[u8]
     ensures { result.now ≡ drop 8 input.now }
 {
@@ -15,7 +15,7 @@ fn text_of(input: &[u8]) -> &[u8]
     &input[start..]
 }
 
-// A line of a token list.
+// Writes a token list as one line.
 pub fn put_tokens<const N: usize>(out: &mut Text<N>, list: &[u8])
     requires { length out.old + length (tokens_line list.now) ≤ N }
     ensures { out.new ≡ out.old ++ tokens_line list.now }
@@ -25,8 +25,8 @@ pub fn put_tokens<const N: usize>(out: &mut Text<N>, list: &[u8])
     out.push_byte(b'\n');
 }
 
-// The text that `read_text` prints for an input: the tokens, or the refusal alone. Of a token buffer over its limit one byte
-// more than the limit is held.
+// Writes what `read_text` prints for an input: the tokens, or the refusal alone. A token buffer over the limit is held as the limit
+// plus one byte: that is enough for its refusal.
 #[tactic(auto, using(text::proofs::TextLaws::refused_most, crate::proofs::TokenTextLaws::held_text, crate::proofs::TokenTextLaws::line_length, crate::proofs::TokenTextLaws::part_held, text_reader::proofs::ReadsBack::fill_within, std::proofs::lemmas::Grind::common_steps), unfolding(crate::specs::TokenText::read_text_text))]
 pub fn read_text(input: &[u8], out: &mut Printed)
     ensures { out.new ≡ read_text_text input.now }

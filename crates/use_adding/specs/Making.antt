@@ -1,4 +1,4 @@
--- The use of one pending more in an index that a buffer holds, and an index made afresh. Assumes nothing.
+-- The use of one more pending added to an index that a buffer holds, and an index made afresh. Assumes nothing.
 use Rattle.std.specs.Prelude.{ℕ, ◌≤◌, ◌<◌, ◌^◌, ◌≡◌, length}
 use mathlib.Core.List.{List, Memᴰ}
 use Rattle.record.specs.Stores.{append}
@@ -7,7 +7,7 @@ use Rattle.label_uses.specs.Uses.{kept_of, Use, use_of}
 use Rattle.label_uses.specs.UseBytes.{uses_bytes, index_of}
 use Rattle.use_adding.specs.Adding.{IndexIn}
 
--- the index with the use of a pending more, if it has one
+-- buffer e and its fill count hold the index with one more pending's use, if it has one
 pub record AddsOne (d e labels pending : List ℕ) (x : AddressLabel) (n after : ℕ) (us : List Use) : Type 0 where
   pub bytes : e ≡ append d 0 (uses_bytes (use_of labels pending x n us))
   pub filled : after ≡ length (uses_bytes (use_of labels pending x n us))
@@ -15,7 +15,7 @@ pub record AddsOne (d e labels pending : List ℕ) (x : AddressLabel) (n after :
 abbrev pub AddsOneTo : (d e labels pending : List ℕ) (fill : ℕ) (x : AddressLabel) (n after : ℕ) → Type 0
 AddsOneTo d e labels pending fill x n after = (us : List Use) → IndexIn d fill us → AddsOne d e labels pending x n after us
 
--- owners and sources that have four bytes still have with it
+-- if owners and sources fit four bytes, they still do with the pending's use added
 abbrev pub KeepsOwners : (labels pending : List ℕ) (x : AddressLabel) (n : ℕ) → Type 0
 KeepsOwners labels pending x n =
     (us : List Use) → ((u : Use) → Memᴰ u us → kept_of u.key.standing < 2 ^ 32) → (u : Use) → Memᴰ u (use_of labels pending x n us) → kept_of u.key.standing < 2 ^ 32

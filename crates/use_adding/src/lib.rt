@@ -1,4 +1,4 @@
-// The key of a use, an index of uses as it is read, one use more in place, and an index made afresh.
+// Indexes of label uses: their keys, reading an index, adding a use in place, and making an index afresh.
 #![tactic(auto)]
 
 ghost use Rattle.std.specs.Prelude.{◌≡◌, ◌+◌, ◌*◌, ◌-◌, ◌≤◌, ◌<◌, ◌^◌, ℕ, List, length, get_or};
@@ -27,7 +27,7 @@ use names::Named;
 use std::cmp::Ordering;
 use std::marker::Model;
 
-// The record kind.
+// The record kind of a use.
 const USE: u16 = 39;
 
 // The key of a use: a name, and what it stands for.
@@ -94,7 +94,7 @@ impl<'a> Pendings<'a> {
         self.bytes
     }
 
-    // How many pendings the list has.
+    // Returns how many pendings the list has.
     pub fn count(&self) -> u16
         ensures { (result ≡ length (places self.now)) × (result ≤ 1820) }
     {
@@ -102,7 +102,7 @@ impl<'a> Pendings<'a> {
     }
 }
 
-// A label list with the ordered index of its names.
+// A label list with a sorted index of its names.
 #[derive(Drop)]
 pub struct LabelIndex<'a> {
     index: NameIndex<'a, 4>,
@@ -127,7 +127,7 @@ impl<'a> LabelIndex<'a> {
         LabelIndex { index }
     }
 
-    // Made in a lent array; the other is scratch. Labels may repeat a name.
+    // Makes the index in `order`; `spare` is scratch. Labels may repeat a name.
     pub fn make(labels: &'a [u8], order: &'a mut [u16], spare: &mut [u16]) -> Self
         requires labels_value { label_layout labels.now ≡ None }
         requires most_labels_in_bounds { (most_labels ≤ length order.old) × (most_labels ≤ length spare.old) }
@@ -136,7 +136,7 @@ impl<'a> LabelIndex<'a> {
         LabelIndex::new(labels::make_index(labels, order, spare))
     }
 
-    // The first label that shares its name and owner with an earlier one.
+    // Returns the first label that shares its name and owner with an earlier one.
     pub fn first_repeat(&self) -> Option<usize>
         ensures { result ≡ label_repeat self.now }
     {
@@ -144,7 +144,7 @@ impl<'a> LabelIndex<'a> {
     }
 }
 
-// Labels of which one is looked up by its owner and its name: by a scan, or by an index.
+// Labels that can be searched by owner and name: by a scan or by an index.
 pub trait Labels {
     ghost list: { Self → List ℕ };
 
@@ -170,7 +170,7 @@ impl<'a> Labels for LabelIndex<'a> {
     }
 }
 
-// What a name of a source stands for. Labels may share owner and name.
+// Returns what a name in this source stands for. Labels may share owner and name.
 pub fn standing_of<L: Labels>(labels: &L, source: u32, name: &[u8]) -> Standing
     ensures { (key_with name.now result ≡ key_for (L.list labels.now) source name.now) × (kept_of result < 2 ^ 32) }
 {
@@ -183,21 +183,21 @@ pub fn standing_of<L: Labels>(labels: &L, source: u32, name: &[u8]) -> Standing
     Standing::Unknown(source)
 }
 
-// The key of a name of a source.
+// Returns the key of a name in this source.
 pub fn key_of<'a, L: Labels>(labels: &L, source: u32, name: &'a [u8]) -> Key<'a>
     ensures { (result ≡ key_for (L.list labels.now) source name.now) × (kept_of result.standing < 2 ^ 32) }
 {
     Key::new(name, standing_of(labels, source, name))
 }
 
-// Whether two standings are the same in the order of the uses.
+// Whether two standings are equal in the order of the uses.
 fn same(a: Standing, b: Standing) -> bool
     ensures { result ≡ is_eq (then_by (known_order (is_known a) (is_known b)) (numbers (kept_of a) (kept_of b))) }
 {
     a == b
 }
 
-// Whether a key's name, from that source, stands for what the key says.
+// Whether the key's name, used in this source, stands for what the key says.
 #[tactic(auto, using(label_uses::proofs::UseOrderLaws::standings_decide))]
 pub fn stands<L: Labels>(labels: &L, source: u32, key: &Key<'_>) -> bool
     ensures { result ≡ is_eq (use_order key.now (key_for (L.list labels.now) source key.now.name)) }
@@ -205,7 +205,7 @@ pub fn stands<L: Labels>(labels: &L, source: u32, key: &Key<'_>) -> bool
     same(key.standing, standing_of(labels, source, key.name))
 }
 
-// The name of the record at `at`.
+// Returns the name in the record at `at`.
 fn name_at(index: &[u8], at: usize) -> &[u8]
     requires { UseAt index.now at }
     ensures { result.now ≡ (key_read index.now at).name }
@@ -215,7 +215,7 @@ fn name_at(index: &[u8], at: usize) -> &[u8]
     &index[from..end]
 }
 
-// What the record at `at` says that its name stands for.
+// Returns what the name in the record at `at` stands for.
 fn standing_at(index: &[u8], at: usize) -> Standing
     requires { UseAt index.now at }
     ensures { result ≡ (key_read index.now at).standing }
@@ -229,7 +229,7 @@ fn standing_at(index: &[u8], at: usize) -> Standing
     }
 }
 
-// The key of the record at `at`.
+// Returns the key of the record at `at`.
 pub fn key_at(index: &[u8], at: usize) -> Key<'_>
     requires { UseAt index.now at }
     ensures { result ≡ key_read index.now at }
@@ -237,7 +237,7 @@ pub fn key_at(index: &[u8], at: usize) -> Key<'_>
     Key::new(name_at(index, at), standing_at(index, at))
 }
 
-// How a key stands to that of the record at `at`.
+// Compares the key with the record at `at`.
 pub fn order_at(index: &[u8], at: usize, key: &Key<'_>) -> Ordering
     requires { UseAt index.now at }
     ensures { result ≡ use_order key.now (key_read index.now at) }
@@ -248,7 +248,7 @@ pub fn order_at(index: &[u8], at: usize, key: &Key<'_>) -> Ordering
     }
 }
 
-// The filled part of an index, as it is read.
+// The filled part of an index, for reading.
 #[derive(Drop)]
 pub struct Uses<'a> {
     bytes: &'a [u8],
@@ -273,14 +273,14 @@ impl<'a> Uses<'a> {
         Uses { bytes }
     }
 
-    // How long the index is.
+    // Returns the index's length.
     pub fn len(&self) -> usize
         ensures { (result ≡ length self.now) × (result ≤ limit) }
     {
         self.bytes.len()
     }
 
-    // Where a key stands, or else where it sorts.
+    // Finds a key: Ok has the place of its record, Err the place where it sorts.
     pub fn find(&self, key: &Key<'_>) -> Result<usize, usize>
         ensures { FindsIn self.now key.now result }
     {
@@ -295,7 +295,7 @@ impl<'a> Uses<'a> {
         Err(bytes.len())
     }
 
-    // How long the index is with one use more of the key: for refusal 17, before anything is written.
+    // Returns the index's length after one more use of the key, to check for refusal 17 before anything is written.
     pub fn size_with(&self, key: &Key<'_>) -> usize
         requires { length key.now.name ≤ 65536 }
         ensures { SizeWith self.now (length self.now) key.now result }
@@ -307,9 +307,9 @@ impl<'a> Uses<'a> {
     }
 }
 
-// kept: what writes takes the whole buffer and its fill count, since the bytes behind the count are room for one use more.
+// kept: functions that write take the whole buffer and its fill count, since the bytes after the count are room for one more use.
 
-// The bytes from `at` to `fill`, moved up by n.
+// Moves the bytes from `at` to `fill` up by n.
 #[tactic(auto, using(std::proofs::lemmas::Grind::common_steps), unfolding(record::specs::Stores::append))]
 pub fn move_up(d: &mut [u8], at: usize, fill: usize, n: usize)
     requires { (at ≤ fill) × (fill + n ≤ length d.old) }
@@ -318,7 +318,7 @@ pub fn move_up(d: &mut [u8], at: usize, fill: usize, n: usize)
     d.copy_within(at..fill, at + n);
 }
 
-// A number more behind those of the record at `at`: two bytes are put in, and its length and count grow.
+// Appends one number to the record at `at`: inserts two bytes, and updates the record's length and count.
 fn put_number(d: &mut [u8], fill: usize, at: usize, n: u16)
     requires { (owner_place d.old at ≤ fill) × (fill + 2 ≤ length d.old) × (le16 d.old at + 2 < 65536) × (le16 d.old (at + 5) + 1 < 65536) }
     ensures { d.new ≡ grown_at d.old fill at n (le16 d.old at) (le16 d.old (at + 5)) }
@@ -332,7 +332,7 @@ fn put_number(d: &mut [u8], fill: usize, at: usize, n: u16)
     record::put16(&mut *d, at + 5, (count + 1) as u16);
 }
 
-// A record of one use, put in at `at`.
+// Inserts a record at `at` with n as its only number.
 fn put_use(d: &mut [u8], fill: usize, at: usize, key: &Key<'_>, n: u16)
     requires { (at ≤ fill) × (fill + 13 + length key.now.name ≤ length d.old) × (length d.old ≤ 65536) }
     ensures { d.new ≡ append (append d.old (at + (13 + length key.now.name)) (part d.old at (fill - at))) at (use_bytes (one_use key.now n)) }
@@ -347,7 +347,7 @@ fn put_use(d: &mut [u8], fill: usize, at: usize, key: &Key<'_>, n: u16)
     record::put_all(&mut *d, at + 13, name);
 }
 
-// Pending n uses the key. The index's new fill count.
+// Adds pending n to the uses of the key. Returns the index's new fill count.
 pub fn add_use(index: &mut [u8], fill: usize, key: &Key<'_>, n: u16) -> usize
     requires { AnIndexWithRoom index.old fill key.now n }
     ensures { AddsTo index.old index.new fill key.now n result }
@@ -365,7 +365,7 @@ pub fn add_use(index: &mut [u8], fill: usize, key: &Key<'_>, n: u16) -> usize
     }
 }
 
-// The use of a label, whose name stands in `names`, as that of pending n. The index's new fill count.
+// Adds pending n to the uses of its label, whose name is in `names`; a constant adds nothing. Returns the index's new fill count.
 pub fn add_label<L: Labels>(
     index: &mut [u8],
     fill: usize,
@@ -388,7 +388,7 @@ pub fn add_label<L: Labels>(
     }
 }
 
-// An index made afresh into a buffer as long as the pending list, by an index of the labels. Its fill count.
+// Makes the index of a pending list afresh, in a buffer at least as long as the list. Returns its fill count.
 pub fn fill_index(d: &mut [u8], pending: &Pendings<'_>, labels: &LabelIndex<'_>) -> usize
     requires { (length pending.now ≤ length d.old) × (length d.old ≤ 65536) }
     ensures { Made d.old d.new labels.now pending.now result }

@@ -1,4 +1,4 @@
-// A word under construction and the methods that put its fields in (the top of emit.rs).
+// A word under construction, and the methods that set its fields (the top of emit.rs).
 #![tactic(auto)]
 
 ghost use Rattle.std.specs.Prelude.{◌≡◌, ◌+◌, ◌*◌, ◌^◌, ◌≤◌, ◌<◌};
@@ -18,7 +18,7 @@ struct Field {
     width: u32,
 }
 
-// Where the fields of five bits begin; in the float formats fmt, ft, fs and fd stand there.
+// Where the five-bit fields begin. The float formats have fmt, ft, fs and fd there.
 const RS: u32 = 21;
 
 const RT: u32 = 16;
@@ -27,12 +27,12 @@ const RD: u32 = 11;
 
 const SA: u32 = 6;
 
-// A half-built word, distinct from a finished one: only `finish` gives the number.
+// A half-built word. Its own type, so that only `finish` turns it into a number.
 #[derive(Clone, Copy)]
 pub struct InstructionBuilder(u32);
 
 impl Field {
-    // The five bits of a register, a float format or a shift amount.
+    // Returns the five-bit field at `offset`, for a register, a float format or a shift amount.
     fn five_bits(offset: u32) -> Field
         ensures { (result.offset ≡ offset) × (result.width ≡ 5) }
     {
@@ -56,7 +56,7 @@ impl InstructionBuilder {
         InstructionBuilder((self.0 & !mask) | (value << field.offset))
     }
 
-    // A number of five bits at `offset`: a register or a float format.
+    // Sets the five-bit field at `offset` to a register's or a float format's number.
     fn with_number_offset(self, offset: u32, number: u32) -> InstructionBuilder
         requires { (offset + 5 ≤ 32) × (number < 32) }
         ensures { result.0 ≡ set_field self.0 offset 5 number }

@@ -1,4 +1,4 @@
--- What a body that is read is written out as. Assumes nothing.
+-- The steps of writing a body out, and the records that they write. Assumes nothing.
 use Rattle.std.specs.Prelude.{ℕ, ◌+◌, ◌≤◌, List, [], ◌∷◌, ◌++◌, true, false, ◌≡◌, length, leb, None}
 use Rattle.record.specs.Records.{limit}
 use Rattle.macros.specs.Macros.{macro_layout}
@@ -9,11 +9,11 @@ use Rattle.written_out.specs.Above.{above}
 use Rattle.macro_tokens.specs.declared.Body.{Body}
 use Rattle.macro_tokens.specs.Places.{read_from, ReadableFrom}
 
--- its steps from `at` on, where the macros before the place `most` may be called, on so many levels
+-- the body's steps from `at` on; it may call macros before the place `most`, and calls may nest `levels` deep
 abbrev pub steps_from : (text macros : List ℕ) → (most levels : ℕ) → (list : List ℕ) → Body → Mode → (at : ℕ) → List Step
 steps_from text macros most levels list b mode at = walk (replaced levels) (above macros most) mode (read_from text macros list b at)
 
--- what a body that is read holds
+-- what holds for a body to be written out
 pub record Ready (text macros : List ℕ) (most : ℕ) (list : List ℕ) (b : Body) : Type 0 where
   pub readable : ReadableFrom text macros list b b.start
   pub macros_good : macro_layout macros ≡ None

@@ -1,4 +1,4 @@
--- What a call is replaced by, as the code finds it. Assumes nothing.
+-- What replaces a call, as the code finds it. Assumes nothing.
 use Rattle.std.specs.Prelude.{ℕ, ◌-◌, ◌≤◌, ◌<◌, List, [], ◌∷◌, true, false, ◌≡◌, length, eqb, Err, None, Ok, Result}
 use Rattle.record.specs.Bytes.{location_at}
 use Rattle.record.specs.Records.{limit}
@@ -23,7 +23,7 @@ use Rattle.refusal.specs.Verdicts.{Verdict}
 abbrev pub call_verdict : Location → (given count levels : ℕ) → Verdict
 call_verdict l given count levels = elim (eqb given count) [ true ↦ elim (eqb levels 0) [ true ↦ Err (NinthLevel l) | false ↦ Ok tt ] | false ↦ Err (WrongArguments l) ]
 
--- the macro at k is written out as those steps
+-- the body b of the macro at k is written out as `steps`
 pub record Opened (text macros : List ℕ) (levels k : ℕ) (steps : List Step) (b : Body) : Type 0 where
   pub level : 0 < levels
   pub ready : Ready text macros k (body_at macros k) b
@@ -35,20 +35,20 @@ pub record CallIs (text macros : List ℕ) (levels k : ℕ) (steps : List Step) 
 
 -- ---- what is done with a token
 
--- what is written for it
+-- the steps of writing it out
 abbrev pub act_steps : (text macros : List ℕ) → (levels : ℕ) → (list : List ℕ) → Body → (place next : ℕ) → Act → List Step
 act_steps text macros levels list b place next (Write mode) = write (token_record text macros place) ∷ []
 act_steps text macros levels list b place next PassOn = []
 act_steps text macros levels list b place next (Call k) =
     replaced levels (location_at (token_record text macros place) 4) (macro_at macros k) (above macros k) (arguments_from text macros list b next)
 
--- where the next token then stands
+-- where on its line the next token then stands
 abbrev pub mode_after : Act → Mode
 mode_after (Write mode) = mode
 mode_after PassOn = LeftOut
 mode_after (Call k) = LeftOut
 
--- what it rests on
+-- what writing it out requires
 pub record Acting (text macros : List ℕ) (most : ℕ) (list : List ℕ) (b : Body) (place next : ℕ) (act : Act) : Type 0 where
   pub token : TokenIn text macros place
   pub rest : ReadableFrom text macros list b next

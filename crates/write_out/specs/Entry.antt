@@ -1,4 +1,4 @@
--- The call's checks, by the length of its buffer. Assumes nothing.
+-- The call's checks, given the length of its buffer. Assumes nothing.
 use Rattle.std.specs.Prelude.{ℕ, List, Bool, true, false, leb, None, Option, Some, Result, Ok, Err}
 use Rattle.record.specs.Records.{limit}
 use Rattle.refusal.specs.declared.Refusal.{Refusal}

@@ -1,4 +1,4 @@
-// Writes macros out. A first pass over the token list finds the answer; a second one writes, and only where the first refused nothing.
+// Writes macros out. A first pass over the token list finds the answer; a second one writes, and only if the first refused nothing.
 #![tactic(auto)]
 
 ghost use Rattle.std.specs.Prelude.{◌≡◌, true, None, [], ◌∷◌, ◌≤◌, length};
@@ -23,7 +23,7 @@ use record::Location;
 use refusal::Refusal;
 use written_out::Mode;
 
-// At one call a wrong count of arguments goes before a ninth level.
+// Checks one call: a wrong count of arguments is refused before a ninth level.
 fn call_verdict(
     location: Location,
     given: usize,
@@ -41,7 +41,7 @@ fn call_verdict(
     Ok(())
 }
 
-// A body that is written out, with the two lists. It may call the macros before the place `most`, on so many levels.
+// A body being written out, with the two lists. It may call macros before the place `most`; its calls may nest `levels` deep.
 #[derive(Clone, Copy)]
 struct Frame<'a> {
     source: Source<'a>,
@@ -50,7 +50,7 @@ struct Frame<'a> {
     levels: usize,
 }
 
-// A token that is met: its place, where its body goes on behind it, and what is done with it.
+// A token met in a body: its place, where the body goes on after it, and what to do with it.
 #[derive(Clone, Copy)]
 struct Met {
     place: usize,
@@ -58,7 +58,7 @@ struct Met {
     act: Act,
 }
 
-// The call of the macro at k by the token that is met: the body that it is replaced by.
+// Returns the body that replaces this call of the macro at k, or the call's refusal.
 fn call_at(frame: &Frame<'_>, met: &Met, k: usize) -> Result<Body, Refusal>
     requires token_in { TokenIn frame.now.source.text.now frame.now.source.macros.now met.now.place × ReadableFrom frame.now.source.text.now frame.now.source.macros.now frame.now.reading.list.now frame.now.reading.body met.now.next }
     requires text_len_bound { (length frame.now.source.text.now ≤ limit) × (macro_layout frame.now.source.macros.now ≡ None) × (macro_at_ok frame.now.source.macros.now k ≡ true) }
@@ -80,7 +80,7 @@ fn call_at(frame: &Frame<'_>, met: &Met, k: usize) -> Result<Body, Refusal>
     })
 }
 
-// A token written at `fill`, where there is room for it: the new fill.
+// Writes the token at `fill` and returns the new fill, or refuses if there is no room.
 fn write_token(
     token: Token<'_>,
     really: bool,
@@ -99,7 +99,7 @@ fn write_token(
     Ok(fill + size)
 }
 
-// What is done with the token that is met: the new fill, or the first refusal.
+// Carries out `met.act`. Returns the new fill, or the first refusal.
 // kept: `out` and `fill` are two parameters, since a struct that holds a `&mut` needs a clause on its `ghost_name` in each contract.
 #[cycle(write_act_write_body)]
 fn write_act(
@@ -143,9 +143,9 @@ fn mode_after(act: Act) -> Mode
     }
 }
 
-// A body written out from `from` on: the new fill, or the first refusal. Nothing is written where `really` is false. The place `most` falls at
-// each call: it is the place of the macro whose body it is.
-// kept: `really` is a flag, as the rule on speed has it: measuring and writing are one function that is run twice.
+// Writes a body out from `from` on, or only measures it if `really` is false. Returns the new fill, or the first refusal. `most` falls at
+// each call: in a called body it is the place of the called macro.
+// kept: `really` is a flag because of the rule on speed: measuring and writing are one function that is run twice.
 #[cycle(write_act_write_body)]
 fn write_body(
     frame: &Frame<'_>,
@@ -157,7 +157,7 @@ fn write_body(
     ensures value { result ≡ answer_from (length out.old) from (steps_from frame.now.source.text.now frame.now.source.macros.now frame.now.most frame.now.levels frame.now.reading.list.now frame.now.reading.body Leading frame.now.reading.body.start) }
     ensures out_after { out.new ≡ append out.old from (only really (written_from (length out.old) from (steps_from frame.now.source.text.now frame.now.source.macros.now frame.now.most frame.now.levels frame.now.reading.list.now frame.now.reading.body Leading frame.now.reading.body.start))) }
 {
-    // a copy of its own: a write to `out` then asks for no field to be read again
+    // its own copy, so that no field has to be read again after a write to `out`
     let frame = *frame;
     let reading = frame.reading;
     let callable = Callable {
@@ -167,7 +167,7 @@ fn write_body(
     let mut at = reading.body.start;
     let mut fill = from;
     let mut mode = Mode::Leading;
-    // kept: a call's arguments begin at `next`, so the walk has it at hand, and an iterator over places would work it out again
+    // kept: a call's arguments begin at `next`, which the walk already has; an iterator over places would work it out again
     while at < reading.list.len() {
         let next = record::next(reading.list, at);
         let place = macro_tokens::place_at(&reading, at);
@@ -180,7 +180,7 @@ fn write_body(
     Ok(fill)
 }
 
-// A pass over the token list: a body without parameters, which may call all macros.
+// Makes one pass over the token list, as a body without parameters that may call all macros.
 fn write_all(source: &Source<'_>, really: bool, out: &mut [u8]) -> Result<usize, Refusal>
     requires { (token_layout source.now.text.now ≡ None) × (macro_layout source.now.macros.now ≡ None) }
     ensures value { result ≡ answer_from (length out.old) 0 (written_out source.now.text.now source.now.macros.now) }
@@ -205,7 +205,7 @@ fn write_all(source: &Source<'_>, really: bool, out: &mut [u8]) -> Result<usize,
     write_body(&frame, really, out, 0)
 }
 
-// Refusals 1 and 2, for a buffer of `room` bytes.
+// Checks for refusals 1 and 2; the buffer has `room` bytes.
 fn check(tokens: &[u8], macros: &[u8], room: usize) -> Result<(), Refusal>
     ensures { result ≡ stop_by tokens.now macros.now room }
 {
@@ -217,7 +217,7 @@ fn check(tokens: &[u8], macros: &[u8], room: usize) -> Result<(), Refusal>
     refusal::check_names(1, macro_lookup::first_repeat(&Macros { bytes: macros }))
 }
 
-// The token list with its macros' calls written out, from the start of `out` on, or a refusal, and then no byte changes.
+// Writes the token list, with its calls written out, to the start of `out` and returns the new fill. A refusal changes no byte.
 pub fn write_out(tokens: &[u8], macros: &[u8], out: &mut [u8]) -> Result<u32, Refusal>
     ensures { write_out_outcome tokens.now macros.now out.old ≡ (record { answer = result; out = out.new }) }
 {

@@ -1,4 +1,4 @@
--- What is done with the next token, and the walk by it: one equation for each arm of a loop. Assumes nothing.
+-- What is done with the next token: one equation for each arm of the loop. Assumes nothing.
 use Rattle.std.specs.Prelude.{ℕ, List, Bool, ◌||◌}
 use Rattle.std.proofs.Math.Bool.{true, false}
 use Rattle.lexer.specs.Tokens.{text_of}
@@ -17,7 +17,7 @@ abbrev pub act_by_name : Called → Act
 act_by_name no_macro = write_on Copied
 act_by_name (macro m above) = call m above
 
--- before a line's head, where a Colon follows or not
+-- before a line's head; `colon` says whether a Colon follows
 abbrev pub leading_of : List Macro → (t : List ℕ) → (colon : Bool) → Act
 leading_of macros t colon =
     elim (is_new_line t || is_comment t) [

@@ -1,4 +1,4 @@
--- Writing out token by token: what the next token is met with, and that it is the same as line by line. Assumes nothing.
+-- Writing out token by token: what is done with each token, by where it stands on its line. Assumes nothing.
 use Rattle.std.specs.Prelude.{ℕ, ◌||◌}
 use mathlib.Core.List.{List, [], ◌∷◌, ◌++◌}
 use Rattle.std.proofs.Math.Bool.{true, false}

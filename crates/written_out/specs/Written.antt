@@ -20,8 +20,8 @@ unfoldable pub arguments : List (List ℕ) → List (List ℕ)
 arguments [] = []
 arguments (t ∷ ts) = elim (is_comma t || is_comment t) [ true ↦ arguments ts | false ↦ t ∷ arguments ts ]
 
--- "the body with the arguments put in all at once": each token of the body once, and nothing in what was put in. A Parameter gets the
--- argument that has its number.
+-- "the body with the arguments put in all at once": each token of the body is replaced once, and tokens that were put in are not. A
+-- Parameter becomes the argument with its number.
 abbrev pub put_in : (parameters given : List (List ℕ)) → List ℕ → List ℕ
 put_in parameters given t = elim (is_parameter t) [ true ↦ get_or given (index_of (text_of t 0) parameters) t | false ↦ t ]
 
@@ -29,16 +29,16 @@ put_in parameters given t = elim (is_parameter t) [ true ↦ get_or given (index
 
 pub data Called : Type 0 where
   no_macro : Called
-  -- the macro, and those above it
+  -- the macro, and the macros above it
   macro : Macro → List Macro → Called
 
--- "a Symbol of exactly that name"; the macros that may be called, the last first
+-- "a Symbol of exactly that name": looks through the macros that may be called, the last first
 unfoldable pub called : (name : List ℕ) → List Macro → Called
 unfolding same_bytes
 called name [] = no_macro
 called name (m ∷ above) = elim (same_bytes m.name name) [ true ↦ macro m above | false ↦ called name above ]
 
--- what a call is replaced by: the location of its name, the macro and those above it, the arguments
+-- what replaces a call, from the location of its name, the macro, the macros above it and the arguments
 abbrev pub Replacing : Type 0
 Replacing = Location → Macro → List Macro → List (List ℕ) → List Step
 
@@ -52,7 +52,7 @@ abbrev pub from_head : Replacing → List Macro → List (List ℕ) → List Ste
 from_head replace macros [] = []
 from_head replace macros (t ∷ ts) = elim (is_symbol t) [ true ↦ replaced_by_name replace (called (text_of t 0) macros) t ts | false ↦ map write (t ∷ ts) ]
 
--- "up to NewLine or the end": the NewLine stays, and so does what is before the head
+-- "up to NewLine or the end": the NewLine stays, and so do the tokens before the head
 unfoldable pub line_steps : Replacing → List Macro → Line → List Step
 unfolding leads called arguments
 line_steps replace macros l = map write (take (leads l.tokens) l.tokens) ++ from_head replace macros (drop (leads l.tokens) l.tokens) ++ map write l.end
@@ -66,7 +66,7 @@ lines_steps replace macros (l ∷ ls) = line_steps replace macros l ++ lines_ste
 abbrev pub counted : Location → Macro → (given : List (List ℕ)) → List Step → List Step
 counted l m given steps = elim (eqb (length given) (length m.parameters)) [ true ↦ steps | false ↦ stop (WrongArguments l) ∷ [] ]
 
--- a call where so many levels are left: "replaced by the body with the arguments put in ..., then read for calls" of those above
+-- a call with `levels` levels left: "replaced by the body with the arguments put in ..., then read for calls" of the macros above
 unfoldable pub replaced : (levels : ℕ) → Replacing
 unfolding lines_steps lines index_of
 replaced zero l m above given = counted l m given (stop (NinthLevel l) ∷ [])

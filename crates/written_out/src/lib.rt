@@ -1,7 +1,7 @@
-// What writing macros out answers, and the definition of the whole call. This crate has types and no functions.
+// What writing macros out answers, and the definition of the whole call. This crate has a type and no functions.
 #![tactic(auto)]
 
-// Where on its line the next token stands: before the head, at a label's Colon, behind a head that is no call, behind a call's name.
+// Where on its line the next token stands: before the head, at a label's Colon, after a head that is not a call, or after a call's name.
 #[derive(Clone, Copy)]
 pub enum Mode {
     Leading,
