@@ -16,6 +16,14 @@ use patching_outcome::{PatchCounts, Progress, StepAnswer, Stepped};
 use refusal::Refusal;
 use regions::Regions;
 
+// What the parts of a step use besides the lent lists: the job, the labels and the entry's address.
+#[derive(Clone, Copy)]
+struct Setup<'a> {
+    job: Job,
+    labels: &'a LabelTable<'a>,
+    entry: u32,
+}
+
 // Puts four bytes back where the pending at `at` is patched, unless they would run past its region's data.
 fn put_back_one(regions: &mut [u8], fill: usize, pending: &[u8], at: usize, bytes: &[u8])
     requires { FilledRegions fill regions.old × PatchAt (take fill regions.old) pending.now at × (length bytes.now ≡ 4) }
@@ -58,8 +66,7 @@ fn now_at(counts: PatchCounts, patches: u32, state: u32) -> PatchCounts
 // kept: the lists and the counts are separate parameters, here and in the calls above. A struct would hold two mutably borrowed lists, and each
 // contract would also have to say that they are still the same lists.
 fn patch_next(
-    job: Job,
-    labels: &LabelTable<'_>,
+    setup: Setup<'_>,
     counts: PatchCounts,
     regions: &mut [u8],
     pending: &[u8],
@@ -68,7 +75,7 @@ fn patch_next(
 ) -> Stepped
     requires lists { StepLists regions.old pending.now kept.old counts }
     requires in_order { InOrder regions.old pending.now counts order.now × (counts.patches < length order.now) }
-    ensures { StepsTo (next_at job (table_of labels.now.list) (get_or order.now counts.patches 0)) regions.old pending.now
+    ensures { StepsTo (next_at setup.entry.job (table_of setup.entry.labels.now.list) (get_or order.now counts.patches 0)) regions.old pending.now
         kept.old counts result.answer result.counts regions.new kept.new }
 {
     let fill = counts.regions as usize;
@@ -78,8 +85,8 @@ fn patch_next(
     let patch = pending::read_pending(list, record::widened(order[done]));
     let region = Regions::new(&regions[..fill]).region(patch.region);
     let label = patch.label;
-    let address = patch::get_address(label, list, labels);
-    match patch::check_pending(job, region, patch, address) {
+    let address = patch::get_address(label, list, setup.labels);
+    match patch::check_pending(setup.job, region, patch, address) {
         Err(refusal) => {
             put_back(regions, fill, list, &order[..done], &*kept);
             Stepped {
@@ -101,9 +108,7 @@ fn patch_next(
 
 // Makes a step while patching runs: patches the next pending, or ends if none is left.
 fn running_step(
-    job: Job,
-    labels: &LabelTable<'_>,
-    entry: u32,
+    setup: Setup<'_>,
     counts: PatchCounts,
     regions: &mut [u8],
     pending: &[u8],
@@ -111,24 +116,22 @@ fn running_step(
     order: &[u16],
 ) -> Stepped
     requires { StepLists regions.old pending.now kept.old counts × InOrder regions.old pending.now counts order.now }
-    ensures { StepsTo (running_step job (table_of labels.now.list) entry) regions.old pending.now kept.old counts
+    ensures { StepsTo (running_step setup.entry.job (table_of setup.entry.labels.now.list) setup.entry.entry) regions.old pending.now kept.old counts
         result.answer result.counts regions.new kept.new }
 {
     let done = counts.patches as usize;
     if done >= order.len() {
         return Stepped {
-            answer: Ok(Progress::Ended(entry)),
+            answer: Ok(Progress::Ended(setup.entry)),
             counts: now_at(counts, counts.patches, patching_outcome::ENDED),
         };
     }
-    patch_next(job, labels, counts, regions, pending, kept, order)
+    patch_next(setup, counts, regions, pending, kept, order)
 }
 
 // Answers a step after patching has ended or was refused; `order` and `found` are scratch space.
 fn stopped_step<'a>(
-    job: Job,
-    labels: &LabelTable<'_>,
-    entry: u32,
+    setup: Setup<'a>,
     counts: PatchCounts,
     regions: &[u8],
     pending: &'a [u8],
@@ -137,16 +140,16 @@ fn stopped_step<'a>(
 ) -> StepAnswer
     requires lists { ListsGood regions.now pending.now counts }
     requires most_pendings_in_bounds { (most_pendings ≤ length order.old) × (most_pendings ≤ length found.old) }
-    ensures { Stopped job (table_of labels.now.list) entry regions.now pending.now counts result }
+    ensures { Stopped setup.entry.job (table_of setup.entry.labels.now.list) setup.entry.entry regions.now pending.now counts result }
 {
     if counts.state == patching_outcome::ENDED {
-        return Ok(Progress::Ended(entry));
+        return Ok(Progress::Ended(setup.entry));
     }
     let fill = counts.regions as usize;
     let filled = counts.pending as usize;
-    let patches = Patches::new(labels, &pending[..filled], order, found);
-    patches.check(job, &regions[..fill])?;
-    Ok(Progress::Ended(entry))
+    let patches = Patches::new(setup.labels, &pending[..filled], order, found);
+    patches.check(setup.job, &regions[..fill])?;
+    Ok(Progress::Ended(setup.entry))
 }
 
 // Makes a step of lists that have passed refusals 1 and 2; `found` is scratch space. Refusal 13 changes nothing.
@@ -167,24 +170,18 @@ fn step_with(
     // called for its contract: it says that no two labels share a name and an owner
     let _ = labels.bytes();
     let address = binary_builder::find_entry(labels, entry)?;
+    let setup = Setup {
+        job,
+        labels,
+        entry: address,
+    };
     let mut order = [0u16; binary_builder::MOST_PENDINGS];
     if counts.state == patching_outcome::RUNNING {
         let filled = counts.pending as usize;
         let n = binary_builder::order_patches(&pending[..filled], &mut order, found);
-        return Ok(running_step(
-            job,
-            labels,
-            address,
-            counts,
-            regions,
-            pending,
-            kept,
-            &order[..n],
-        ));
+        return Ok(running_step(setup, counts, regions, pending, kept, &order[..n]));
     }
-    let answer = stopped_step(
-        job, labels, address, counts, &*regions, pending, &mut order, found,
-    );
+    let answer = stopped_step(setup, counts, &*regions, pending, &mut order, found);
     Ok(Stepped { answer, counts })
 }
 

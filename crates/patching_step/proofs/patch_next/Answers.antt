@@ -51,7 +51,7 @@ pub overflow_add-slot : goal.overflow_add-slot
 overflow_add-slot c =
     omega (
       arith,
-      passed c.args.job (table_of c.args.labels.now.list) c.requires.lists c.requires.in_order.0 c.requires.in_order.1 c.widened.ensures c.read_pending-patch.ensures (rw c.new.ensures at c.region-region.ensures)
+      passed c.args.setup.job (table_of c.args.setup.labels.now.list) c.requires.lists c.requires.in_order.0 c.requires.in_order.1 c.widened.ensures c.read_pending-patch.ensures (rw c.new.ensures at c.region-region.ensures)
           c.get_address-address.ensures c.check_pending.ensures c.in-Ok.is,
     )
 
@@ -59,13 +59,13 @@ pub overflow_add-slot-in-Ok : goal.overflow_add-slot-in-Ok
 overflow_add-slot-in-Ok c =
     omega (
       arith,
-      passed c.args.job (table_of c.args.labels.now.list) c.requires.lists c.requires.in_order.0 c.requires.in_order.1 c.widened.ensures c.read_pending-patch.ensures (rw c.new.ensures at c.region-region.ensures)
+      passed c.args.setup.job (table_of c.args.setup.labels.now.list) c.requires.lists c.requires.in_order.0 c.requires.in_order.1 c.widened.ensures c.read_pending-patch.ensures (rw c.new.ensures at c.region-region.ensures)
           c.get_address-address.ensures c.check_pending.ensures c.in-Ok.is,
     )
 
 pub slice_bounds-put_all-end : goal.slice_bounds-put_all-end
 slice_bounds-put_all-end c =
-    let p = passed c.args.job (table_of c.args.labels.now.list) c.requires.lists c.requires.in_order.0 c.requires.in_order.1 c.widened.ensures c.read_pending-patch.ensures (rw c.new.ensures at c.region-region.ensures)
+    let p = passed c.args.setup.job (table_of c.args.setup.labels.now.list) c.requires.lists c.requires.in_order.0 c.requires.in_order.1 c.widened.ensures c.read_pending-patch.ensures (rw c.new.ensures at c.region-region.ensures)
     c.get_address-address.ensures c.check_pending.ensures c.in-Ok.is in
     search rules
 
@@ -73,7 +73,7 @@ pub put_all-requires : goal.put_all-requires
 put_all-requires c =
     omega (
       arith,
-      passed c.args.job (table_of c.args.labels.now.list) c.requires.lists c.requires.in_order.0 c.requires.in_order.1 c.widened.ensures c.read_pending-patch.ensures (rw c.new.ensures at c.region-region.ensures)
+      passed c.args.setup.job (table_of c.args.setup.labels.now.list) c.requires.lists c.requires.in_order.0 c.requires.in_order.1 c.widened.ensures c.read_pending-patch.ensures (rw c.new.ensures at c.region-region.ensures)
           c.get_address-address.ensures c.check_pending.ensures c.in-Ok.is,
       length-take {A = ℕ},
     )
@@ -82,7 +82,7 @@ pub write_pending-requires : goal.write_pending-requires
 write_pending-requires c =
     omega (
       arith,
-      passed c.args.job (table_of c.args.labels.now.list) c.requires.lists c.requires.in_order.0 c.requires.in_order.1 c.widened.ensures c.read_pending-patch.ensures (rw c.new.ensures at c.region-region.ensures)
+      passed c.args.setup.job (table_of c.args.setup.labels.now.list) c.requires.lists c.requires.in_order.0 c.requires.in_order.1 c.widened.ensures c.read_pending-patch.ensures (rw c.new.ensures at c.region-region.ensures)
           c.get_address-address.ensures c.check_pending.ensures c.in-Ok.is,
     )
 
@@ -90,7 +90,7 @@ pub overflow_add-result : goal.overflow_add-result
 overflow_add-result c =
     omega (
       arith,
-      passed c.args.job (table_of c.args.labels.now.list) c.requires.lists c.requires.in_order.0 c.requires.in_order.1 c.widened.ensures c.read_pending-patch.ensures (rw c.new.ensures at c.region-region.ensures)
+      passed c.args.setup.job (table_of c.args.setup.labels.now.list) c.requires.lists c.requires.in_order.0 c.requires.in_order.1 c.widened.ensures c.read_pending-patch.ensures (rw c.new.ensures at c.region-region.ensures)
           c.get_address-address.ensures c.check_pending.ensures c.in-Ok.is,
     )
 
@@ -98,7 +98,7 @@ pub overflow_add-counts : goal.overflow_add-counts
 overflow_add-counts c =
     omega (
       arith,
-      passed c.args.job (table_of c.args.labels.now.list) c.requires.lists c.requires.in_order.0 c.requires.in_order.1 c.widened.ensures c.read_pending-patch.ensures (rw c.new.ensures at c.region-region.ensures)
+      passed c.args.setup.job (table_of c.args.setup.labels.now.list) c.requires.lists c.requires.in_order.0 c.requires.in_order.1 c.widened.ensures c.read_pending-patch.ensures (rw c.new.ensures at c.region-region.ensures)
           c.get_address-address.ensures c.check_pending.ensures c.in-Ok.is,
     )
 
@@ -106,7 +106,7 @@ pub returns-in-Err : goal.returns-in-Err
 returns-in-Err c =
     let a = c.args in
     let read = c.read_pending-patch.ensures ∙ ap (pending_at (filled_pendings a.pending.now a.counts)) c.widened.ensures in
-    next_stops a.job (table_of a.labels.now.list) a.regions.now a.pending.now a.kept.now a.counts (get_or a.order.now a.counts.patches 0) c.read_pending-patch.result
+    next_stops a.setup.job (table_of a.setup.labels.now.list) a.regions.now a.pending.now a.kept.now a.counts (get_or a.order.now a.counts.patches 0) c.read_pending-patch.result
     c.region-region.result c.get_address-address.result read (rw c.new.ensures at c.region-region.ensures) c.get_address-address.ensures a.order.now c.requires.in_order.0 _
     c.check_pending.result c.check_pending.ensures c.in-Err.is _ c.put_back.ensures _ c.now_at.ensures
 
@@ -115,6 +115,6 @@ returns-in-Ok c =
     let a = c.args in
     let read = c.read_pending-patch.ensures ∙ ap (pending_at (filled_pendings a.pending.now a.counts)) c.widened.ensures in
     let i = c.region-region.result.start + c.read_pending-patch.result.offset in
-    next_passes a.job (table_of a.labels.now.list) a.regions.now a.pending.now a.kept.now a.counts (get_or a.order.now a.counts.patches 0) c.read_pending-patch.result
+    next_passes a.setup.job (table_of a.setup.labels.now.list) a.regions.now a.pending.now a.kept.now a.counts (get_or a.order.now a.counts.patches 0) c.read_pending-patch.result
     c.region-region.result c.get_address-address.result read (rw c.new.ensures at c.region-region.ensures) c.get_address-address.ensures c.check_pending.result c.check_pending.ensures
     c.in-Ok.is _ c.write_pending.ensures _ (c.put_all.ensures ∙ ap (λ (m : ℕ). append a.kept.now (4 * a.counts.patches) (take m (drop i a.regions.now))) (four i)) _ c.now_at-in-Ok.ensures
