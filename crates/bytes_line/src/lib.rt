@@ -4,12 +4,12 @@
 ghost use Rattle.std.specs.Prelude.{◌≡◌, ◌++◌, ◌+◌, ◌≤◌, length};
 ghost use Rattle.bytes_line.specs.BytesLine.{bytes_line};
 
-use text::{MOST, Printed};
+use text::Text;
 
 // Appends the line of a buffer. Its name comes with the blank after it.
 #[tactic(auto, unfolding(crate::specs::BytesLine::bytes_line))]
-pub fn push_bytes(out: &mut Printed, name: &[u8], bytes: &[u8])
-    requires { length out.old + length (bytes_line name.now bytes.now) ≤ MOST }
+pub fn push_bytes<const N: usize>(out: &mut Text<N>, name: &[u8], bytes: &[u8])
+    requires { length out.old + length (bytes_line name.now bytes.now) ≤ N }
     ensures { out.new ≡ out.old ++ bytes_line name.now bytes.now }
 {
     out.push(name);

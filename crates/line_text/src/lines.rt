@@ -10,8 +10,8 @@ use text::{MOST, Printed, Text};
 const MOST_FILLS: usize = 69;
 
 // Appends the refusal, if there is one, and the position.
-pub fn put_answer(out: &mut Printed, answer: EmitAnswer)
-    requires { length out.old + length (answer_text answer) ≤ MOST }
+pub fn put_answer<const N: usize>(out: &mut Text<N>, answer: EmitAnswer)
+    requires { length out.old + length (answer_text answer) ≤ N }
     ensures { out.new ≡ out.old ++ answer_text answer }
 {
     match answer {
@@ -36,16 +36,16 @@ fn fills_line(counts: FillCounts) -> Text<MOST_FILLS>
     line
 }
 
-pub fn put_fills(out: &mut Printed, counts: FillCounts)
-    requires { length out.old + length (fills_line counts) ≤ MOST }
+pub fn put_fills<const N: usize>(out: &mut Text<N>, counts: FillCounts)
+    requires { length out.old + length (fills_line counts) ≤ N }
     ensures { out.new ≡ out.old ++ fills_line counts }
 {
     let line = fills_line(counts);
     out.push(line.as_bytes());
 }
 
-fn put_form(out: &mut Printed, form: LoadForm)
-    requires { length out.old + length (loaded_line form) ≤ MOST }
+fn put_form<const N: usize>(out: &mut Text<N>, form: LoadForm)
+    requires { length out.old + length (loaded_line form) ≤ N }
     ensures { out.new ≡ out.old ++ loaded_line form }
 {
     match form {
@@ -58,8 +58,8 @@ fn put_form(out: &mut Printed, form: LoadForm)
 }
 
 // Appends an accepted line's form; nothing for a refused line.
-pub fn put_loaded(out: &mut Printed, answer: EmitAnswer)
-    requires { length out.old + length (loaded_text answer) ≤ MOST }
+pub fn put_loaded<const N: usize>(out: &mut Text<N>, answer: EmitAnswer)
+    requires { length out.old + length (loaded_text answer) ≤ N }
     ensures { out.new ≡ out.old ++ loaded_text answer }
 {
     match answer {
