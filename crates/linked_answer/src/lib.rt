@@ -4,7 +4,7 @@
 ghost use Rattle.std.specs.Prelude.{◌≡◌, ◌*◌, ◌≤◌, pos, length};
 ghost use Rattle.record.specs.Stores.{append};
 ghost use Rattle.refusal.specs.Numbers.{zero_location, numbered};
-ghost use Rattle.linked_answer.specs.Words.{low_word, answer_words, answered_words, words_as_bytes};
+ghost use Rattle.linked_answer.specs.Words.{answer_bytes, low_word, answer_words, answered_words, number_of, words_as_bytes};
 
 use refusal::Refusal;
 
@@ -61,4 +61,13 @@ pub fn store_words(d: &mut [u8], words: &[u32])
     for (i, &word) in words.iter().enumerate() {
         record::put32(&mut *d, 4 * i, word);
     }
+}
+
+// Writes the bytes of the answer's words at the start of `answer`, and returns the answer's number, the first word.
+pub fn store_answer(answer: &mut [u8], words: [u32; 6]) -> u32
+    requires { answer_bytes ≤ length answer.old }
+    ensures { (result ≡ number_of words) × (answer.new ≡ append answer.old 0 (words_as_bytes words)) }
+{
+    store_words(answer, &words[..]);
+    words[0]
 }

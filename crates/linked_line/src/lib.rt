@@ -78,8 +78,7 @@ pub fn do_instruction(
     if counts.len() < COUNTS_BYTES {
         return TOO_SHORT;
     }
-    let held = counts_at(&*counts);
-    let mut filled = held;
+    let mut filled = counts_at(&*counts);
     let given = emit::do_job(
         job,
         &mut filled,
@@ -93,6 +92,5 @@ pub fn do_instruction(
     );
     let words = emitted_words(given);
     put_counts(counts, given, filled);
-    linked_answer::store_words(answer, &words[..]);
-    words[0]
+    linked_answer::store_answer(answer, words)
 }

@@ -17,6 +17,5 @@ pub fn write_out(tokens: &[u8], macros: &[u8], out: &mut [u8], answer: &mut [u8]
     }
     let given = write_out::write_out(tokens, macros, out);
     let words = linked_answer::answered_words(given);
-    linked_answer::store_words(answer, &words[..]);
-    words[0]
+    linked_answer::store_answer(answer, words)
 }

@@ -17,6 +17,5 @@ pub fn lay_out(labels: &[u8], regions: &[u8], page: &mut [u8], answer: &mut [u8]
     }
     let given = page_core::lay_out(labels, regions, page);
     let words = linked_answer::answered_words(given);
-    linked_answer::store_words(answer, &words[..]);
-    words[0]
+    linked_answer::store_answer(answer, words)
 }

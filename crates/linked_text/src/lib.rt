@@ -17,6 +17,5 @@ pub fn read_text(text: &[u8], source: u32, tokens: &mut [u8], answer: &mut [u8])
     }
     let given = text_reader::read_text(text, source, tokens);
     let words = linked_answer::answered_words(given);
-    linked_answer::store_words(answer, &words[..]);
-    words[0]
+    linked_answer::store_answer(answer, words)
 }

@@ -13,5 +13,5 @@ returns-then-counts-lt-COUNTS_BYTES c =
 
 pub returns : goal.returns
 returns c =
-    line_answered_lem _ _ _ _ _ _ _ _ _ (omega arith) (omega arith) c.counts_at-held.ensures c.do_job-given.ensures.outcome_is
-    c.emitted_words-words.ensures c.put_counts.ensures c.store_words.ensures
+    rw (c.store_answer.ensures.0) (line_answered_lem _ _ _ _ _ _ _ _ _ (omega arith) (omega arith) c.counts_at-filled.ensures c.do_job-given.ensures.outcome_is
+    c.emitted_words-words.ensures c.put_counts.ensures c.store_answer.ensures.1)

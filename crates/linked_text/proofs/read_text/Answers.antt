@@ -6,4 +6,4 @@ pub returns-then-answer-lt-ANSWER_BYTES : goal.returns-then-answer-lt-ANSWER_BYT
 returns-then-answer-lt-ANSWER_BYTES c = text_short _ _ _ _ (omega arith)
 
 pub returns : goal.returns
-returns c = text_answered_lem _ _ _ _ (omega arith) c.read_text-given.ensures (c.answered_words-words.ensures ∙ words_are _) c.store_words.ensures
+returns c = rw (c.store_answer.ensures.0) (text_answered_lem _ _ _ _ (omega arith) c.read_text-given.ensures (c.answered_words-words.ensures ∙ words_are _) c.store_answer.ensures.1)
