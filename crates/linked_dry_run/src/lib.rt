@@ -60,6 +60,5 @@ pub fn dry_run(
     let left = run.machine;
     let words = run_words(given, left.pc);
     put_registers(registers, given, left);
-    linked_answer::store_words(answer, &words[..]);
-    words[0]
+    linked_answer::store_answer(answer, words)
 }

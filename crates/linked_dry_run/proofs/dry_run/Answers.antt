@@ -15,6 +15,6 @@ returns-then-registers-lt-REGISTER_BYTES c =
 pub returns : goal.returns
 returns c =
     let a = c.args in
-    run_answered_lem _ _ _ _ _ (omega arith) (omega arith)
+    rw (c.store_answer.ensures.0) (run_answered_lem _ _ _ _ _ (omega arith) (omega arith)
     (c.dry_run-run.ensures ∙ ap (λ (g : List ℕ). dry_run_outcome a.regions.now (record { pc = a.pc; registers = g }) a.allowance) c.registers_in-held.ensures)
-    c.run_words-words.ensures c.put_registers.ensures c.store_words.ensures
+    c.run_words-words.ensures c.put_registers.ensures c.store_answer.ensures.1)
