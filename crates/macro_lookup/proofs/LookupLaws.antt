@@ -7,7 +7,7 @@ use Rattle.record.specs.Bytes.{part, same_bytes}
 use Rattle.record.specs.Records.{body_len, kind_at, next, whole, places, places_from, first_bad, limit}
 use Rattle.record.proofs.RecordsLaws.{layout_from, places_all, places_step, places_cut, places_end, whole_is, good_ok, good_next, limit_good}
 use Rattle.macros.specs.Macros.{name_at, name_ok, macro_of, macro_ok, body_at, macro_at_ok, macro_layout}
-use Rattle.macros.proofs.LayoutLaws.{parts_of}
+use Rattle.macros.proofs.LayoutLaws.{parts_of, body_part}
 use Rattle.written_out.specs.Above.{macro_at, above, Found}
 use Rattle.written_out.proofs.AboveLaws.{Reached, reached_first, reached_next, found_first, found_here, found_next, found_last, above_min}
 use Rattle.macro_lookup.specs.Lookup.{MacroIs, CalleeIs}
@@ -154,6 +154,10 @@ unfolding macro_of
 name_of s at e h =
     let k : e - (at + 4) ≡ body_len s at = omega arith in
     ap (λ (n : ℕ). name_at (part s (at + 4) n) 0) k
+
+-- the same of the macro's bytes
+pub name_in : (s : List ℕ) (at : ℕ) (b : List ℕ) → b ≡ body_at s at → name_at b 0 ≡ (macro_at s at).name
+name_in s at b e = ap (λ (x : List ℕ). name_at x 0) (e ∙ sym (body_part s at (next s at) refl)) ∙ name_of s at (next s at) refl
 
 pub name_ok_of : (s : List ℕ) (at e : ℕ) → e ≡ next s at → MacroIs s at → name_ok (part s (at + 4) (e - (at + 4))) 0 ≡ true
 name_ok_of s at e h m =

@@ -5,7 +5,7 @@ ghost use Rattle.std.specs.Prelude.{◌≡◌, true, ◌≤◌, length};
 ghost use Rattle.record.specs.Bytes.{same_bytes};
 ghost use Rattle.record.specs.Records.{places};
 ghost use Rattle.name_index.specs.Index.{IndexOf};
-ghost use Rattle.macros.specs.Macros.{name_at, name_ok, body_at, macro_at_ok, macro_repeat};
+ghost use Rattle.macros.specs.Macros.{name_at, name_ok, macro_repeat};
 ghost use Rattle.macro_lookup.specs.Lookup.{CalleeIs};
 
 use macros::Macros;
@@ -23,7 +23,7 @@ fn is_named(list: &[u8], name: &[u8]) -> bool
     requires { name_ok list.now 0 ≡ true }
     ensures { result ≡ same_bytes (name_at list.now 0) name.now }
 {
-    let end = 1 + record::wide(list[0]);
+    let end = macros::behind_name(list, 0);
     record::same(&list[1..end], name)
 }
 
@@ -35,21 +35,11 @@ pub fn callee(macros: &Macros<'_>, limit: usize, name: &[u8]) -> usize
     let macros = macros.bytes;
     let mut found = limit;
     for at in record::places(&macros[..limit]) {
-        let next = record::next(macros, at);
-        if is_named(&macros[at + 4..next], name) {
+        if is_named(macros::body_at(macros, at), name) {
             found = at;
         }
     }
     found
-}
-
-// Returns the bytes of the macro at `at`.
-fn body_at(macros: &[u8], at: usize) -> &[u8]
-    requires { macro_at_ok macros.now at ≡ true }
-    ensures { result.now ≡ body_at macros.now at }
-{
-    let end = record::next(macros, at);
-    &macros[at + 4..end]
 }
 
 // Whether two macros, given as bytes, have the same name.
@@ -57,7 +47,7 @@ fn same_name(list: &[u8], other: &[u8]) -> bool
     requires { (name_ok list.now 0 ≡ true) × (name_ok other.now 0 ≡ true) }
     ensures { result ≡ same_bytes (name_at list.now 0) (name_at other.now 0) }
 {
-    let end = 1 + record::wide(other[0]);
+    let end = macros::behind_name(other, 0);
     is_named(list, &other[1..end])
 }
 
@@ -72,7 +62,10 @@ fn repeat_in(macros: &Macros<'_>, index: &[u16]) -> Option<usize>
     let mut low = record::widened(first);
     for &other in others {
         let p = record::widened(other);
-        if !same_name(body_at(macros.bytes, p), body_at(macros.bytes, low)) {
+        if !same_name(
+            macros::body_at(macros.bytes, p),
+            macros::body_at(macros.bytes, low),
+        ) {
             low = p;
         } else if p < low {
             best = Some(best.unwrap_or(low).min(low));

@@ -4,9 +4,10 @@
 ghost use Rattle.std.proofs.Props.{props};
 ghost use Rattle.std.specs.Prelude.{◌≡◌, true, None, map, ◌+◌, ◌≤◌, ◌<◌, length};
 ghost use Rattle.record.specs.Bytes.{all};
+ghost use Rattle.record.specs.Records.{whole};
 ghost use Rattle.lexer.specs.Tokens.{TokenIs, token_layout};
 ghost use Rattle.line_heads.specs.Lines.{record_at, records_of};
-ghost use Rattle.macros.specs.Macros.{name_at, behind_name, name_ok, name_places, behind_names, index_of, different, knows, known, macro_ok, macro_at_ok, macro_layout, head_of};
+ghost use Rattle.macros.specs.Macros.{name_at, behind_name, name_ok, name_places, behind_names, index_of, different, knows, known, macro_ok, body_at, macro_at_ok, macro_layout, head_of};
 
 mod walk;
 
@@ -17,7 +18,7 @@ const PARAMETER: usize = lexer::PARAMETER as usize;
 pub const MOST: usize = 8;
 
 // Returns the place after the name whose length byte is at `at`.
-fn behind_name(list: &[u8], at: usize) -> usize
+pub fn behind_name(list: &[u8], at: usize) -> usize
     requires { at < length list.now }
     ensures { (result ≡ behind_name list.now at) × (at < result) × (result ≤ at + 256) }
 {
@@ -148,6 +149,14 @@ fn macro_ok(list: &[u8]) -> bool
     lexer::first_bad_token(&list[end..]).is_none() && names.know_all(&list[end..])
 }
 
+// Returns the body of the record at `at`: a macro's bytes.
+pub fn body_at(list: &[u8], at: usize) -> &[u8]
+    requires { whole list.now at ≡ true }
+    ensures { result.now ≡ body_at list.now at }
+{
+    &list[at + 4..record::next(list, at)]
+}
+
 // The record kind.
 const MACRO: usize = 40;
 
@@ -161,7 +170,7 @@ impl record::Layout for EachMacro {
     fn keeps(&self, list: &[u8], at: usize) -> bool {
         record::whole_at(list, at)
             && record::half_at(list, at + 2) == MACRO
-            && macro_ok(&list[at + 4..record::next(list, at)])
+            && macro_ok(body_at(list, at))
     }
 }
 

@@ -53,10 +53,10 @@ ok_low c =
     low_ok c.args.macros.now.bytes.now c.args.index.now c.args.macros.now.good c.requires (l.other-index + 1) l.low _ l.invariant.scanned
 
 pub body_at-requires : goal.body_at-requires
-body_at-requires c = ok_here (goal.at.body_at-requires c).After-widened-p
+body_at-requires c = (macro_is _ _ (ok_here (goal.at.body_at-requires c).After-widened-p)).whole_at
 
 pub body_at-requires-in-loop-other : goal.body_at-requires-in-loop-other
-body_at-requires-in-loop-other c = ok_low (goal.at.body_at-requires-in-loop-other c).After-widened-p
+body_at-requires-in-loop-other c = (macro_is _ _ (ok_low (goal.at.body_at-requires-in-loop-other c).After-widened-p)).whole_at
 
 pub same_name-requires : goal.same_name-requires
 same_name-requires c =
