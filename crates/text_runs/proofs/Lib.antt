@@ -1,3 +1,4 @@
+pub mod DigitLaws
 pub mod LeadingLaws
 pub mod NumbersLaws
 pub mod StopLaws

@@ -1,10 +1,10 @@
 // Reads what a text begins with: letters and digits, printable bytes, or a number.
 #![tactic(auto)]
 
-ghost use Rattle.std.specs.Prelude.{◌≡◌, ◌<◌, ◌≤◌, MatchOption, length};
+ghost use Rattle.std.specs.Prelude.{◌≡◌, ◌<◌, ◌≤◌, length};
 ghost use Rattle.byte_class.specs.Class.{word_byte};
 ghost use Rattle.text_runs.specs.Leading.{leading, plain};
-ghost use Rattle.text_runs.specs.Numbers.{digit_value, number_in};
+ghost use Rattle.text_runs.specs.Numbers.{number_in};
 
 use byte_class::ByteClasses;
 
@@ -26,21 +26,6 @@ pub fn text_len(text: &[u8], end: u8) -> usize
         .unwrap_or(text.len())
 }
 
-// Returns the value of a digit below `base`, upper or lower case; none for any other byte.
-#[tactic(auto, unfolding(crate::specs::Numbers::digit_value))]
-fn digit_below(base: u64, byte: u8) -> Option<u64>
-    requires { base ≤ 16 }
-    ensures { MatchOption result (base ≤ digit_value byte) (λ d. (d ≡ digit_value byte) × (d < base)) }
-{
-    let value = u64::from(match byte {
-        b'0'..=b'9' => byte - b'0',
-        b'a'..=b'f' => byte - b'a' + 10,
-        b'A'..=b'F' => byte - b'A' + 10,
-        _ => return None,
-    });
-    if value < base { Some(value) } else { None }
-}
-
 // Reads the digits below `base` that the text begins with. Returns their value and how many they are; none if the value is over 64 bits.
 pub fn number_in(text: &[u8], base: u64) -> Option<(u64, usize)>
     requires { (1 < base) × (base ≤ 16) }
@@ -48,10 +33,10 @@ pub fn number_in(text: &[u8], base: u64) -> Option<(u64, usize)>
 {
     let mut value: u64 = 0;
     for (i, byte) in text.iter().enumerate() {
-        let Some(digit) = digit_below(base, *byte) else {
+        let Some(digit) = char::from(*byte).to_digit(base as u32) else {
             return Some((value, i));
         };
-        value = value.checked_mul(base)?.checked_add(digit)?;
+        value = value.checked_mul(base)?.checked_add(u64::from(digit))?;
     }
     Some((value, text.len()))
 }
