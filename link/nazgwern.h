@@ -129,8 +129,9 @@
         920  nazgwern_read_text
         648  nazgwern_dry_run
 
-   Of nazgwern_find_label and nazgwern_count_forms it was not measured. The code may also use the 128
-   bytes below its stack pointer, as the x86-64 convention allows. */
+   Of nazgwern_find_label and nazgwern_count_forms it was not measured. Where a call sorts names
+   the figure may have moved since: docs/LINKING.md says of which library they are. The code may
+   also use the 128 bytes below its stack pointer, as the x86-64 convention allows. */
 #ifndef NAZGWERN_H
 #define NAZGWERN_H
 
