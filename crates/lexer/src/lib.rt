@@ -7,7 +7,7 @@ ghost use Rattle.std.specs.Float.{binary64};
 ghost use Rattle.record.specs.Bytes.{part, is_text, all};
 ghost use Rattle.record.specs.Records.{body_len, kind_at, next};
 ghost use Rattle.lexer.specs.Tokens.{payload_of, payload_ok, token_ok, TokenIs, token_layout, token_at, strip};
-ghost use Rattle.lexer.specs.Views.{as_integer};
+ghost use Rattle.lexer.specs.Views.{as_register, as_fp_register, as_integer, as_symbol};
 
 use record::Location;
 use registers::{FPRegisterSlot, RegisterSlot};
@@ -225,12 +225,42 @@ pub fn strip(kind: TokenKind) -> u8
     }
 }
 
+// Returns the slot of a general register; None for another kind.
+pub fn as_register(kind: TokenKind) -> Option<RegisterSlot>
+    ensures { result ≡ as_register kind }
+{
+    match kind {
+        TokenKind::Register(x) => Some(x),
+        _ => None,
+    }
+}
+
+// Returns the slot of a float register; None for another kind.
+pub fn as_fp_register(kind: TokenKind) -> Option<FPRegisterSlot>
+    ensures { result ≡ as_fp_register kind }
+{
+    match kind {
+        TokenKind::FPRegister(x) => Some(x),
+        _ => None,
+    }
+}
+
 // Returns the number of an integer literal; None for another kind.
 pub fn as_integer(kind: TokenKind) -> Option<u64>
     ensures { result ≡ as_integer kind }
 {
     match kind {
         TokenKind::IntegerLiteral(x) => Some(x),
+        _ => None,
+    }
+}
+
+// Returns where a symbol's text stands; None for another kind.
+pub fn as_symbol(kind: TokenKind) -> Option<Text>
+    ensures { result ≡ as_symbol kind }
+{
+    match kind {
+        TokenKind::Symbol(x) => Some(x),
         _ => None,
     }
 }
