@@ -4,7 +4,7 @@
 ghost use Rattle.std.specs.Prelude.{◌≡◌, ◌+◌, ◌*◌, ◌^◌, ◌≤◌, length};
 ghost use Rattle.record.specs.Stores.{append};
 ghost use Rattle.breakpoints.specs.BreakpointBytes.{breakpoint_bytes};
-ghost use Rattle.breakpoints.specs.Breakpoints.{breakpoint_ok, filled_layout, pending_buffer_layout, breakpoint_buffer_layout, data_buffer_layout};
+ghost use Rattle.breakpoints.specs.Breakpoints.{breakpoint_ok, filled_layout, pending_buffer_layout, breakpoint_buffer_layout, region_number_ok, data_buffer_layout};
 
 use record::Location;
 
@@ -57,11 +57,19 @@ pub fn check_breakpoint_buffer(buffer: &[u8], fill: usize) -> Option<usize>
     filled(buffer, fill).or_else(|| record::first_bad(&Breakpoints, &buffer[..fill]))
 }
 
+// "The selected number is 0 to 15, or 65535 for none."
+pub fn region_number_ok(region: u16) -> bool
+    ensures { result ≡ region_number_ok region }
+{
+    region <= 15 || region == 65535
+}
+
 // Checks the region's number, then the data's length and fill count. A bad number gives place 0.
+#[tactic(auto, unfolding(crate::specs::Breakpoints::data_buffer_layout))]
 pub fn check_data_buffer(buffer: &[u8], fill: usize, region: u16) -> Option<usize>
     ensures { result ≡ data_buffer_layout region fill buffer.now }
 {
-    if region > 15 && region != 65535 {
+    if !region_number_ok(region) {
         return Some(0);
     }
     filled(buffer, fill)
