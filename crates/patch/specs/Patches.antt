@@ -33,6 +33,11 @@ unfoldable pub destination : (labels : Table) (s : List ℕ) → AddressLabel �
 destination labels s (Constant value) = Some (wrap32 value)
 destination labels s (Label name) = plus_offset (labels.address name.location.source (part s name.name_at name.name_len)) name.offset
 
+-- the destination, where the name's address is given
+abbrev pub given_destination : AddressLabel → Option ℕ → Option ℕ
+given_destination (Constant value) address = Some (wrap32 value)
+given_destination (Label name) address = plus_offset address name.offset
+
 -- where the name ends in its list
 abbrev pub name_end : AddressLabel → ℕ
 name_end (Constant value) = 0

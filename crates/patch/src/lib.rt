@@ -4,8 +4,8 @@
 ghost use Rattle.std.specs.Prelude.{◌≡◌, ◌+◌, ◌^◌, ◌<◌, ◌≤◌, ◌&&◌, length, nat_le};
 ghost use Rattle.labels.specs.Labels.{table_of};
 ghost use Rattle.jobs.specs.Jobs.{most_back, most_ahead};
-ghost use Rattle.patch.specs.Patches.{destination, plus_offset, name_end, in_range, patched_word, name_location, address_or, patch_stop, write_word};
-ghost use Rattle.patch.specs.Placed.{label_place, placed_destination};
+ghost use Rattle.patch.specs.Patches.{destination, given_destination, name_end, in_range, patched_word, name_location, address_or, patch_stop, write_word};
+ghost use Rattle.patch.specs.Placed.{label_place, address_at, placed_destination};
 ghost use Rattle.patch.specs.Placed.{Placed};
 
 use address_label::AddressLabel;
@@ -16,22 +16,36 @@ use record::Location;
 use refusal::Refusal;
 use regions::Region;
 
-// Returns the destination of a constant, or of a name in `list`; None if the name is unknown.
-#[tactic(auto, using(crate::proofs::PatchesLaws::destination_label), unfolding(crate::specs::Patches::destination))]
-pub fn get_address(label: AddressLabel, list: &[u8], labels: &LabelTable<'_>) -> Option<u32>
-    requires { name_end label ≤ length list.now }
-    ensures { result ≡ destination (table_of labels.now.list) list.now label }
+// Returns a constant's low 32 bits, or a name's address plus its offset. "The sum wraps at 2^32."
+#[tactic(auto, using(crate::proofs::PatchesLaws::wrapped_offset))]
+fn given_destination(label: AddressLabel, address: Option<u32>) -> Option<u32>
+    ensures { result ≡ given_destination label address }
 {
     match label {
         AddressLabel::Constant(value) => Some((value % 0x1_0000_0000) as u32),
         AddressLabel::Label(name) => {
-            let at = name.name_at;
-            let end = at + name.name_len;
             let offset = (name.offset % 0x1_0000_0000) as u32;
-            let found = labels.get(name.location.source, &list[at..end]);
-            plus_offset(found.address, offset)
+            address.map(|value| value.wrapping_add(offset))
         }
     }
+}
+
+// Returns the destination of a constant, or of a name in `list`; None if the name is unknown.
+#[tactic(auto, unfolding(crate::specs::Patches::destination))]
+pub fn get_address(label: AddressLabel, list: &[u8], labels: &LabelTable<'_>) -> Option<u32>
+    requires { name_end label ≤ length list.now }
+    ensures { result ≡ destination (table_of labels.now.list) list.now label }
+{
+    let address = match label {
+        AddressLabel::Constant(_) => None,
+        AddressLabel::Label(name) => {
+            let at = name.name_at;
+            let end = at + name.name_len;
+            let found = labels.get(name.location.source, &list[at..end]);
+            found.address
+        }
+    };
+    given_destination(label, address)
 }
 
 // Returns the place of the label that a name in `list` resolves to, or `NO_PLACE`.
@@ -52,29 +66,24 @@ pub fn label_place(label: AddressLabel, list: &[u8], labels: &LabelTable<'_>) ->
 }
 
 // Returns the destination of a constant, or of a name whose label is at `place`; None if that is `NO_PLACE`.
-#[tactic(auto, using(crate::proofs::PlacedLaws::placed_label, crate::proofs::PlacedLaws::address_there), unfolding(crate::specs::Placed::placed_destination))]
+#[tactic(auto, unfolding(crate::specs::Placed::placed_destination))]
 pub fn address_at(label: AddressLabel, labels: &[u8], place: u16) -> Option<u32>
     requires { Placed labels.now place }
     ensures { result ≡ placed_destination labels.now label place }
 {
-    match label {
-        AddressLabel::Constant(value) => Some((value % 0x1_0000_0000) as u32),
-        AddressLabel::Label(name) => {
-            if place == NO_PLACE {
-                return None;
-            }
-            let offset = (name.offset % 0x1_0000_0000) as u32;
-            let address = record::word_at(labels, place as usize + 4);
-            Some(address.wrapping_add(offset))
-        }
-    }
+    given_destination(label, placed_address(labels, place))
 }
 
-// "The sum wraps at 2^32."
-fn plus_offset(address: Option<u32>, offset: u32) -> Option<u32>
-    ensures { result ≡ plus_offset address offset }
+// Returns the address of the label at `place`; None if that is `NO_PLACE`.
+fn placed_address(labels: &[u8], place: u16) -> Option<u32>
+    requires { Placed labels.now place }
+    ensures { result ≡ address_at labels.now place }
 {
-    address.map(|value| value.wrapping_add(offset))
+    if place == NO_PLACE {
+        None
+    } else {
+        Some(record::word_at(labels, usize::from(place) + 4))
+    }
 }
 
 pub fn name_location(label: AddressLabel) -> Location
