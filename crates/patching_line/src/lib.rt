@@ -5,7 +5,6 @@ ghost use Rattle.std.specs.Prelude.{◌≡◌, [], ◌≤◌, ◌<◌, ◌+◌, 
 ghost use Rattle.record.specs.Records.{limit};
 ghost use Rattle.record.specs.Stores.{append, le16_bytes};
 ghost use Rattle.regions.specs.Regions.{region_count};
-ghost use Rattle.breakpoints.specs.Breakpoints.{region_number_ok};
 ghost use Rattle.emit_outcome.specs.Emit.{emit_outcome};
 ghost use Rattle.patching_outcome.specs.Patching.{patching_of};
 ghost use Rattle.patching_outcome.specs.Line.{most_words, is_listed, is_late, late_refusal, late_answer};
@@ -29,13 +28,6 @@ struct Line<'a> {
     region: u16,
 }
 
-// "0 to 15, or 65535 for none"
-fn number_ok(region: u16) -> bool
-    ensures { result ≡ region_number_ok region }
-{
-    region <= 15 || region == emit_outcome::NO_REGION
-}
-
 // Whether the list has a region of this number, or no region is selected.
 fn is_listed(regions: &Regions<'_>, region: u16) -> bool
     ensures { result ≡ is_listed regions.now region }
@@ -50,7 +42,7 @@ fn is_listed(regions: &Regions<'_>, region: u16) -> bool
 fn check_listed(buffer: &[u8], fill: usize, region: u16) -> Option<usize>
     ensures { result ≡ listed_in region fill buffer.now }
 {
-    if !number_ok(region) {
+    if !breakpoints::region_number_ok(region) {
         return Some(0);
     }
     patching_checks::check_regions(buffer, fill).or_else(|| {

@@ -14,4 +14,4 @@ returns c =
     let a = c.args in
     let good : c.check_regions.result ≡ None → c.or_else.result ≡ only_listed (is_listed (take a.fill a.buffer.now) a.region) None = λ e. search rules in
     let bad : (p : ℕ) → c.check_regions.result ≡ Some p → c.or_else.result ≡ Some p = λ p e. search rules in
-    listed_or a.region a.fill a.buffer.now (sym c.number_ok.ensures ∙ c.if-not-number_ok.false) _ _ c.check_regions.ensures good bad
+    listed_or a.region a.fill a.buffer.now (sym c.region_number_ok.ensures ∙ c.if-not-region_number_ok.false) _ _ c.check_regions.ensures good bad
