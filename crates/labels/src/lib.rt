@@ -94,6 +94,7 @@ impl<'a> LabelTable<'a> {
         requires { (label_layout index.list ≡ None) × (label_repeat index.list ≡ None) }
         ensures { result ≡ index.entry }
     {
+        // called for its contract: the order is an index of the list's names
         let _ = index.order();
         LabelTable { index }
     }
@@ -151,6 +152,7 @@ impl<'a> LabelTable<'a> {
         ensures found { result ≡ labelled self.now.list source name.now }
         ensures within { ForSome result (λ place. place + 9 ≤ limit) }
     {
+        // borrowed for the table's invariant, which the proof knows where a field is used
         let _ = &self.index;
         self.look_up(source, name).named
     }

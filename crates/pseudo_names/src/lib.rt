@@ -34,9 +34,6 @@ pub enum Pseudo {
     Subiu,
 }
 
-// The names in order, at most ten in each function. Kept: a match on the name's bytes was tried, and its proof did not close, since
-// nothing is known about the bytes where no arm fits.
-
 // Returns the pseudo-instruction with that name, among the names after the first twenty.
 #[tactic(auto, unfolding(crate::specs::PseudoNames::pseudo_in))]
 fn last_pseudo_of(name: &[u8]) -> Option<Pseudo>
@@ -134,7 +131,9 @@ fn later_pseudo_of(name: &[u8]) -> Option<Pseudo>
     last_pseudo_of(name)
 }
 
-// Returns the pseudo-instruction with that name.
+// Returns the pseudo-instruction with that name. The first ten names are compared here, the next ten in `later_pseudo_of` and the others in
+// `last_pseudo_of`. Kept: a match on the name's bytes was tried, and its proof did not close, since nothing is known about the bytes where no
+// arm fits.
 #[tactic(auto, unfolding(crate::specs::PseudoNames::pseudo_in))]
 pub fn pseudo_of(name: &[u8]) -> Option<Pseudo>
     ensures { result ≡ pseudo_of name.now }

@@ -100,7 +100,7 @@ impl record::Layout for RegionLayout {
     }
 }
 
-// Returns the place of the first record that breaks the layout, the end of an empty list, or the limit if the list is longer.
+// Returns the place of the first record that breaks the layout, 0 for an empty list, or the limit if the list is longer.
 #[tactic(auto, using(crate::proofs::RegionsLaws::layout_none, crate::proofs::RegionsLaws::layout_first))]
 pub fn first_bad_region(regions: &[u8]) -> Option<usize>
     ensures { result ≡ region_layout regions.now }
