@@ -173,6 +173,17 @@ then_then Less p q = refl
 then_then Equal p q = refl
 then_then Greater p q = refl
 
+-- what `cmp` says decides, or what is left does
+pub decides : (o p : Ordering) → is_ne o ≡ true → o ≡ then_by o p
+decides Less p f = refl
+decides Equal p f = cc
+decides Greater p f = refl
+
+pub passes : (o p : Ordering) → is_ne o ≡ false → then_by o p ≡ p
+passes Less p f = cc
+passes Equal p f = refl
+passes Greater p f = cc
+
 -- one byte more
 pub joined : (x y u v : ℕ) → u < 256 → v < 256 → numbers (x * 256 + u) (y * 256 + v) ≡ then_by (numbers x y) (numbers u v)
 joined x y u v a b =
@@ -241,16 +252,6 @@ module _ (a b x y r s : List ℕ) (p : IsSplit a x r) (q : IsSplit b y s) (bx : 
   -- what `cmp` says of eight bytes decides, or what is left does
   pub eight_differ : (o : Ordering) → o ≡ nat_cmp (high_first x 0) (high_first y 0) → is_ne o ≡ true → o ≡ order a b
   eight_differ o e f = decides o (order r s) f ∙ sym (split ∙ ap (λ (o : Ordering). then_by o (order r s)) (sym (e ∙ numbers_cmp (high_first x 0) (high_first y 0))))
-    where
-      decides : (o p : Ordering) → is_ne o ≡ true → o ≡ then_by o p
-      decides Less p f = refl
-      decides Equal p f = cc
-      decides Greater p f = refl
 
   pub eight_same : (o : Ordering) → o ≡ nat_cmp (high_first x 0) (high_first y 0) → is_ne o ≡ false → order a b ≡ order r s
   eight_same o e f = split ∙ ap (λ (o : Ordering). then_by o (order r s)) (sym (e ∙ numbers_cmp (high_first x 0) (high_first y 0))) ∙ passes o (order r s) f
-    where
-      passes : (o p : Ordering) → is_ne o ≡ false → then_by o p ≡ p
-      passes Less p f = cc
-      passes Equal p f = refl
-      passes Greater p f = cc

@@ -14,6 +14,19 @@ fn high_first(s: &[u8; 8]) -> u64
     u64::from_be_bytes(*s)
 }
 
+// Compares two names byte by byte. For fewer than eight bytes this is quicker than the library's call.
+fn compare_bytes(a: &[u8], b: &[u8]) -> Ordering
+    ensures { result ≡ order a.now b.now }
+{
+    for (x, y) in a.iter().zip(b) {
+        let found = x.cmp(y);
+        if found.is_ne() {
+            return found;
+        }
+    }
+    a.len().cmp(&b.len())
+}
+
 // Compares two names by the first byte in which they differ; a prefix goes first. Reads eight bytes at a time, as names often begin alike.
 pub fn compare(a: &[u8], b: &[u8]) -> Ordering
     ensures { result ≡ order a.now b.now }
@@ -30,7 +43,7 @@ pub fn compare(a: &[u8], b: &[u8]) -> Ordering
         a = a_rest;
         b = b_rest;
     }
-    a.cmp(b)
+    compare_bytes(a, b)
 }
 
 pub fn compare_numbers(x: u32, y: u32) -> Ordering
