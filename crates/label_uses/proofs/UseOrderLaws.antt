@@ -2,7 +2,7 @@
 use Rattle.std.specs.Prelude.{ℕ, List, [], ◌⊎◌, Bool, true, false, ◌≡◌, refl}
 use Rattle.std.proofs.Common.{arith, inl, inr, ⊎_elim, sym, ap, ap₂, ◌∙◌}
 use Rattle.name_order.specs.Order.{then_by, numbers, order, Key, key_order}
-use Rattle.name_order.proofs.OrderLaws.{turned, key_same, key_is, key_turned, key_trans}
+use Rattle.name_order.proofs.OrderLaws.{turned, then_same, then_less, then_turned, key_same, key_is, key_turned, key_trans}
 use Rattle.label_uses.specs.Uses.{is_known, kept_of, UseKey, known_order, use_order}
 use Rattle.label_uses.specs.ReadUse.{standing_read}
 use Rattle.label_uses.specs.declared.Standing.{Standing}
@@ -24,21 +24,6 @@ then_none : (o : Ordering) → then_by o Equal ≡ o
 then_none Less = refl
 then_none Equal = refl
 then_none Greater = refl
-
-then_same : (o p : Ordering) → then_by o p ≡ Equal → (o ≡ Equal) × (p ≡ Equal)
-then_same Less p e = never (cc)
-then_same Equal p e = (refl, e)
-then_same Greater p e = never (cc)
-
-then_less : (o p : Ordering) → then_by o p ≡ Less → (o ≡ Less) ⊎ ((o ≡ Equal) × (p ≡ Less))
-then_less Less p e = inl refl
-then_less Equal p e = inr (refl, e)
-then_less Greater p e = never (cc)
-
-then_turned : (o p : Ordering) → then_by (turned o) (turned p) ≡ turned (then_by o p)
-then_turned Less p = refl
-then_turned Equal p = refl
-then_turned Greater p = refl
 
 -- names, from names with owners that are all 0
 abbrev no_owner : List ℕ → Key

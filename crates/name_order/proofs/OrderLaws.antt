@@ -59,17 +59,17 @@ numbers_turned x y =
     (ways x y)
 
 -- ---- one after the other
-then_same : (o p : Ordering) → then_by o p ≡ Equal → (o ≡ Equal) × (p ≡ Equal)
+pub then_same : (o p : Ordering) → then_by o p ≡ Equal → (o ≡ Equal) × (p ≡ Equal)
 then_same Less p e = never (cc)
 then_same Equal p e = (refl, e)
 then_same Greater p e = never (cc)
 
-then_less : (o p : Ordering) → then_by o p ≡ Less → (o ≡ Less) ⊎ ((o ≡ Equal) × (p ≡ Less))
+pub then_less : (o p : Ordering) → then_by o p ≡ Less → (o ≡ Less) ⊎ ((o ≡ Equal) × (p ≡ Less))
 then_less Less p e = inl refl
 then_less Equal p e = inr (refl, e)
 then_less Greater p e = never (cc)
 
-then_turned : (o p : Ordering) → then_by (turned o) (turned p) ≡ turned (then_by o p)
+pub then_turned : (o p : Ordering) → then_by (turned o) (turned p) ≡ turned (then_by o p)
 then_turned Less p = refl
 then_turned Equal p = refl
 then_turned Greater p = refl
