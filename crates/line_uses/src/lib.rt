@@ -59,6 +59,7 @@ impl<'a> Line<'a> {
     }
 
     // Whether the word waits for a name with this key.
+    // kept: a `match` here and in `pair_growth`; a closure that is passed to `is_some_and` or `map_or` and calls a method of `self` ensures nothing.
     fn pair_has(&self, waits: Option<InstructionLabel>, key: &Key<'_>) -> bool
         ensures { result ≡ pair_has self.now.labels self.now.names key.now waits }
     {
@@ -69,16 +70,10 @@ impl<'a> Line<'a> {
     }
 
     // Whether one of the words in `before` waits for a name with this key.
-    #[tactic(auto, using(crate::proofs::HasLaws::among_hit, crate::proofs::HasLaws::among_pass, crate::proofs::HasLaws::among_end))]
     fn among(&self, before: &[InstructionPair], key: &Key<'_>) -> bool
         ensures { result ≡ key_among self.now.labels self.now.names key.now before.now }
     {
-        for pair in before {
-            if self.pair_has(pair.label, key) {
-                return true;
-            }
-        }
-        false
+        before.iter().any(|pair| self.pair_has(pair.label, key))
     }
 
     // Returns how many bytes the use of a label adds to the index, once the words in `before` have added theirs.
