@@ -8,9 +8,5 @@ ghost use Rattle.register_bytes.specs.RegisterBytes.{registers_in};
 pub fn registers_in(bytes: &[u8]) -> [u32; 32]
     ensures { result ≡ registers_in bytes.now }
 {
-    let mut registers = [0u32; 32];
-    for i in 0..32 {
-        registers[i] = input::word_or_zero(bytes, 4 * i);
-    }
-    registers
+    std::array::from_fn(|i| input::word_or_zero(bytes, 4 * i))
 }
