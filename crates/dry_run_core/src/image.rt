@@ -30,6 +30,7 @@ impl<'a> Model for Placed<'a> {
 }
 
 impl<'a> Placed<'a> {
+    // kept: `count` is counted by hand, as it is kept too: with `enumerate` the records would be counted in a second walk.
     pub(crate) fn new(regions: Regions<'a>) -> Self
         ensures { result ≡ image_of regions.entry }
     {
@@ -47,8 +48,7 @@ impl<'a> Placed<'a> {
         ensures { result ≡ fetch self.now pc }
     {
         let list = self.regions.bytes();
-        for at in &self.at[..self.count] {
-            let at = *at;
+        for &at in &self.at[..self.count] {
             let offset = pc.wrapping_sub(record::word_at(list, at + 4)) as usize;
             if offset + 8 <= record::half_at(list, at) {
                 return Some(record::word_at(list, at + 8 + offset));
