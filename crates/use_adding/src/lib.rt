@@ -242,10 +242,9 @@ pub fn order_at(index: &[u8], at: usize, key: &Key<'_>) -> Ordering
     requires { UseAt index.now at }
     ensures { result ≡ use_order key.now (key_read index.now at) }
 {
-    match name_order::compare(key.name, name_at(index, at)) {
-        Ordering::Equal => key.standing.cmp(&standing_at(index, at)),
-        unlike => unlike,
-    }
+    let standing = key.standing;
+    let by_name = name_order::compare(key.name, name_at(index, at));
+    by_name.then_with(|| standing.cmp(&standing_at(index, at)))
 }
 
 // The filled part of an index, for reading.
