@@ -131,6 +131,7 @@ impl<'a, const SKIP: usize> NameIndex<'a, SKIP> {
     }
 
     // Returns the place of the first record that has the owner and name of an earlier one.
+    // kept: a loop over positions; with `filter`, `map` and `min` nothing is known of the generic closure, and its clauses would be longer than the loop.
     pub fn first_repeat(&self) -> Option<usize>
         ensures { result ≡ owned_repeat SKIP self.now.list }
     {
