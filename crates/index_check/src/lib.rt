@@ -130,6 +130,7 @@ impl<'a> Lists<'a> {
     }
 
     // Whether the numbers of the record at `at` rise, and each one's pending has the record's key.
+    // kept: a loop over places in the index, as in `NumbersFrom`; `chunks_exact(2)` knows the bytes that are left, and not their place.
     fn numbers_right(&self, index: &[u8], at: usize) -> bool
         requires { UseAt index.now at }
         ensures { Tells result (NumbersFrom self.now.labels self.now.pending (key_read index.now at) index.now (count_at index.now at) (at + 7) 0) }
