@@ -59,7 +59,7 @@ impl<'a> Line<'a> {
     }
 
     // Whether the word waits for a name with this key.
-    // kept: a `match` here and in `pair_growth`; a closure that is passed to `is_some_and` or `map_or` and calls a method of `self` ensures nothing.
+    // kept: a `match` here and in `pair_growth`; the closure for `is_some_and` or `map_or` holds `self`, and ensures nothing unless its clauses are written out.
     fn pair_has(&self, waits: Option<InstructionLabel>, key: &Key<'_>) -> bool
         ensures { result ≡ pair_has self.now.labels self.now.names key.now waits }
     {
