@@ -1,6 +1,6 @@
 -- Laws of the order of uses: it is irreflexive, transitive and total. Assumes nothing.
-use Rattle.std.specs.Prelude.{ℕ, List, [], ◌⊎◌, Bool, true, false, ◌≡◌, refl}
-use Rattle.std.proofs.Common.{arith, inl, inr, ⊎_elim, sym, ap, ap₂, ◌∙◌}
+use Rattle.std.specs.Prelude.{ℕ, List, [], Bool, true, false, ◌≡◌, refl}
+use Rattle.std.proofs.Common.{arith, ⊎_elim, sym, ap, ap₂, ◌∙◌}
 use Rattle.name_order.specs.Order.{then_by, numbers, order, Key, key_order}
 use Rattle.name_order.proofs.OrderLaws.{turned, then_same, then_less, then_turned, key_same, key_is, key_turned, key_trans}
 use Rattle.label_uses.specs.Uses.{is_known, kept_of, UseKey, known_order, use_order}
