@@ -22,22 +22,17 @@ pub fn do_instruction(
         (lent_of «data».old pending.old breakpoints.old) counts.old place)
         result counts.new (lent_of «data».new pending.new breakpoints.new) }
 {
-    let lists = Lists {
+    do_job(
+        Job::Commit,
+        counts,
         tokens,
         mnemonic,
         descriptors,
-    };
-    let out = emit_core::do_job(
-        Job::Commit,
-        *counts,
-        lists,
         data,
         pending,
         breakpoints,
         place,
-    );
-    *counts = out.counts;
-    out.answer
+    )
 }
 
 // Assembles one line in the given job; updates `counts` if accepted.
