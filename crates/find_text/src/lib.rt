@@ -6,10 +6,10 @@ ghost use Rattle.find_text.specs.FindText.{address_line, found_lines, find_text}
 
 use labels::Found;
 use program::Program;
-use text::{MOST, Printed};
+use text::{Printed, Text};
 
-fn put_address(out: &mut Printed, address: Option<u32>)
-    requires { length out.old + length (address_line address) ≤ MOST }
+fn put_address<const N: usize>(out: &mut Text<N>, address: Option<u32>)
+    requires { length out.old + length (address_line address) ≤ N }
     ensures { out.new ≡ out.old ++ address_line address }
 {
     match address {
@@ -23,17 +23,18 @@ fn put_address(out: &mut Printed, address: Option<u32>)
 }
 
 #[tactic(auto, using(std::proofs::lemmas::Grind::common_steps))]
-fn put_found(out: &mut Printed, found: Found)
-    requires { length out.old + length (found_lines found) ≤ MOST }
+fn put_found<const N: usize>(out: &mut Text<N>, found: Found)
+    requires { length out.old + length (found_lines found) ≤ N }
     ensures { out.new ≡ out.old ++ found_lines found }
 {
     put_address(&mut *out, found.address);
     out.push_number_line(b"compared", found.compared as u64);
 }
 
-// Writes the text for an input: the labels and the name, each after its count, and then the source.
+// Writes the text for an input: the labels and the name, each after its count, and then the source. The text is at most 128 bytes.
 #[tactic(auto, using(text::proofs::TextLaws::refused_most, text::proofs::TextLaws::last_most, crate::proofs::FindTextLaws::address_most, std::proofs::lemmas::Grind::common_steps), unfolding(crate::specs::FindText::find_text))]
-pub fn find_label(input: &[u8], out: &mut Printed)
+pub fn find_label<const N: usize>(input: &[u8], out: &mut Text<N>)
+    requires { 128 ≤ N }
     ensures { out.new ≡ find_text input.now }
 {
     let source = input::word_or_zero(input::behind_lists(input, 2), 0);
