@@ -28,13 +28,11 @@ pub fn do_indexed(
         labels.now index.old counts.old.index)
         result counts.new (lent_of «data».new pending.new breakpoints.new) index.new }
 {
-    let lists = Lists {
+    let out = do_indexed_line(
+        *counts,
         tokens,
         mnemonic,
         descriptors,
-    };
-    let out = indexed_core::do_indexed_job(
-        lists,
         data,
         pending,
         breakpoints,
@@ -42,13 +40,12 @@ pub fn do_indexed(
         index,
         place,
         job,
-        *counts,
     );
     *counts = out.counts;
     out.answer
 }
 
-// The same for a caller that passes the counts by value. Kept: no crate here calls it, but it is public and stays as it was delivered.
+// The same for a caller that passes the counts by value.
 pub fn do_indexed_line(
     counts: IndexedCounts,
     tokens: &[u8],
