@@ -65,8 +65,7 @@ fn call_at(frame: &Frame<'_>, met: &Met, k: usize) -> Result<Body, Refusal>
     ensures { CallIs frame.now.source.text.now frame.now.source.macros.now frame.now.levels k (replaced frame.now.levels (location_at (token_record frame.now.source.text.now frame.now.source.macros.now met.now.place) 4) (macro_at frame.now.source.macros.now k) (above frame.now.source.macros.now k) (arguments_from frame.now.source.text.now frame.now.source.macros.now frame.now.reading.list.now frame.now.reading.body met.now.next)) result }
 {
     let source = &frame.source;
-    let end = record::next(source.macros, k);
-    let head = macros::head_of(&source.macros[k + 4..end]);
+    let head = macros::head_of(macros::body_at(source.macros, k));
     let taken = macro_tokens::arguments_from(source, &frame.reading, met.next);
     let location = macro_tokens::token_at(source, met.place).location();
     call_verdict(location, taken.count, head.count, frame.levels)?;
@@ -121,8 +120,7 @@ fn write_act(
         Act::Pass => Ok(fill),
         Act::Call(k) => {
             let body = call_at(frame, met, k)?;
-            let end = record::next(frame.source.macros, k);
-            let list = &frame.source.macros[k + 4..end];
+            let list = macros::body_at(frame.source.macros, k);
             let called = Frame {
                 source: frame.source,
                 reading: Reading { list, body },

@@ -1,7 +1,9 @@
-use Rattle.std.proofs.Common.{◌≡◌, ℕ, ◌≤◌, ◌<◌, List, length, sym, ap, subst, ◌∙◌, arith}
+use Rattle.std.proofs.Common.{◌≡◌, ℕ, ◌<◌, List, length, sym, ap, subst, ◌∙◌, arith}
 use Rattle.std.proofs.lemmas.Result.{err_from_is_err_and}
+use Rattle.std.specs.Prelude.{true}
 use Rattle.record.specs.Records.{next}
-use Rattle.macros.proofs.LayoutLaws.{body_part}
+use Rattle.macros.specs.Macros.{macro_at_ok}
+use Rattle.macros.proofs.LayoutLaws.{at_whole}
 use Rattle.written_out.specs.declared.Mode.{Mode}
 use Rattle.written_out.specs.declared.Mode.TheVariants.{Leading}
 use Rattle.written_out.specs.Above.{above}
@@ -14,7 +16,6 @@ use Rattle.macro_tokens.proofs.PlacesLaws.{token, read_on, place_in}
 use Rattle.macro_tokens.specs.Meant.{Inside, ActIs}
 use Rattle.write_out.specs.Body.{steps_from, Ready}
 use Rattle.write_out.specs.Calls.{act_steps, mode_after, Acting}
-use Rattle.write_out.proofs.CallsLaws.{inside}
 use Rattle.write_out.proofs.FillLaws.{answer_none, none_left, stop_left}
 use Rattle.write_out.proofs.Same.{same_call, ends_call, ends_all}
 use Rattle.write_out.proofs.Turns.{Turn, turn_in, turn_rest, turn_act, turn_end}
@@ -22,24 +23,19 @@ use Rattle.write_out.proofs.+write_act_write_body.Goals as goal
 
 -- ---- what is done with a token
 
--- the macro that is called stands above, whole in its list
-above_it : {text macros list : List ℕ} {most place n k : ℕ} {b : Body} {act : Act} → Acting text macros most list b place n act → act ≡ Call k → (k < most) × (next macros k ≤ length macros)
-above_it {text} {macros} {list} {most} {place} {n} {k} s e =
-    let i = subst (Inside macros most) e s.inside in
-    (i.0, inside text macros k s.text_small s.macros_good i.1)
+-- the macro that is called stands above, and is one
+above_it : {text macros list : List ℕ} {most place n k : ℕ} {b : Body} {act : Act} → Acting text macros most list b place n act → act ≡ Call k → (k < most) × (macro_at_ok macros k ≡ true)
+above_it {text} {macros} {list} {most} {place} {n} {k} s e = subst (Inside macros most) e s.inside
 
-pub write_act-next-end-requires : goal.write_act-next-end-requires
-write_act-next-end-requires t c = omega (arith, (above_it c.requires.0 c.in-Call.is).1)
-
-pub write_act-slice_bounds-list-end : goal.write_act-slice_bounds-list-end
-write_act-slice_bounds-list-end t c = omega (arith, c.next-end.ensures.0, (above_it c.requires.0 c.in-Call.is).1)
+pub write_act-body_at-list-requires : goal.write_act-body_at-list-requires
+write_act-body_at-list-requires t c = at_whole c.args.frame.now.source.macros.now c.in-Call.k (above_it c.requires.0 c.in-Call.is).1
 
 pub write_act-write_body-requires : goal.write_act-write_body-requires
 write_act-write_body-requires t c = (
   omega (arith, c.decreases, (above_it c.requires.0 c.in-Call.is).0),
   (
     subst (λ (x : List ℕ). Ready c.args.frame.now.source.text.now c.args.frame.now.source.macros.now c.in-Call.k x c.in_ok-body-in-Call.body)
-        (sym (body_part c.args.frame.now.source.macros.now c.in-Call.k c.next-end.result c.next-end.ensures.0)) (c.call_at.ensures.opened _ c.in_ok-body-in-Call.was).ready,
+        (sym c.body_at-list.ensures) (c.call_at.ensures.opened _ c.in_ok-body-in-Call.was).ready,
     c.requires.1,
   ),
 )

@@ -1,9 +1,9 @@
-use Rattle.std.proofs.Common.{◌≡◌, ℕ, ◌+◌, ◌-◌, ◌≤◌, List, length, sym, ap, ap₂, subst, ◌∙◌, arith}
+use Rattle.std.proofs.Common.{◌≡◌, ℕ, ◌+◌, ◌≤◌, List, length, sym, ap, ap₂, subst, ◌∙◌, arith}
 use Rattle.std.proofs.lemmas.Result.{err_from_is_err_and}
-use Rattle.record.specs.Bytes.{part, location_at}
+use Rattle.record.specs.Bytes.{location_at}
 use Rattle.record.specs.declared.Location.{Location}
 use Rattle.macros.specs.Macros.{count_of, macro_ok, body_at, head_of}
-use Rattle.macros.proofs.LayoutLaws.{body_part}
+use Rattle.macros.proofs.LayoutLaws.{at_whole}
 use Rattle.macros.specs.declared.Head.{Head}
 use Rattle.written_out.specs.Written.{Step, replaced}
 use Rattle.written_out.specs.Above.{macro_at, above}
@@ -16,17 +16,12 @@ use Rattle.write_out.proofs.call_at.Goals.{After-call_verdict}
 use Rattle.macro_tokens.specs.declared.Body.{Body}
 use Rattle.refusal.specs.Verdicts.{Verdict}
 
-pub next-end-requires : goal.next-end-requires
-next-end-requires c =
-    omega (arith, inside c.args.frame.now.source.text.now c.args.frame.now.source.macros.now c.args.k c.requires.text_len_bound.0 c.requires.text_len_bound.1 c.requires.text_len_bound.2)
-
-pub slice_bounds-head_of-end : goal.slice_bounds-head_of-end
-slice_bounds-head_of-end c =
-    omega (arith, c.next-end.ensures.0, inside c.args.frame.now.source.text.now c.args.frame.now.source.macros.now c.args.k c.requires.text_len_bound.0 c.requires.text_len_bound.1 c.requires.text_len_bound.2)
+pub body_at-requires : goal.body_at-requires
+body_at-requires c = at_whole c.args.frame.now.source.macros.now c.args.k c.requires.text_len_bound.2
 
 pub head_of-head-requires : goal.head_of-head-requires
 head_of-head-requires c =
-    ap macro_ok (body_part c.args.frame.now.source.macros.now c.args.k c.next-end.result c.next-end.ensures.0) ∙ bytes_ok c.args.frame.now.source.text.now c.args.frame.now.source.macros.now c.args.k c.requires.text_len_bound.0 c.requires.text_len_bound.1 c.requires.text_len_bound.2
+    ap macro_ok c.body_at.ensures ∙ bytes_ok c.args.frame.now.source.text.now c.args.frame.now.source.macros.now c.args.k c.requires.text_len_bound.0 c.requires.text_len_bound.1 c.requires.text_len_bound.2
 
 pub overflow_add-result : goal.overflow_add-result
 overflow_add-result c =
@@ -54,7 +49,7 @@ called c =
     let t = c.arguments_from-taken in
     let hd = c.head_of-head in
     let b = body_at a.frame.now.source.macros.now a.k in
-    let m : part a.frame.now.source.macros.now (a.k + 4) (c.next-end.result - (a.k + 4)) ≡ b = body_part a.frame.now.source.macros.now a.k c.next-end.result c.next-end.ensures.0 in
+    let m = c.body_at.ensures in
     let h : hd.result ≡ head_of b = hd.ensures.0 ∙ ap head_of m in
     let l = location_at (token_record a.frame.now.source.text.now a.frame.now.source.macros.now a.met.now.place) 4 in
     let given = arguments_from a.frame.now.source.text.now a.frame.now.source.macros.now a.frame.now.reading.list.now a.frame.now.reading.body a.met.now.next in
