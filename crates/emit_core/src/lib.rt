@@ -8,7 +8,6 @@ ghost use Rattle.descriptors.specs.Descriptors.{descriptor_layout};
 ghost use Rattle.emit_dispatch.specs.Contract.{LineAs};
 ghost use Rattle.emit_outcome.specs.Dispatch.{meaning, table_line};
 ghost use Rattle.emit_outcome.specs.Call.{lent_of, call_of};
-ghost use Rattle.emit_outcome.specs.Checks.{list_stop};
 ghost use Rattle.emit_outcome.specs.Emit.{emit_outcome};
 ghost use Rattle.emit_outcome.specs.Contract.{EmittedBy};
 ghost use Rattle.emit_checks.specs.Made.{left_by};
@@ -83,37 +82,12 @@ pub fn read_line(job: Job, lists: Lists<'_>, position: u32) -> Result<LineRead, 
     let line = named.location;
     let start = cursor::start(lists.tokens, position as usize);
     let mut cursor = LexerCursor::new(lists.tokens, start);
-    match find_meaning(&descriptors, &named.bytes[..named.len]) {
-        Meaning::Neither => Err(Refusal::UnknownInstruction(line)),
-        Meaning::Table(place) => {
-            let answer = dispatch_instruction(job, &descriptors, place, &mut cursor);
-            Ok(line_read(line, answer, &cursor))
-        }
-        Meaning::Builtin(pseudo) => {
-            let answer = emit_dispatch::dispatch_pseudo(job, pseudo, &mut cursor);
-            Ok(line_read(line, answer, &cursor))
-        }
-    }
-}
-
-// Appends the line, or refuses it with 3 to 12, 19, 20 or 27. The lists have passed the checks of 1 and 2.
-fn emit_named(
-    job: Job,
-    lists: Lists<'_>,
-    data: &mut [u8],
-    pending: &mut [u8],
-    breakpoints: &mut [u8],
-    numbers: LineNumbers,
-) -> Result<Appended, RefusedLine>
-    requires { list_stop lists.tokens.now lists.mnemonic.now lists.descriptors.now (lent_of «data».old pending.old breakpoints.old)
-        numbers.place.region numbers.counts ≡ Ok tt }
-    ensures { emit_outcome job (call_of lists.entry.tokens.now lists.entry.mnemonic.now lists.entry.descriptors.now
-        (lent_of «data».old pending.old breakpoints.old) numbers.counts numbers.place)
-        ≡ left_by numbers.counts result (lent_of «data».new pending.new breakpoints.new) }
-{
-    let position = numbers.place.position;
-    let read = emit_checks::at_position(position, read_line(job, lists, position))?;
-    emit_made::append_or_refuse(lists.tokens, data, pending, breakpoints, numbers, read)
+    let answer = match find_meaning(&descriptors, &named.bytes[..named.len]) {
+        Meaning::Neither => return Err(Refusal::UnknownInstruction(line)),
+        Meaning::Table(place) => dispatch_instruction(job, &descriptors, place, &mut cursor),
+        Meaning::Builtin(pseudo) => emit_dispatch::dispatch_pseudo(job, pseudo, &mut cursor),
+    };
+    Ok(line_read(line, answer, &cursor))
 }
 
 // Appends the line, or refuses it with 1 to 12, 19, 20 or 27.
@@ -139,7 +113,9 @@ fn emit_line(
         numbers.counts,
     );
     emit_checks::at_position(place.position, passed)?;
-    emit_named(job, lists, data, pending, breakpoints, numbers)
+    let line = read_line(job, lists, place.position);
+    let read = emit_checks::at_position(place.position, line)?;
+    emit_made::append_or_refuse(lists.tokens, data, pending, breakpoints, numbers, read)
 }
 
 // Emits the line of one mnemonic, or refuses it and leaves every lent byte and count as it was.
