@@ -2,6 +2,8 @@
 use Rattle.std.specs.Prelude.{ℕ, zero, suc, ◌+◌, ◌-◌, ◌*◌, ◌%◌, ◌^◌, ◌≤◌, ◌<◌, ◌≡◌, refl, List, [], ◌∷◌, ◌++◌, map, true, false, ℤ, pos, negsuc, length, take, get_or}
 use Rattle.std.proofs.Common.{not-suc-le-zero, arith, ap, ◌∙◌}
 use Rattle.std.proofs.lemmas.List.{length-map}
+use Rattle.std.specs.Int.{int_rem_euclid}
+use Rattle.std.specs.Int.RustNames.{unsigned_abs}
 use Rattle.record.specs.Stores.{le32_bytes}
 use Rattle.refusal.specs.Split.{is_negative, size}
 use Rattle.emit_pairs.specs.Pairs.{plain}
@@ -20,6 +22,12 @@ pub low_positive : (z : ℤ) → is_negative z ≡ false → size z % 2 ^ 32 ≡
 unfolding low_word is_negative size
 low_positive (pos n) h = refl
 low_positive (negsuc n) h = let z : ◌≡◌ {A = ℕ} 0 1 = cc in absurd (omega arith)
+
+-- they are what is left over 2 ^ 32, as Rust's `rem_euclid` says it
+pub low_left : (z : ℤ) → unsigned_abs (int_rem_euclid z (pos (2 ^ 32))) ≡ low_word z
+unfolding low_word
+low_left (pos n) = refl
+low_left (negsuc n) = refl
 
 -- ---- words
 word_at : (ws : List ℕ) (i : ℕ) → i < length ws → get_or (map word_of (map plain ws)) i [] ≡ le32_bytes (get_or ws i 0)

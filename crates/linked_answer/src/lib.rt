@@ -14,17 +14,12 @@ pub const ANSWER_BYTES: usize = 24;
 // What a call returns if its answer, or another buffer of fixed length, is too short. No refusal has this number.
 pub const TOO_SHORT: u32 = 0xFFFF_FFFF;
 
-// Returns the number's low 32 bits. Kept as the definition has it, by the sign and the size.
+// Returns the number's low 32 bits.
+// kept: `rem_euclid` before `as`. A cast has to fit its type, so a negative number has no `as u32`.
 fn low_word(a: i64) -> u32
     ensures { result ≡ low_word a }
 {
-    let parts = refusal::split(a);
-    let low = (parts.size % 0x1_0000_0000) as u32;
-    if parts.negative {
-        0xFFFF_FFFF - low
-    } else {
-        low
-    }
+    a.rem_euclid(0x1_0000_0000) as u32
 }
 
 // Returns an accepted call's words.
