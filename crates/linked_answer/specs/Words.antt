@@ -1,6 +1,7 @@
 -- The answer of a linked call: six words. Assumes nothing.
 use Rattle.std.specs.Prelude.{ℕ, ◌-◌, ◌%◌, ◌^◌, List, [], ◌∷◌, map, ℤ, pos, negsuc, get_or, Err, Ok, Result}
 use Rattle.record.specs.declared.Location.{Location}
+use Rattle.record.specs.Stores.{append}
 use Rattle.refusal.specs.Numbers.{zero_location, numbered}
 use Rattle.refusal.specs.declared.Refusal.{Refusal}
 use Rattle.emit_pairs.specs.Pairs.{plain}
@@ -35,3 +36,8 @@ number_of words = get_or words 0 0
 -- each word as four little-endian bytes, like a line's words
 abbrev pub words_as_bytes : List ℕ → List ℕ
 words_as_bytes words = word_bytes (map plain words)
+
+-- a lent buffer that only an accepted call writes: its words at the start
+abbrev pub stored_if : {A E : Type 0} → Result A E → List ℕ → List ℕ → List ℕ
+stored_if (Ok done) words d = append d 0 (words_as_bytes words)
+stored_if (Err refused) words d = d

@@ -4,7 +4,7 @@
 ghost use Rattle.std.specs.Prelude.{◌≡◌, ◌*◌, ◌≤◌, pos, length};
 ghost use Rattle.record.specs.Stores.{append};
 ghost use Rattle.refusal.specs.Numbers.{zero_location, numbered};
-ghost use Rattle.linked_answer.specs.Words.{answer_bytes, low_word, answer_words, answered_words, number_of, words_as_bytes};
+ghost use Rattle.linked_answer.specs.Words.{answer_bytes, low_word, answer_words, answered_words, number_of, words_as_bytes, stored_if};
 
 use refusal::Refusal;
 
@@ -55,6 +55,16 @@ pub fn store_words(d: &mut [u8], words: &[u32])
 {
     for (i, &word) in words.iter().enumerate() {
         record::put32(&mut *d, 4 * i, word);
+    }
+}
+
+// Writes the words' bytes at the start of `d` if the call was accepted. A refused call leaves `d` as it was.
+pub fn store_accepted<A, E>(d: &mut [u8], answer: &Result<A, E>, words: &[u32])
+    requires { 4 * length words.now ≤ length d.old }
+    ensures { d.new ≡ stored_if answer.now words.now d.old }
+{
+    if answer.is_ok() {
+        store_words(d, words);
     }
 }
 

@@ -25,6 +25,5 @@ pub fn build(
     }
     let built = binary_builder::build_for(job, labels, entry, regions, pending);
     let words = linked_answer::answered_words(built);
-    linked_answer::store_words(answer, &words[..]);
-    words[0]
+    linked_answer::store_answer(answer, words)
 }

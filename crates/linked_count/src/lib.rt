@@ -54,6 +54,5 @@ pub fn count_forms(start: u32, end: u32, counts: &mut [u8], answer: &mut [u8]) -
     let given = form_counts::count_forms(start, end);
     let words = counted_words(given);
     put_form_counts(counts, given);
-    linked_answer::store_words(answer, &words[..]);
-    words[0]
+    linked_answer::store_answer(answer, words)
 }

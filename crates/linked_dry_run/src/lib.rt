@@ -26,10 +26,7 @@ fn put_registers(registers: &mut [u8], answer: RunAnswer, machine: Machine)
     requires { register_bytes ≤ length registers.old }
     ensures { registers.new ≡ registers_after answer machine registers.old }
 {
-    if answer.is_ok() {
-        let words = machine.registers;
-        linked_answer::store_words(registers, &words[..]);
-    }
+    linked_answer::store_accepted(registers, &answer, &machine.registers[..]);
 }
 
 // Dry-runs the image or refuses, writes the answer and returns its number: 0 for a run.

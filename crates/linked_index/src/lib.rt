@@ -28,16 +28,14 @@ fn put_counts(counts: &mut [u8], answer: EmitAnswer, filled: IndexedCounts)
     requires { indexed_counts_bytes ≤ length counts.old }
     ensures { counts.new ≡ indexed_counts_after answer filled counts.old }
 {
-    if answer.is_ok() {
-        let three = filled.counts;
-        let words = [
-            three.data_len,
-            three.pending,
-            three.breakpoints,
-            filled.index,
-        ];
-        linked_answer::store_words(counts, &words[..]);
-    }
+    let three = filled.counts;
+    let words = [
+        three.data_len,
+        three.pending,
+        three.breakpoints,
+        filled.index,
+    ];
+    linked_answer::store_accepted(counts, &answer, &words[..]);
 }
 
 // Emits a line and updates the index, or refuses the line. Writes the answer and returns its number: 0 for an accepted line.
@@ -92,8 +90,7 @@ pub fn do_indexed(
     );
     let words = linked_line::emitted_words(given);
     put_counts(counts, given, filled);
-    linked_answer::store_words(answer, &words[..]);
-    words[0]
+    linked_answer::store_answer(answer, words)
 }
 
 // Makes the index of a filled pending buffer from scratch, or refuses. Writes the answer and returns its number: 0 for an index.
@@ -113,6 +110,5 @@ pub fn make_index(
     }
     let given = index_maker::make_index(pending, fill, labels, index);
     let words = linked_answer::answered_words(given);
-    linked_answer::store_words(answer, &words[..]);
-    words[0]
+    linked_answer::store_answer(answer, words)
 }

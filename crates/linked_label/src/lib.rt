@@ -37,6 +37,5 @@ pub fn find_label(labels: &[u8], name: &[u8], source: u32, answer: &mut [u8]) ->
     }
     let given = label_finder::find_label(labels, name, source);
     let words = find_words(given);
-    linked_answer::store_words(answer, &words[..]);
-    words[0]
+    linked_answer::store_answer(answer, words)
 }

@@ -42,10 +42,8 @@ fn put_counts(counts: &mut [u8], answer: EmitAnswer, filled: FillCounts)
     requires { counts_bytes ≤ length counts.old }
     ensures { counts.new ≡ counts_after answer filled counts.old }
 {
-    if answer.is_ok() {
-        let words = [filled.data_len, filled.pending, filled.breakpoints];
-        linked_answer::store_words(counts, &words[..]);
-    }
+    let words = [filled.data_len, filled.pending, filled.breakpoints];
+    linked_answer::store_accepted(counts, &answer, &words[..]);
 }
 
 // Emits a line into the buffers or refuses it, writes the answer and returns its number: 0 for an accepted line.

@@ -86,8 +86,7 @@ pub fn patch_step(
     let left = stepped.counts;
     let words = step_words(given);
     put_state(state, left);
-    linked_answer::store_words(answer, &words[..]);
-    words[0]
+    linked_answer::store_answer(answer, words)
 }
 
 // Appends a line to its region, or refuses it. Writes the caller's record and the answer, and returns the answer's number: 0 for an accepted line.
@@ -139,6 +138,5 @@ pub fn patch_line(
     let left = lined.counts;
     let words = linked_line::emitted_words(given);
     put_state(state, left);
-    linked_answer::store_words(answer, &words[..]);
-    words[0]
+    linked_answer::store_answer(answer, words)
 }

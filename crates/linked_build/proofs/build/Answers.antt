@@ -8,4 +8,4 @@ returns-then-answer-lt-ANSWER_BYTES c = build_short _ _ _ _ _ _ (omega arith)
 pub returns : goal.returns
 returns c =
     let b = c.build_for-built.ensures in
-    build_answered _ _ _ _ _ _ _ _ _ _ (omega arith) b.answer_is b.bytes_are (c.answered_words-words.ensures ∙ words_are _) c.store_words.ensures
+    rw (c.store_answer.ensures.0) (build_answered _ _ _ _ _ _ _ _ _ _ (omega arith) b.answer_is b.bytes_are (c.answered_words-words.ensures ∙ words_are _) c.store_answer.ensures.1)

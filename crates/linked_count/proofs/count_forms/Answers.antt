@@ -13,5 +13,5 @@ returns-then-counts-lt-FORM_COUNT_BYTES c =
 
 pub returns : goal.returns
 returns c =
-    count_answered_lem _ _ _ _ (omega arith) (omega arith) c.count_forms-given.ensures c.counted_words-words.ensures c.put_form_counts.ensures
-    c.store_words.ensures
+    rw (c.store_answer.ensures.0) (count_answered_lem _ _ _ _ (omega arith) (omega arith) c.count_forms-given.ensures c.counted_words-words.ensures
+    c.put_form_counts.ensures c.store_answer.ensures.1)

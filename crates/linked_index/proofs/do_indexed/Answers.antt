@@ -18,5 +18,5 @@ returns-in_default c =
 pub returns : goal.returns
 returns c =
     let j = job_found c.args.job _ (sym c.in-Some.ensures) in
-    indexed_answered_lem _ _ _ _ _ _ _ _ _ _ _ _ c.if-answer-lt-ANSWER_BYTES.false c.if-counts-lt-COUNTS_BYTES.false j.0
-    c.counts_at-filled.ensures j.1 c.do_indexed-given.ensures.outcome_is c.emitted_words-words.ensures c.put_counts.ensures c.store_words.ensures
+    rw (c.store_answer.ensures.0) (indexed_answered_lem _ _ _ _ _ _ _ _ _ _ _ _ c.if-answer-lt-ANSWER_BYTES.false c.if-counts-lt-COUNTS_BYTES.false j.0
+    c.counts_at-filled.ensures j.1 c.do_indexed-given.ensures.outcome_is c.emitted_words-words.ensures c.put_counts.ensures c.store_answer.ensures.1)

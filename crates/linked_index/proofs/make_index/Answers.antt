@@ -6,4 +6,6 @@ pub returns-then-answer-lt-ANSWER_BYTES : goal.returns-then-answer-lt-ANSWER_BYT
 returns-then-answer-lt-ANSWER_BYTES c = make_short _ _ _ _ _ c.if-answer-lt-ANSWER_BYTES.true
 
 pub returns : goal.returns
-returns c = make_answered_lem _ _ _ _ _ c.if-answer-lt-ANSWER_BYTES.false c.make_index-given.ensures (c.answered_words-words.ensures ∙ words_are _) c.store_words.ensures
+returns c =
+    rw (c.store_answer.ensures.0) (make_answered_lem _ _ _ _ _ c.if-answer-lt-ANSWER_BYTES.false c.make_index-given.ensures (c.answered_words-words.ensures ∙ words_are _)
+    c.store_answer.ensures.1)

@@ -7,4 +7,4 @@ returns-then-answer-lt-ANSWER_BYTES c = find_short _ _ _ _ (omega arith)
 
 pub returns : goal.returns
 returns c =
-    find_answered_lem _ _ _ _ (omega arith) c.find_label-given.ensures.answer_is c.find_words-words.ensures c.store_words.ensures
+    rw (c.store_answer.ensures.0) (find_answered_lem _ _ _ _ (omega arith) c.find_label-given.ensures.answer_is c.find_words-words.ensures c.store_answer.ensures.1)

@@ -16,6 +16,6 @@ returns-then-state-lt-STATE_BYTES c =
 pub returns : goal.returns
 returns c =
     let a = c.args in
-    line_answered_lem a.job (given_of a.tokens.now a.mnemonic.now a.descriptors.now a.position a.region) a.regions.now a.pending.now a.breakpoints.now a.state.now a.answer.now _
+    rw (c.store_answer.ensures.0) (line_answered_lem a.job (given_of a.tokens.now a.mnemonic.now a.descriptors.now a.position a.region) a.regions.now a.pending.now a.breakpoints.now a.state.now a.answer.now _
     c.if-answer-lt-ANSWER_BYTES.false c.if-state-lt-STATE_BYTES.false c.state_at-counts.ensures c.patch_line-lined.ensures c.emitted_words-words.ensures c.put_state.ensures
-    c.store_words.ensures
+    c.store_answer.ensures.1)

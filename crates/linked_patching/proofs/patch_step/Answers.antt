@@ -14,5 +14,5 @@ returns-then-state-lt-STATE_BYTES c =
 
 pub returns : goal.returns
 returns c =
-    step_answered_lem _ _ _ _ _ _ _ _ _ c.if-answer-lt-ANSWER_BYTES.false c.if-state-lt-STATE_BYTES.false c.state_at-counts.ensures c.patch_step-stepped.ensures
-    c.step_words-words.ensures c.put_state.ensures c.store_words.ensures
+    rw (c.store_answer.ensures.0) (step_answered_lem _ _ _ _ _ _ _ _ _ c.if-answer-lt-ANSWER_BYTES.false c.if-state-lt-STATE_BYTES.false c.state_at-counts.ensures
+    c.patch_step-stepped.ensures c.step_words-words.ensures c.put_state.ensures c.store_answer.ensures.1)
