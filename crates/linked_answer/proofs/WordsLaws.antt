@@ -1,7 +1,9 @@
 -- A signed number's low 32 bits by its sign, and words put one behind the other. Assumes nothing.
-use Rattle.std.specs.Prelude.{ℕ, zero, suc, ◌+◌, ◌-◌, ◌*◌, ◌%◌, ◌^◌, ◌≤◌, ◌<◌, ◌≡◌, refl, List, [], ◌∷◌, ◌++◌, map, true, false, ℤ, pos, negsuc, length, take, get_or}
-use Rattle.std.proofs.Common.{not-suc-le-zero, arith, ap, ◌∙◌}
+use Rattle.std.specs.Prelude.{ℕ, zero, suc, ◌+◌, ◌-◌, ◌*◌, ◌%◌, ◌^◌, ◌≤◌, ◌<◌, ◌≡◌, refl, List, [], ◌∷◌, ◌++◌, map, true, false, ◌&&◌, leb, ℤ, pos, negsuc, length, take, get_or}
+use Rattle.std.proofs.Common.{not-suc-le-zero, arith, ap, ◌∙◌, le-leb}
+use Rattle.std.proofs.lemmas.Bool.{lt-leb}
 use Rattle.std.proofs.lemmas.List.{length-map}
+use mathlib.Core.Logic.{◌⊎◌, inl, inr}
 use Rattle.std.specs.Int.{int_rem_euclid}
 use Rattle.std.specs.Int.RustNames.{unsigned_abs}
 use Rattle.record.specs.Stores.{le32_bytes}
@@ -10,7 +12,7 @@ use Rattle.emit_pairs.specs.Pairs.{plain}
 use Rattle.emit_bytes.specs.Appended.{word_bytes}
 use Rattle.emit_bytes.proofs.AppendedLaws as appended
 use Rattle.emit_bytes.proofs.AppendedLaws.{word_of}
-use Rattle.linked_answer.specs.Words.{low_word}
+use Rattle.linked_answer.specs.Words.{answer_bytes, low_word}
 
 -- ---- low halves
 pub low_negative : (z : ℤ) → is_negative z ≡ true → 2 ^ 32 - 1 - size z % 2 ^ 32 ≡ low_word z
@@ -28,6 +30,12 @@ pub low_left : (z : ℤ) → unsigned_abs (int_rem_euclid z (pos (2 ^ 32))) ≡ 
 unfolding low_word
 low_left (pos n) = refl
 low_left (negsuc n) = refl
+
+-- ---- buffers that are too short
+-- a call needs room for its answer, and as much as it asks of one other buffer
+pub no_room : (n : ℕ) (counts answer : List ℕ) → (length answer < answer_bytes) ⊎ ((answer_bytes ≤ length answer) × (length counts < n)) → (leb answer_bytes (length answer) && leb n (length counts)) ≡ false
+no_room n counts answer (inl h) = rw (lt-leb answer_bytes (length answer) h) refl
+no_room n counts answer (inr h) = rw (le-leb answer_bytes (length answer) h.0, lt-leb n (length counts) h.1) refl
 
 -- ---- words
 word_at : (ws : List ℕ) (i : ℕ) → i < length ws → get_or (map word_of (map plain ws)) i [] ≡ le32_bytes (get_or ws i 0)

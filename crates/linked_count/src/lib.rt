@@ -45,10 +45,7 @@ pub fn count_forms(start: u32, end: u32, counts: &mut [u8], answer: &mut [u8]) -
     ensures { linked_count start end counts.old answer.old
         ≡ (record { result = result; counts = counts.new; answer = answer.new }) }
 {
-    if answer.len() < ANSWER_BYTES {
-        return TOO_SHORT;
-    }
-    if counts.len() < FORM_COUNT_BYTES {
+    if answer.len() < ANSWER_BYTES || counts.len() < FORM_COUNT_BYTES {
         return TOO_SHORT;
     }
     let given = form_counts::count_forms(start, end);

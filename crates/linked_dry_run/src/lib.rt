@@ -41,10 +41,7 @@ pub fn dry_run(
     ensures { linked_dry_run regions.now registers.old pc allowance answer.old
         ≡ (record { result = result; registers = registers.new; answer = answer.new }) }
 {
-    if answer.len() < ANSWER_BYTES {
-        return TOO_SHORT;
-    }
-    if registers.len() < REGISTER_BYTES {
+    if answer.len() < ANSWER_BYTES || registers.len() < REGISTER_BYTES {
         return TOO_SHORT;
     }
     let held = register_bytes::registers_in(&*registers);

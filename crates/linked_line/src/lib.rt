@@ -70,10 +70,7 @@ pub fn do_instruction(
           answer = answer.new;
         }) }
 {
-    if answer.len() < ANSWER_BYTES {
-        return TOO_SHORT;
-    }
-    if counts.len() < COUNTS_BYTES {
+    if answer.len() < ANSWER_BYTES || counts.len() < COUNTS_BYTES {
         return TOO_SHORT;
     }
     let mut filled = counts_at(&*counts);

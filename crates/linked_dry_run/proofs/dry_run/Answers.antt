@@ -1,16 +1,11 @@
-use Rattle.std.proofs.Common.{ℕ, List, Bool, ◌&&◌, ap, ap₂, ◌∙◌, length, arith, leb, le-leb}
-use Rattle.std.proofs.lemmas.Bool.{lt-leb}
+use Rattle.std.proofs.Common.{ℕ, List, ap, ◌∙◌, arith}
+use Rattle.linked_answer.proofs.WordsLaws.{no_room}
 use Rattle.dry_run_outcome.specs.DryRun.{dry_run_outcome}
 use Rattle.linked_dry_run.proofs.LinkedDryRunLaws.{run_short, run_answered_lem}
 use Rattle.linked_dry_run.proofs.dry_run.Goals as goal
 
 pub returns-then-answer-lt-ANSWER_BYTES : goal.returns-then-answer-lt-ANSWER_BYTES
-returns-then-answer-lt-ANSWER_BYTES c =
-    run_short _ _ _ _ _ (ap (λ (b : Bool). b && leb 128 (length c.args.registers.now)) (lt-leb 24 (length c.args.answer.now) (omega arith)))
-
-pub returns-then-registers-lt-REGISTER_BYTES : goal.returns-then-registers-lt-REGISTER_BYTES
-returns-then-registers-lt-REGISTER_BYTES c =
-    run_short _ _ _ _ _ (ap₂ ◌&&◌ (le-leb 24 (length c.args.answer.now) (omega arith)) (lt-leb 128 (length c.args.registers.now) (omega arith)))
+returns-then-answer-lt-ANSWER_BYTES c = run_short _ _ _ _ _ (no_room _ _ _ c.then-answer-lt-ANSWER_BYTES.either)
 
 pub returns : goal.returns
 returns c =
