@@ -74,10 +74,7 @@ pub fn patch_step(
         state.old answer.old
         ≡ (record { result = result; regions = regions.new; kept = kept.new; state = state.new; answer = answer.new }) }
 {
-    if answer.len() < ANSWER_BYTES {
-        return TOO_SHORT;
-    }
-    if state.len() < STATE_BYTES {
+    if answer.len() < ANSWER_BYTES || state.len() < STATE_BYTES {
         return TOO_SHORT;
     }
     let counts = state_at(&*state);
@@ -115,10 +112,7 @@ pub fn patch_line(
           answer = answer.new;
         }) }
 {
-    if answer.len() < ANSWER_BYTES {
-        return TOO_SHORT;
-    }
-    if state.len() < STATE_BYTES {
+    if answer.len() < ANSWER_BYTES || state.len() < STATE_BYTES {
         return TOO_SHORT;
     }
     let counts = state_at(&*state);
