@@ -2,6 +2,7 @@
 use Rattle.std.specs.Prelude.{ℕ, zero, suc, ◌≤◌, ◌<◌, ◌≡◌, List, false, length, refl, Err, Ok, Result, None, Some}
 use Rattle.std.proofs.Common.{sym, ap, ap₂, ◌∙◌, arith}
 use borrow.Author.Tests.{le-leb, lt-leb}
+use mathlib.Core.Logic.{◌⊎◌, inl, inr}
 use Rattle.jobs.specs.declared.Job.{Job}
 use Rattle.jobs.specs.declared.Job.TheVariants.{Commit, Manual, Release6}
 use Rattle.jobs.specs.Jobs.{job_numbered as numbered_job}
@@ -33,6 +34,11 @@ no_job (suc (suc zero)) e = cc
 no_job (suc (suc (suc n))) e = omega arith
 
 -- ---- a line
+-- where a buffer is too short, whichever job is asked for
+pub no_counts : (counts : List ℕ) (job : ℕ) (answer : List ℕ) → (length answer < answer_bytes) ⊎ ((answer_bytes ≤ length answer) × (length counts < indexed_counts_bytes)) → answerable counts job answer ≡ false
+no_counts counts job answer (inl h) = rw (lt-leb answer_bytes (length answer) h) refl
+no_counts counts job answer (inr h) = rw (le-leb answer_bytes (length answer) h.0, lt-leb indexed_counts_bytes (length counts) h.1) refl
+
 module _ (token_list mnemonic descriptors : List ℕ) (lent : Lent) (labels index counts : List ℕ) (place : LinePlace) (job : ℕ) (answer : List ℕ) where
   pub indexed_short : answerable counts job answer ≡ false
       → linked_indexed token_list mnemonic descriptors lent labels index counts place job answer ≡ (record { result = too_short; lent = lent; index = index; counts = counts; answer = answer })

@@ -65,10 +65,7 @@ pub fn do_indexed(
           answer = answer.new;
         }) }
 {
-    if answer.len() < ANSWER_BYTES {
-        return TOO_SHORT;
-    }
-    if counts.len() < COUNTS_BYTES {
+    if answer.len() < ANSWER_BYTES || counts.len() < COUNTS_BYTES {
         return TOO_SHORT;
     }
     let Some(job) = jobs::job_numbered(job) else {
