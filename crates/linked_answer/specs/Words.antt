@@ -37,7 +37,7 @@ number_of words = get_or words 0 0
 abbrev pub words_as_bytes : List ℕ → List ℕ
 words_as_bytes words = word_bytes (map plain words)
 
--- a lent buffer that only an accepted call writes: its words at the start
+-- a lent buffer that an accepted call writes words to, at its start; "a refused call changes nothing" (docs/DECISIONS.md)
 abbrev pub stored_if : {A E : Type 0} → Result A E → List ℕ → List ℕ → List ℕ
 stored_if (Ok done) words d = append d 0 (words_as_bytes words)
 stored_if (Err refused) words d = d

@@ -30,6 +30,7 @@ fn store_form_counts(counts: &mut [u8], counted: FormCounts)
 }
 
 // Writes the counts of a range. A refused range leaves the buffer as it was.
+// kept: an `if let` of its own. A count has eight bytes, and `store_accepted` writes words of four.
 fn put_form_counts(counts: &mut [u8], answer: Result<FormCounts, Refusal>)
     requires { form_count_bytes ≤ length counts.old }
     ensures { counts.new ≡ form_counts_after answer counts.old }
