@@ -1,9 +1,10 @@
 -- Laws of the keys that uses and words have, and of how much longer an index is with one use more. Assumes nothing.
-use Rattle.std.specs.Prelude.{ℕ, ◌+◌, Bool, true, false, ◌||◌, ◌≡◌, length, None, Option, Some}
+use Rattle.std.specs.Prelude.{ℕ, ◌+◌, ◌<◌, Bool, true, false, ◌||◌, ◌≡◌, length, drop, get_or, None, Option, Some}
 use Rattle.std.specs.List.{list_any}
-use Rattle.std.proofs.Common.{arith, ap₂, ◌∙◌, subst, length-append}
+use Rattle.std.proofs.Common.{arith, add-one, ap₂, ◌∙◌, subst, length-append, drop-cons}
 use mathlib.Core.List.{List, [], ◌∷◌, ◌++◌, Memᴰ}
 use Rattle.std.proofs.Math.Path.{refl, sym, ap}
+use Rattle.std.proofs.Math.Seq.{drop-length}
 use Rattle.record.specs.Bytes.{part}
 use Rattle.address_label.specs.declared.AddressLabel.{AddressLabel}
 use Rattle.address_label.specs.declared.AddressLabel.TheVariants.{Constant, Label}
@@ -189,3 +190,17 @@ module _ (labels names : List ℕ) where
   pub among_any : (k : UseKey) (ps : List InstructionPair) → list_any (λ (p : InstructionPair). pair_has labels names k p.label) ps ≡ key_among labels names k ps
   among_any k [] = sym (among_none k)
   among_any k (p ∷ ps) = ap (λ (b : Bool). pair_has labels names k p.label || b) (among_any k ps) ∙ sym (among_cons k p ps)
+
+  -- ---- the words from j on
+  module _ (k : UseKey) (d : InstructionPair) (ps : List InstructionPair) where
+    from_here : (j : ℕ) → j < length ps → key_among labels names k (drop j ps) ≡ pair_has labels names k (get_or ps j d).label || key_among labels names k (drop (j + 1) ps)
+    from_here j h = ap (key_among labels names k) (drop-cons ps j d h ∙ ap (λ (m : ℕ). get_or ps j d ∷ drop m ps) (sym (add-one j))) ∙ among_cons k (get_or ps j d) (drop (j + 1) ps)
+
+    pub among_hit : (j : ℕ) → j < length ps → pair_has labels names k (get_or ps j d).label ≡ true → key_among labels names k (drop j ps) ≡ true
+    among_hit j h e = from_here j h ∙ ap (λ (b : Bool). b || key_among labels names k (drop (j + 1) ps)) e
+
+    pub among_pass : (j : ℕ) → j < length ps → pair_has labels names k (get_or ps j d).label ≡ false → key_among labels names k (drop j ps) ≡ key_among labels names k (drop (j + 1) ps)
+    among_pass j h e = from_here j h ∙ ap (λ (b : Bool). b || key_among labels names k (drop (j + 1) ps)) e
+
+    pub among_end : (j : ℕ) → j ≡ length ps → key_among labels names k (drop j ps) ≡ false
+    among_end j e = ap (λ (m : ℕ). key_among labels names k (drop m ps)) e ∙ ap (key_among labels names k) (drop-length ps) ∙ among_none k
