@@ -45,7 +45,7 @@ use Rattle.emit_outcome.specs.Dispatch.{table_line}
 use Rattle.emit_outcome.specs.Checks.{layout_stop}
 use Rattle.emit_outcome.specs.Room.{edge_stop}
 use Rattle.emit_bytes.specs.Appended.{word_bytes, pendings_bytes}
-use Rattle.breakpoints.specs.BreakpointBytes.{pcs_bytes}
+use Rattle.breakpoints.specs.BreakpointBytes.{pcs_bytes, pcs_from}
 use Rattle.record.specs.Stores.{append}
 use Rattle.emit_dispatch.specs.Lines.{encoding_line}
 use Rattle.emit_pairs.specs.Pairs.{load_pairs, label_pairs, is_immediate, immediate_pairs}
@@ -61,7 +61,7 @@ use Rattle.loading.specs.Load.{is_small, form_of, load_words}
 use Rattle.names.specs.Names.{first_later}
 use Rattle.refusal.specs.Verdicts.{first_stop, Verdict}
 use Rattle.record.specs.Records.{first_bad, first_bad_of, within_limit}
-use Rattle.example_lists.specs.Lists.{as_bytes, pcs_from, «abs»}
+use Rattle.example_lists.specs.Lists.{as_bytes, «abs»}
 use Rattle.build_outcome.specs.Build.{build_verdict, layout_verdicts, write_patches, order_from, keep}
 use Rattle.patch.specs.Patches.{write_pending, pending_verdict, reach_verdict, jump_in_range, field_value, field_width, destination}
 use Rattle.address_label.specs.Entries.{entry_layout, entry_ok}

@@ -33,7 +33,7 @@ use Rattle.pseudo_names.specs.PseudoNames.{pseudo_in}
 use Rattle.emit_dispatch.specs.Lines.{encoding_line, pseudo_line}
 use Rattle.record.specs.declared.Location.{Location}
 use Rattle.record.specs.Stores.{append, le32_bytes, record_bytes}
-use Rattle.breakpoints.specs.BreakpointBytes.{pcs_bytes}
+use Rattle.breakpoints.specs.BreakpointBytes.{pcs_bytes, pcs_from}
 use Rattle.emit_bytes.specs.Appended.{word_bytes, pendings_bytes}
 use Rattle.emit_outcome.specs.Call.{Call}
 use Rattle.emit_outcome.specs.Returned.{returned as line_returned}
@@ -41,7 +41,7 @@ use Rattle.emit_outcome.specs.Dispatch.{meaning, table_line}
 use Rattle.emit_outcome.specs.Checks.{layout_stop, list_stop}
 use Rattle.emit_outcome.specs.Room.{edge_stop, room_stop}
 use Rattle.emit_outcome.specs.Emit.{line_outcome, emit_outcome}
-use Rattle.example_lists.specs.Lists.{register, fp_register, symbol, integer, minus, comma, left_brace, right_brace, «addu», «li», «lw», «abs», «sll», cvt_sw, «bc1t», «jr», «mflo», «mult», «addi», float_descriptor, descriptor, either_descriptor, line_in, line, as_bytes, pcs_from, emits, region, patch}
+use Rattle.example_lists.specs.Lists.{register, fp_register, symbol, integer, minus, comma, left_brace, right_brace, «addu», «li», «lw», «abs», «sll», cvt_sw, «bc1t», «jr», «mflo», «mult», «addi», float_descriptor, descriptor, either_descriptor, line_in, line, as_bytes, emits, region, patch}
 
 -- ---- a refused call, by document 01's numbers; every lent byte and count is as at entry
 

@@ -1,7 +1,7 @@
 -- The length of such a line. Assumes nothing.
 use Rattle.std.specs.Prelude.{ℕ, ◌+◌, ◌*◌, ◌≡◌, List, ◌++◌, length}
 use Rattle.std.proofs.Common.{arith, length-append}
-use Rattle.pseudo_names.specs.PseudoNames.{bytes_of}
+use Rattle.record.specs.Texts.{bytes_of}
 use Rattle.text.specs.Text.{hex_bytes}
 use Rattle.text.proofs.TextLaws.{hex_length}
 use Rattle.bytes_line.specs.BytesLine.{bytes_line}

@@ -1,6 +1,6 @@
 -- The line that shows a buffer's bytes. Assumes nothing.
 use Rattle.std.specs.Prelude.{ℕ, List, ◌++◌}
-use Rattle.pseudo_names.specs.PseudoNames.{bytes_of}
+use Rattle.record.specs.Texts.{bytes_of}
 use Rattle.text.specs.Text.{hex_bytes}
 
 -- a buffer: its name, and all its bytes, two hexadecimal digits each

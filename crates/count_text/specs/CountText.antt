@@ -1,7 +1,7 @@
 -- What `count_forms` prints (document 02, P14): `addiu`, `ori`, `lui` and `both`, each on its line with its decimal count; or the refusal's
 -- line. Assumes nothing.
 use Rattle.std.specs.Prelude.{ℕ, List, ◌++◌, Err, Ok, Result}
-use Rattle.pseudo_names.specs.PseudoNames.{bytes_of}
+use Rattle.record.specs.Texts.{bytes_of}
 use Rattle.refusal.specs.Numbers.{numbered}
 use Rattle.form_counts.specs.declared.FormCounts.{FormCounts}
 use Rattle.form_counts.specs.FormCounts.{count_forms}

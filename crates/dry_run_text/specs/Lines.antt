@@ -2,7 +2,7 @@
 -- Assumes nothing.
 use Rattle.std.specs.Prelude.{ℕ, List, [], ◌∷◌, ◌++◌, Err, Ok}
 use Rattle.io.specs.Digits.{last_digits}
-use Rattle.pseudo_names.specs.PseudoNames.{bytes_of}
+use Rattle.record.specs.Texts.{bytes_of}
 use Rattle.refusal.specs.Numbers.{numbered}
 use Rattle.machine.specs.declared.Machine.{Machine}
 use Rattle.machine.specs.declared.Reason.{Reason}

@@ -5,19 +5,14 @@ use Rattle.std.proofs.Math.Bool.{true, false}
 use Rattle.std.proofs.Common.{sym, ap, ◌∙◌, length-take}
 use Rattle.std.proofs.Math.ListN.{length}
 use Rattle.record.specs.Records.{places, first_bad, first_bad_of, limit}
-use Rattle.record.proofs.RecordsLaws.{first_place, of_place, limit_bad, limit_good, first_limit}
+use Rattle.record.proofs.RecordsLaws.{first_place, of_place, limit_bad, first_limit}
 use Rattle.names.specs.Names.{same_named}
-use Rattle.names.proofs.NamesLaws.{later_place}
-use Rattle.lexer.specs.Tokens.{token_ok, token_layout}
+use Rattle.names.proofs.NamesLaws.{repeat_within}
 use Rattle.descriptors.specs.Mnemonics.{mnemonic_ok, one_mnemonic, mnemonic_layout}
 use Rattle.descriptors.specs.Descriptors.{descriptor_ok, descriptor_layout, descriptor_repeat}
 use Rattle.pending.specs.Pendings.{pending_ok}
 use Rattle.breakpoints.specs.Breakpoints.{breakpoint_ok, filled_layout, pending_buffer_layout, breakpoint_buffer_layout, region_number_ok, data_buffer_layout}
 use Rattle.breakpoints.proofs.BreakpointsLaws.{data_layout, data_refused}
-
-pub token_place : (s : List ℕ) (p : ℕ) → token_layout s ≡ Some p → p ≤ limit
-unfolding token_layout
-token_place s p e = first_limit (token_ok s) s p e
 
 pub descriptor_place : (s : List ℕ) (p : ℕ) → descriptor_layout s ≡ Some p → p ≤ limit
 unfolding descriptor_layout
@@ -62,4 +57,4 @@ module _ (fill : ℕ) (s : List ℕ) where
 
 pub repeat_place : (s : List ℕ) (p : ℕ) → descriptor_layout s ≡ None → descriptor_repeat s ≡ Some p → p ≤ limit
 unfolding descriptor_layout
-repeat_place s p g e = omega (arith, (limit_good s (first_bad (descriptor_ok s) (places s)) g).0, later_place (same_named 8 s) s p e)
+repeat_place s p = repeat_within (same_named 8 s) s (first_bad (descriptor_ok s) (places s)) p

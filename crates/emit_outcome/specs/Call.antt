@@ -1,5 +1,5 @@
 -- What an emit call is given and what it leaves (document 01, 'Pending 36, breakpoint 37'). Assumes nothing.
-use Rattle.std.specs.Prelude.{List, ℕ}
+use Rattle.std.specs.Prelude.{List, ℕ, take}
 use Rattle.emit_outcome.specs.declared.FillCounts.{FillCounts}
 use Rattle.emit_outcome.specs.declared.LinePlace.{LinePlace}
 use Rattle.emit_outcome.specs.declared.LineNumbers.{LineNumbers}
@@ -10,6 +10,16 @@ pub record Lent : Type 0 where
   pub region_data : List ℕ
   pub pending : List ℕ
   pub breakpoints : List ℕ
+
+-- their filled parts
+abbrev pub filled_data : Lent → FillCounts → List ℕ
+filled_data lent counts = take counts.data_len lent.region_data
+
+abbrev pub filled_pending : Lent → FillCounts → List ℕ
+filled_pending lent counts = take counts.pending lent.pending
+
+abbrev pub filled_breakpoints : Lent → FillCounts → List ℕ
+filled_breakpoints lent counts = take counts.breakpoints lent.breakpoints
 
 -- "An emit call's buffers are, in order, tokens, mnemonic, descriptors, region data, pending, breakpoints"; "With them come a token position, the region's number and its address."
 pub record Call : Type 0 where

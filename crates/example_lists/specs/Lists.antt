@@ -1,6 +1,7 @@
 -- Record lists for statements about single calls, written as document 01 lays them out. Assumes nothing.
 use Rattle.std.specs.Prelude.{ℕ, zero, suc, ◌+◌, ◌-◌, ◌*◌, List, [], ◌∷◌, ◌++◌, length}
 use Rattle.record.specs.Stores.{le16_bytes, le32_bytes, le64_bytes, record_bytes}
+use Rattle.breakpoints.specs.BreakpointBytes.{pcs_from}
 use Rattle.loading.specs.declared.LoadForm.{LoadForm}
 use Rattle.emit_outcome.specs.Answer.{done_at}
 use Rattle.emit_outcome.specs.Call.{Call, EmitOutcome}
@@ -110,11 +111,6 @@ line name descriptors tokens = line_in 0 name descriptors tokens
 unfoldable pub as_bytes : List ℕ → List ℕ
 as_bytes [] = []
 as_bytes (w ∷ ws) = le32_bytes w ++ as_bytes ws
-
--- the pcs of n words, from the first
-unfoldable pub pcs_from : (n pc : ℕ) → List ℕ
-pcs_from zero pc = []
-pcs_from (suc n) pc = pc ∷ pcs_from n (pc + 4)
 
 -- the position after the line, the form of its constant, its words in the data, no pending, and one breakpoint
 abbrev pub emits : (position : ℕ) → LoadForm → List ℕ → EmitOutcome

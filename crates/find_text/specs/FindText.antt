@@ -2,7 +2,7 @@
 -- count of name comparisons; or the refusal's line. Assumes nothing.
 use Rattle.std.specs.Prelude.{ℕ, List, ◌++◌, Err, None, Ok, Option, Result, Some}
 use Rattle.io.specs.Digits.{last_digits}
-use Rattle.pseudo_names.specs.PseudoNames.{bytes_of}
+use Rattle.record.specs.Texts.{bytes_of}
 use Rattle.refusal.specs.Numbers.{numbered}
 use Rattle.labels.specs.declared.Found.{Found}
 use Rattle.label_finder.specs.Find.{find_label}

@@ -1,8 +1,9 @@
 -- The formats of the words of an encoding's own instructions, from the operands of its line in order: which operand stands in which field, as the
 -- manual describes the instruction that is named above each. A field that no operand fills has what the opcode's class and key put there
 -- (`base_fields`). Words that load the line's constant stand before these (LineLoads.antt). Assumes nothing.
-use Rattle.std.specs.Prelude.{ℕ, ◌+◌, ◌*◌, ◌/◌, ◌%◌, ◌^◌, Bool, true, false, List, [], ◌∷◌, ◌++◌, None, Some, Option}
+use Rattle.std.specs.Prelude.{ℕ, ◌+◌, ◌*◌, ◌/◌, ◌%◌, ◌^◌, true, false, List, [], ◌∷◌, ◌++◌, None, Some, Option}
 use Rattle.std.specs.Int.Bits.{bit_or}
+use Rattle.field.specs.Bit.{bit}
 use Rattle.registers.specs.Numbers.{register_number as number, fp_register_number as fp_number}
 use Rattle.registers.specs.declared.RegisterSlot.TheVariants.{AssemblerTemporary}
 use Rattle.instructions.specs.declared.Opcode.{Opcode}
@@ -55,10 +56,6 @@ $at = number AssemblerTemporary
 abbrev pub value_in : InstructionValue → ℕ
 value_in (Slot r) = number r
 value_in (Literal n) = $at
-
-abbrev pub bit : Bool → ℕ
-bit true = 1
-bit false = 0
 
 -- LUI rt, upper and ORI rt, rt, lower: the halves of a name are 0 until they are patched
 abbrev pub name_formats : (rt : ℕ) → List Format

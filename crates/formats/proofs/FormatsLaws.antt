@@ -5,6 +5,7 @@ use native.Mathlib.Omega.{arith}
 use Rattle.std.specs.Int.Bits.{bit_or}
 use Rattle.std.proofs.lemmas.Nat.{or_lt}
 use Rattle.field.specs.Field.{get_field}
+use Rattle.field.specs.Bit.{bit}
 use Rattle.instructions.specs.declared.Opcode.{Opcode}
 use Rattle.instructions.specs.declared.Opcode.TheVariants.{Op, Func, Special, Algebra, Cop1, Cop1I}
 use Rattle.jobs.specs.declared.Format.{Format as Fmt}
@@ -15,7 +16,7 @@ use Rattle.word.proofs.LayoutLaws.{base_fits, get_opcode, get_rs, get_rt, get_im
 use Rattle.emit_words.specs.Words.{base_word, source_word, destination_word, inputs_word, register_word, sham_word, immediate_word, load_immediate_word, fp3_word, fp2_word, code_bits, fp_move_word, fp_cond_word, fp_cross_move_word, fp_branch_word}
 use Rattle.emit_words.proofs.WordsLaws.{Laid, base, then_rs, then_rt, then_rd, then_sa}
 use Rattle.formats.proofs.Formats.{RegisterFormat, register, immediate, jump, float, float_move, float_cond, float_cross, float_branch, Has}
-use Rattle.formats.proofs.EncodingFormats.{in_register, in_immediate, in_branch, in_jump, in_float, in_cross, bit}
+use Rattle.formats.proofs.EncodingFormats.{in_register, in_immediate, in_branch, in_jump, in_float, in_cross}
 
 -- ---- fields that are laid out are read back
 

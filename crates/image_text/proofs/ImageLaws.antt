@@ -2,10 +2,10 @@
 use Rattle.std.specs.Prelude.{◌≡◌, ℕ, ◌+◌, ◌<◌, ◌≤◌, min, List, [], ◌++◌, length, drop, refl}
 use Rattle.std.proofs.Common.{arith, ap, ◌∙◌, length-append}
 use mathlib.Core.List.{append-nil, flatten}
+use Rattle.field.specs.Wrap.{wrap32}
 use Rattle.record.specs.Bytes.{le32}
+use Rattle.record.specs.Texts.{bytes_of}
 use Rattle.regions.specs.Regions.{region_count, region_place}
-use Rattle.pseudo_names.specs.PseudoNames.{bytes_of}
-use Rattle.patch.specs.Patches.{wrap32}
 use Rattle.reading.specs.Reading.{image_region, image_of}
 use Rattle.reading.proofs.ImageLaws.{image_next, image_end}
 use Rattle.reading.specs.Rows.{row}

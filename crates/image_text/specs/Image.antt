@@ -4,7 +4,7 @@ use mathlib.Core.List.{flatten}
 use Rattle.io.specs.Digits.{last_digits}
 use Rattle.jobs.specs.declared.Job.{Job}
 use Rattle.jobs.specs.declared.Job.TheVariants.{Commit}
-use Rattle.pseudo_names.specs.PseudoNames.{bytes_of}
+use Rattle.record.specs.Texts.{bytes_of}
 use Rattle.labels.specs.Labels.{table_of}
 use Rattle.refusal.specs.Numbers.{numbered}
 use Rattle.build_outcome.specs.Build.{build_outcome}

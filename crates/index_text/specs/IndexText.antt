@@ -1,6 +1,6 @@
 -- What `make_index` prints (document 02, P1), in the lines that docs/DECISIONS.md gives. Assumes nothing.
 use Rattle.std.specs.Prelude.{ℕ, List, ◌++◌, Err, Ok, Result}
-use Rattle.pseudo_names.specs.PseudoNames.{bytes_of}
+use Rattle.record.specs.Texts.{bytes_of}
 use Rattle.refusal.specs.Numbers.{numbered}
 use Rattle.input.specs.Input.{list_of, behind_lists, word_or_zero}
 use Rattle.text.specs.Text.{last_field, refused_line}

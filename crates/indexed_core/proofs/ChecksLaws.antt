@@ -13,13 +13,13 @@ use Rattle.labels.specs.Labels.{label_layout, label_repeat}
 use Rattle.pending.specs.Pendings.{pending_ok}
 use Rattle.breakpoints.specs.Breakpoints.{data_buffer_layout, pending_buffer_layout}
 use Rattle.breakpoints.proofs.BreakpointsLaws.{pending_buffer_good}
-use Rattle.emit_outcome.specs.Call.{Call, Lent}
+use Rattle.emit_outcome.specs.Call.{Call, Lent, filled_pending}
 use Rattle.emit_outcome.specs.Checks.{layout_stop, list_stop}
 use Rattle.emit_outcome.specs.declared.FillCounts.{FillCounts}
 use Rattle.label_uses.specs.UseBytes.{index_of, index_layout}
 use Rattle.label_uses.proofs.IndexLaws.{layout_long, layout_over, layout_by}
 use Rattle.label_uses.proofs.UseOrderLaws.{never}
-use Rattle.indexed_outcome.specs.Indexed.{IndexedCall, filled_pending, indexed_stop}
+use Rattle.indexed_outcome.specs.Indexed.{IndexedCall, indexed_stop}
 
 -- a place that a check of an index names is at most the limit
 pub index_place : (labels pending index : List ℕ) (fill p : ℕ) → index_layout labels pending fill index ≡ Some p → p ≤ limit

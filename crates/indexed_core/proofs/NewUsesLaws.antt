@@ -18,7 +18,7 @@ use Rattle.emit_pairs.specs.Pairs.{pairs_of}
 use Rattle.emit_dispatch.specs.Contract.{MadeAs}
 use Rattle.emit_bytes.specs.Appended.{onward, pair_bytes, pendings_bytes}
 use Rattle.emit_checks.specs.declared.LineRead.{LineRead}
-use Rattle.emit_outcome.specs.Call.{Call, EmitOutcome}
+use Rattle.emit_outcome.specs.Call.{Call, EmitOutcome, filled_pending}
 use Rattle.lexer.specs.Tokens.{tokens}
 use Rattle.cursor.specs.Cursors.{start_index}
 use Rattle.emit_dispatch.specs.Lines.{Line, pseudo_line}
@@ -45,7 +45,6 @@ use Rattle.label_uses.proofs.OneMoreLaws.{AllBytes, uses_written, owners_fit}
 use Rattle.label_uses.proofs.UseOrderLaws.{never}
 use Rattle.line_uses.specs.LineUses.{pair_use, next_number, line_uses}
 use Rattle.use_adding.specs.Adding.{IndexIn}
-use Rattle.indexed_outcome.specs.Indexed.{filled_pending}
 use Rattle.indexed_core.specs.Steps.{new_index}
 use Rattle.pending.specs.declared.InstructionLabel.{InstructionLabel}
 

@@ -4,7 +4,7 @@ use Rattle.std.proofs.Common.{arith, sym, subst, length-take}
 use Rattle.jobs.specs.declared.Job.{Job}
 use Rattle.record.specs.Stores.{append}
 use Rattle.loading.specs.declared.LoadForm.{LoadForm}
-use Rattle.emit_outcome.specs.Call.{EmitOutcome}
+use Rattle.emit_outcome.specs.Call.{EmitOutcome, filled_pending}
 use Rattle.emit_outcome.specs.Emit.{emit_outcome}
 use Rattle.emit_outcome.specs.Room.{new_pending}
 use Rattle.emit_outcome.specs.Answer.{done_at}
@@ -14,7 +14,7 @@ use Rattle.routine.proofs.AcceptedLaws.{accepted}
 use Rattle.routine.proofs.LineFitsLaws.{pending_after}
 use Rattle.label_uses.specs.UseBytes.{index_of}
 use Rattle.label_uses.proofs.IndexFits.{index_fits}
-use Rattle.indexed_outcome.specs.Indexed.{IndexedCall, filled_pending}
+use Rattle.indexed_outcome.specs.Indexed.{IndexedCall}
 use Rattle.indexed_outcome.proofs.MakeLaws.{filled_layout}
 
 pub line_roomy : (job : Job) (x : IndexedCall) (position : ℕ) (loaded : LoadForm) → Bytes x.call.token_list → Bytes x.call.mnemonic

@@ -9,7 +9,7 @@ use Rattle.refusal.specs.declared.Refusal.TheVariants.{NoIndexSpace}
 use Rattle.refusal.specs.declared.Refusal.{Refusal}
 use Rattle.descriptors.specs.Mnemonics.{mnemonic_location}
 use Rattle.emit_pairs.specs.declared.emit_instruction.EmitInstruction.{EmitInstruction}
-use Rattle.emit_outcome.specs.Call.{Call, Lent, EmitOutcome}
+use Rattle.emit_outcome.specs.Call.{Call, Lent, EmitOutcome, filled_pending}
 use Rattle.emit_outcome.specs.Emit.{refuse, accept, line_stop, line_outcome, call_refused, emit_outcome}
 use Rattle.emit_outcome.specs.Answer.{EmitAnswer, done_at}
 use Rattle.emit_outcome.specs.declared.LineNumbers.{LineNumbers}
@@ -18,7 +18,7 @@ use Rattle.emit_checks.specs.Made.{words_line}
 use Rattle.emit_made.proofs.MadeLaws.{line_passed}
 use Rattle.loading.specs.declared.LoadForm.{LoadForm}
 use Rattle.label_uses.specs.UseBytes.{index_of}
-use Rattle.indexed_outcome.specs.Indexed.{IndexedCall, IndexedOutcome, filled_pending, indexed_stop, indexed_by, indexed_unless, indexed_outcome, indexed_outcome_of}
+use Rattle.indexed_outcome.specs.Indexed.{IndexedCall, IndexedOutcome, indexed_stop, indexed_by, indexed_unless, indexed_outcome, indexed_outcome_of}
 use Rattle.emit_outcome.specs.Returned.{returned}
 use Rattle.indexed_outcome.specs.Contract.{IndexedBy}
 use Rattle.indexed_outcome.proofs.BesideLaws.{indexed_is, passes_is}

@@ -10,7 +10,7 @@ use Rattle.pending.specs.Pendings.{pending_ok}
 use Rattle.emit_pairs.specs.declared.InstructionPair.{InstructionPair}
 use Rattle.emit_pairs.specs.declared.emit_instruction.EmitInstruction.{EmitInstruction}
 use Rattle.emit_outcome.specs.declared.RefusedLine.{RefusedLine}
-use Rattle.emit_outcome.specs.Call.{Lent, EmitOutcome, outcome_of}
+use Rattle.emit_outcome.specs.Call.{Lent, EmitOutcome, outcome_of, filled_pending}
 use Rattle.emit_outcome.specs.Emit.{accept}
 use Rattle.emit_outcome.specs.Answer.{EmitAnswer, refused_at}
 use Rattle.emit_outcome.specs.declared.LineNumbers.{LineNumbers}
@@ -19,7 +19,7 @@ use Rattle.emit_checks.specs.Made.{words_line, Filled}
 use Rattle.label_uses.specs.Uses.{uses_of}
 use Rattle.label_uses.specs.UseBytes.{uses_bytes, index_layout}
 use Rattle.line_uses.specs.LineUses.{line_uses}
-use Rattle.indexed_outcome.specs.Indexed.{IndexedOutcome, filled_pending, indexed_outcome_of}
+use Rattle.indexed_outcome.specs.Indexed.{IndexedOutcome, indexed_outcome_of}
 use Rattle.indexed_outcome.specs.declared.IndexedCounts.{IndexedCounts}
 use Rattle.indexed_outcome.specs.declared.IndexedAppended.{IndexedAppended}
 use Rattle.indexed_outcome.specs.declared.IndexedEmitted.{IndexedEmitted}

@@ -3,12 +3,12 @@
 
 ghost use Rattle.std.specs.Prelude.{◌≡◌, ◌≤◌, length};
 ghost use Rattle.labels.specs.Labels.{label_layout};
-ghost use Rattle.emit_outcome.specs.Call.{lent_of, call_of};
+ghost use Rattle.emit_outcome.specs.Call.{lent_of, call_of, filled_pending};
 ghost use Rattle.emit_outcome.specs.Emit.{line_outcome};
 ghost use Rattle.emit_outcome.specs.Room.{room_stop};
 ghost use Rattle.emit_pairs.specs.Pairs.{pairs_of};
 ghost use Rattle.emit_checks.specs.Made.{made_line};
-ghost use Rattle.indexed_outcome.specs.Indexed.{indexed_stop, indexed_outcome, indexed_call_of, filled_pending};
+ghost use Rattle.indexed_outcome.specs.Indexed.{indexed_stop, indexed_outcome, indexed_call_of};
 ghost use Rattle.indexed_outcome.specs.Contract.{IndexedBy};
 ghost use Rattle.indexed_core.specs.Steps.{new_index, Ready, with_index, Wrote, indexed_emitted_by, indexed_left_by};
 

@@ -11,13 +11,13 @@ use Rattle.labels.specs.Labels.{label_layout, label_repeat}
 use Rattle.descriptors.specs.Descriptors.{descriptor_repeat}
 use Rattle.descriptors.specs.Mnemonics.{mnemonic_location}
 use Rattle.loading.specs.declared.LoadForm.{LoadForm}
-use Rattle.emit_outcome.specs.Call.{Call, EmitOutcome}
+use Rattle.emit_outcome.specs.Call.{Call, EmitOutcome, filled_pending}
 use Rattle.emit_outcome.specs.Checks.{layout_stop, list_stop}
 use Rattle.emit_outcome.specs.Emit.{refuse, call_refused, list_outcome, emit_outcome}
 use Rattle.emit_outcome.proofs.Refused.{refused_stays}
 use Rattle.emit_outcome.specs.Answer.{EmitAnswer, done_at, refused_at}
 use Rattle.label_uses.specs.UseBytes.{index_of, index_layout}
-use Rattle.indexed_outcome.specs.Indexed.{IndexedCall, IndexedOutcome, filled_pending, indexed_stop, indexed_refuse, indexed_accept, indexed_by, indexed_unless, indexed_outcome}
+use Rattle.indexed_outcome.specs.Indexed.{IndexedCall, IndexedOutcome, indexed_stop, indexed_refuse, indexed_accept, indexed_by, indexed_unless, indexed_outcome}
 use Rattle.indexed_outcome.specs.Beside.{Added, labels_bad, index_bad, labels_share, no_room, SameCall}
 
 pub never : {A : Type 0} → ◌≡◌ {A = ℕ} 0 1 → A

@@ -1,32 +1,21 @@
 -- Laws of making an index afresh: its outcome by what its checks say. Assumes nothing.
-use Rattle.std.specs.Prelude.{ℕ, ◌≤◌, ◌<◌, List, Bool, true, false, ◌≡◌, length, take, leb, Err, None, Ok, Option, Some}
+use Rattle.std.specs.Prelude.{ℕ, ◌≤◌, ◌<◌, List, Bool, true, false, ◌≡◌, length, take, leb, Err, None, Ok, Option}
 use Rattle.std.proofs.Common.{arith, sym, ap, ap₂, ◌∙◌, length-take, leb-true, le-leb}
 use Rattle.std.proofs.Math.Path.{refl}
 use Rattle.std.proofs.lemmas.Bool.{lt-leb}
 use Rattle.record.specs.Records.{places, first_bad, within_limit, limit}
-use Rattle.record.proofs.RecordsLaws.{limit_good, limit_kept, first_limit}
+use Rattle.record.proofs.RecordsLaws.{limit_good, limit_kept}
 use Rattle.record.specs.Stores.{append}
 use Rattle.refusal.specs.Numbers.{zero_location}
 use Rattle.refusal.specs.Verdicts.{and_then, layout_verdict, name_verdict, Verdict}
 use Rattle.refusal.proofs.VerdictsLaws.{both_pass, layout_pass}
 use Rattle.refusal.specs.declared.Refusal.TheVariants.{NoIndexSpace}
-use Rattle.labels.specs.Labels.{label_layout, label_repeat, label_ok}
+use Rattle.labels.specs.Labels.{label_layout, label_repeat}
 use Rattle.pending.specs.Pendings.{pending_ok, pending_layout}
 use Rattle.breakpoints.specs.Breakpoints.{pending_buffer_layout}
 use Rattle.breakpoints.proofs.BreakpointsLaws.{pending_buffer_good}
 use Rattle.label_uses.specs.UseBytes.{index_of}
 use Rattle.indexed_outcome.specs.Make.{room_for, make_layouts, make_stop, make_by, make_outcome, made_of}
-use Rattle.names.proofs.NamesLaws.{later_place}
-use Rattle.names.specs.Owners.{same_owned}
-
--- ---- a place that a check of the labels names is at most the limit
-pub label_place_lem : (s : List ℕ) (p : ℕ) → label_layout s ≡ Some p → p ≤ limit
-unfolding label_layout
-label_place_lem s p e = first_limit (label_ok s) s p e
-
-pub repeat_place : (s : List ℕ) (p : ℕ) → label_layout s ≡ None → label_repeat s ≡ Some p → p ≤ limit
-unfolding label_layout
-repeat_place s p g e = omega (arith, (limit_good s (first_bad (label_ok s) (places s)) g).0, later_place (same_owned 4 s) s p e)
 
 pub never : {A : Type 0} → ◌≡◌ {A = ℕ} 0 1 → A
 never z = absurd (omega arith)

@@ -9,9 +9,10 @@ use Rattle.descriptors.specs.Mnemonics.{mnemonic_location}
 use Rattle.loading.specs.declared.LoadForm.{LoadForm}
 use Rattle.emit_outcome.specs.Emit.{emit_outcome}
 use Rattle.emit_outcome.specs.Answer.{EmitAnswer, done_at, refused_at}
+use Rattle.emit_outcome.specs.Call.{filled_pending}
 use Rattle.label_uses.specs.UseBytes.{index_of, index_layout}
 use Rattle.label_uses.proofs.IndexLaws.{index_taken, index_room}
-use Rattle.indexed_outcome.specs.Indexed.{IndexedCall, IndexedOutcome, filled_pending, indexed_stop, indexed_accept, indexed_by, indexed_unless, indexed_outcome}
+use Rattle.indexed_outcome.specs.Indexed.{IndexedCall, IndexedOutcome, indexed_stop, indexed_accept, indexed_by, indexed_unless, indexed_outcome}
 use Rattle.indexed_outcome.proofs.BesideLaws.{never, lists, labels_well, index_well, stop_is, indexed_is, passes_is, accept_fits, accept_short}
 use Rattle.refusal.specs.Verdicts.{Verdict}
 

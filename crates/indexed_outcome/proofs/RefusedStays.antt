@@ -6,8 +6,9 @@ use Rattle.refusal.specs.declared.Refusal.{Refusal}
 use Rattle.emit_outcome.specs.Answer.{EmitAnswer, refused_at}
 use Rattle.emit_outcome.proofs.AnswerLaws.{refused_parts}
 use Rattle.emit_outcome.specs.Emit.{emit_outcome}
+use Rattle.emit_outcome.specs.Call.{filled_pending}
 use Rattle.label_uses.specs.UseBytes.{index_of}
-use Rattle.indexed_outcome.specs.Indexed.{IndexedCall, IndexedOutcome, filled_pending, indexed_stop, indexed_refuse, indexed_accept, indexed_by, indexed_unless, indexed_outcome}
+use Rattle.indexed_outcome.specs.Indexed.{IndexedCall, IndexedOutcome, indexed_stop, indexed_refuse, indexed_accept, indexed_by, indexed_unless, indexed_outcome}
 use Rattle.indexed_outcome.proofs.BesideLaws.{never, indexed_is, passes_is, accept_fits, accept_short}
 use Rattle.refusal.specs.Verdicts.{Verdict}
 

@@ -8,8 +8,9 @@ use Rattle.refusal.specs.declared.Refusal.{Refusal}
 use Rattle.labels.specs.Labels.{label_layout, label_repeat}
 use Rattle.emit_outcome.specs.Checks.{layout_stop}
 use Rattle.emit_outcome.specs.Emit.{emit_outcome}
+use Rattle.emit_outcome.specs.Call.{filled_pending}
 use Rattle.label_uses.specs.UseBytes.{index_of, index_layout}
-use Rattle.indexed_outcome.specs.Indexed.{IndexedCall, filled_pending}
+use Rattle.indexed_outcome.specs.Indexed.{IndexedCall}
 use Rattle.indexed_outcome.specs.Beside.{SameCall}
 use Rattle.indexed_outcome.proofs.BesideLaws.{lists, names_once, lists_stop, well_same}
 

@@ -1,5 +1,5 @@
 -- A whole emit call with an index of label uses (document 02, P1). Assumes nothing.
-use Rattle.std.specs.Prelude.{ℕ, List, true, false, length, take, leb, Err, Ok}
+use Rattle.std.specs.Prelude.{ℕ, List, true, false, length, leb, Err, Ok}
 use Rattle.jobs.specs.declared.Job.{Job}
 use Rattle.record.specs.Stores.{append}
 use Rattle.refusal.specs.Verdicts.{and_then, layout_verdict, name_verdict, Verdict}
@@ -9,10 +9,9 @@ use Rattle.labels.specs.Labels.{label_layout, label_repeat}
 use Rattle.descriptors.specs.Descriptors.{descriptor_repeat}
 use Rattle.descriptors.specs.Mnemonics.{mnemonic_location}
 use Rattle.emit_outcome.specs.Checks.{layout_stop}
-use Rattle.emit_outcome.specs.Call.{Call, Lent, EmitOutcome}
+use Rattle.emit_outcome.specs.Call.{Call, Lent, filled_pending, EmitOutcome}
 use Rattle.emit_outcome.specs.Emit.{emit_outcome}
 use Rattle.emit_outcome.specs.Answer.{EmitAnswer, refused_at}
-use Rattle.emit_outcome.specs.declared.FillCounts.{FillCounts}
 use Rattle.indexed_outcome.specs.declared.IndexedCounts.{IndexedCounts}
 use Rattle.label_uses.specs.UseBytes.{index_of, index_layout}
 
@@ -28,10 +27,6 @@ pub record IndexedOutcome : Type 0 where
   pub counts : IndexedCounts
   pub lent : Lent
   pub index : List ℕ
-
--- the filled pending list
-abbrev pub filled_pending : Lent → FillCounts → List ℕ
-filled_pending lent counts = take counts.pending lent.pending
 
 -- refusals 1 and 2: "in refusal 2 the least a goes first"
 unfoldable pub indexed_stop : IndexedCall → Verdict

@@ -1,7 +1,7 @@
 -- The lengths of the lines of an emit call's outcome with an index. Assumes nothing.
 use Rattle.std.specs.Prelude.{◌+◌, ◌≤◌, ◌≡◌, ◌++◌, length}
 use Rattle.std.proofs.Common.{arith, length-append}
-use Rattle.pseudo_names.specs.PseudoNames.{bytes_of}
+use Rattle.record.specs.Texts.{bytes_of}
 use Rattle.emit_outcome.specs.Answer.{EmitAnswer}
 use Rattle.indexed_outcome.specs.declared.IndexedCounts.{IndexedCounts}
 use Rattle.text.specs.Text.{field, last_field}

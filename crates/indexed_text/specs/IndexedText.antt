@@ -2,7 +2,7 @@
 -- the index buffer last. Assumes nothing.
 use Rattle.std.specs.Prelude.{ℕ, List, ◌++◌}
 use Rattle.jobs.specs.declared.Job.TheVariants.{Commit}
-use Rattle.pseudo_names.specs.PseudoNames.{bytes_of}
+use Rattle.record.specs.Texts.{bytes_of}
 use Rattle.emit_outcome.specs.declared.FillCounts.{FillCounts}
 use Rattle.emit_outcome.specs.declared.LinePlace.{LinePlace}
 use Rattle.emit_outcome.specs.Answer.{EmitAnswer}

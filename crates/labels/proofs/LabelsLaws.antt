@@ -5,7 +5,7 @@ use Rattle.std.proofs.Math.Bool.{and-eq-true_iff}
 use Rattle.record.specs.Bytes.{is_text, all}
 use Rattle.record.specs.Records.{body_len, kind_at, next, whole, places, first_bad, limit}
 use Rattle.record.proofs.RecordsLaws.{places_all, whole_is, layout_from, limit_kept, limit_passed, limit_good, first_limit}
-use Rattle.names.proofs.NamesLaws.{has_name_lem, all_named, named_ok, later_place}
+use Rattle.names.proofs.NamesLaws.{has_name_lem, all_named, named_ok, repeat_within}
 use Rattle.names.specs.Owners.{has_owner, for_all, owner_of, before_name, owned_name, has_owned_name, same_owned, is_owned, first_owned}
 use Rattle.names.proofs.OwnersLaws.{without_owner, before_least}
 use Rattle.labels.specs.Labels.{label_kind, label_body, label_ok, label_layout, label_repeat, or_else, labelled, address_of, resolve}
@@ -74,7 +74,8 @@ unfolding label_layout
 label_place_lem s p e = first_limit (label_ok s) s p e
 
 pub repeat_place : (s : List ℕ) (p : ℕ) → label_layout s ≡ None → label_repeat s ≡ Some p → p ≤ limit
-repeat_place s p g e = omega (arith, labels_within s g, later_place (same_owned 4 s) s p e)
+unfolding label_layout
+repeat_place s p = repeat_within (same_owned 4 s) s (first_bad (label_ok s) (places s)) p
 
 pub labels_named : (s : List ℕ) → label_layout s ≡ None → first_bad (has_owned_name 4 s) (places s) ≡ None
 labels_named s g = all_named (label_ok s) (has_owned_name 4 s) (λ p e. (label_is s p e).named) (places s) (labels_good s g)

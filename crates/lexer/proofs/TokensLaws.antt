@@ -6,7 +6,7 @@ use Rattle.std.proofs.Math.ListN.{get_or-eq_default}
 use borrow.Author.Tests.{leb-true, leb-false, eqb-true}
 use Rattle.record.specs.Bytes.{byte_at}
 use Rattle.record.specs.Records.{body_len, kind_at, whole, places, first_bad, limit}
-use Rattle.record.proofs.RecordsLaws.{layout_from, whole_is, places_all, limit_kept, limit_passed, limit_good}
+use Rattle.record.proofs.RecordsLaws.{layout_from, whole_is, places_all, limit_kept, limit_passed, limit_good, first_limit}
 use Rattle.lexer.specs.declared.Payload.{Payload}
 use Rattle.lexer.specs.declared.Payload.TheVariants.{Slot, Number, Unknown}
 use Rattle.lexer.specs.Tokens.{TokenIs, payload_len, payloads, payload_of, payload_ok, token_ok, token_layout}
@@ -74,6 +74,11 @@ module _ (s : List ℕ) (at : ℕ) where
         slot = λ h i. omega (arith, slot_len (ok_as Slot (slot_of kind h i) p.1));
         number = λ h i. omega (arith, number_len (ok_as Number (number_of kind h i) p.1));
       }
+
+-- the place of a token that breaks the layout
+pub token_place : (s : List ℕ) (p : ℕ) → token_layout s ≡ Some p → p ≤ limit
+unfolding token_layout
+token_place s p e = first_limit (token_ok s) s p e
 
 -- the layout within the limit is that of the records, and past the limit it is broken there
 pub token_kept : (s : List ℕ) → length s ≤ limit → token_layout s ≡ layout_from (token_ok s) s 0

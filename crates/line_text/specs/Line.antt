@@ -4,7 +4,7 @@ use Rattle.std.specs.Prelude.{Ok, Err, ℕ, List, [], ◌++◌, None, Option, So
 use Rattle.jobs.specs.declared.Job.{Job}
 use Rattle.jobs.specs.Jobs.{job_numbered as numbered_job}
 use Rattle.record.specs.Bytes.{byte_at}
-use Rattle.pseudo_names.specs.PseudoNames.{bytes_of}
+use Rattle.record.specs.Texts.{bytes_of}
 use Rattle.refusal.specs.Numbers.{numbered}
 use Rattle.loading.specs.declared.LoadForm.{LoadForm}
 use Rattle.loading.specs.declared.LoadForm.TheVariants.{Nothing, Addiu, Ori, Lui, BothHalves}

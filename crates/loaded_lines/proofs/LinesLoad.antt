@@ -17,9 +17,9 @@ use Rattle.formats.proofs.LineFormats.{own_formats, LoadThen}
 use Rattle.formats.proofs.EveryWord.{every_word}
 use Rattle.loading.specs.declared.LoadForm.{LoadForm}
 use Rattle.emit_outcome.specs.Answer.{done_at}
-use Rattle.emit_outcome.specs.Call.{Call}
+use Rattle.emit_outcome.specs.Call.{Call, filled_data}
 use Rattle.emit_outcome.specs.Emit.{start_of, emit_outcome}
-use Rattle.loaded_lines.proofs.Loaded.{LoadsFirst, LoadedFirst, LoadedLine, filled_data, bytes_of, LoadedCall, read_loads, meant_loads, call_loads, ConstantAppended}
+use Rattle.loaded_lines.proofs.Loaded.{LoadsFirst, LoadedFirst, LoadedLine, bytes_of, LoadedCall, read_loads, meant_loads, call_loads, ConstantAppended}
 use Rattle.loaded_lines.proofs.CallsLaws.{bytes_append, accepted_call}
 
 loaded_first : (loaded : Option LoadedConstant) {own : List Format} {ws : List ℕ} → LoadThen loaded own ws → LoadedFirst loaded own ws

@@ -1,5 +1,5 @@
 -- What it is that a line loads its constant, and that a call appends its line's words. Assumes nothing.
-use Rattle.std.specs.Prelude.{ℕ, ◌+◌, ◌*◌, ◌≡◌, List, [], ◌∷◌, ◌++◌, length, take, Option, None, Some}
+use Rattle.std.specs.Prelude.{ℕ, ◌+◌, ◌*◌, ◌≡◌, List, [], ◌∷◌, ◌++◌, length, Option, None, Some}
 use Rattle.jobs.specs.declared.Job.{Job}
 use Rattle.record.specs.Stores.{le32_bytes}
 use Rattle.registers.specs.Numbers.{register_number}
@@ -19,9 +19,8 @@ use Rattle.emit_dispatch.specs.LineLoads.{LoadedConstant}
 use Rattle.formats.proofs.LineFormats.{own_formats}
 use Rattle.emit_outcome.specs.declared.Meaning.{Meaning}
 use Rattle.emit_outcome.specs.declared.Meaning.TheVariants.{Table, Builtin, Neither}
-use Rattle.emit_outcome.specs.declared.FillCounts.{FillCounts}
 use Rattle.emit_outcome.specs.Dispatch.{meaning}
-use Rattle.emit_outcome.specs.Call.{Lent, Call, EmitOutcome}
+use Rattle.emit_outcome.specs.Call.{filled_data, Call, EmitOutcome}
 use Rattle.emit_outcome.specs.Emit.{start_of, emit_outcome}
 
 -- ---- a line
@@ -59,10 +58,6 @@ operation_of c = meant c.descriptors (meaning c.descriptors (mnemonic_name c.mne
 unfoldable pub bytes_of : List ℕ → List ℕ
 bytes_of [] = []
 bytes_of (w ∷ ws) = le32_bytes w ++ bytes_of ws
-
--- the filled part of the region's data
-abbrev pub filled_data : Lent → FillCounts → List ℕ
-filled_data lent counts = take counts.data_len lent.region_data
 
 -- the words' bytes, in order, behind what was filled at entry, and the count with them
 pub record Appended (c : Call) (o : EmitOutcome) (ws : List ℕ) : Type 0 where

@@ -4,10 +4,11 @@ use Rattle.std.proofs.Common.{div-le_self, arith, ◌∙◌, ltb-true, ltb-false
 use Rattle.std.proofs.lemmas.Nat.{or_lt, xor_lt}
 use Rattle.std.specs.Int.Signed.{shr_z}
 use Rattle.field.specs.Field.{get_field}
+use Rattle.field.specs.Bit.{bit}
 use Rattle.loading.specs.Run.{Registers, read_register, write_register, signed16}
 use Rattle.loading.proofs.Loading.{length_write}
 use Rattle.machine.specs.Instructions.{rs, rt, rd, sa, immediate, target, instruction_of}
-use Rattle.machine.specs.Numbers.{signed, bits, is_signed32, bit}
+use Rattle.machine.specs.Numbers.{signed, bits, is_signed32}
 use Rattle.machine.proofs.NumbersLaws.{shift_from, shift_below}
 use Rattle.machine.specs.Effects.{branch_if, unless_overflow, effect_of}
 use Rattle.machine.specs.Step.{apply, effect_on, step_word}

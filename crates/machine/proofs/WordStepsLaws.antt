@@ -3,8 +3,10 @@ use Rattle.std.specs.Prelude.{◌≡◌, ℕ, ◌+◌, ◌-◌, ◌^◌, not, �
 use Rattle.std.proofs.Common.{arith, ◌∙◌}
 use Rattle.std.proofs.Math.Path.{refl}
 use Rattle.std.specs.Int.Signed.{shr_z}
+use Rattle.field.specs.Wrap.{wrap32}
+use Rattle.field.specs.Bit.{bit}
 use Rattle.loading.specs.Run.{read_register, write_register}
-use Rattle.machine.specs.Numbers.{wrap32, signed, bits, bit}
+use Rattle.machine.specs.Numbers.{signed, bits}
 use Rattle.machine.specs.Instructions.{table, opcode, rs, rt, rd, sa, function, immediate, instruction_of}
 use Rattle.machine.proofs.InstructionsLaws.{named, special}
 use Rattle.machine.specs.Effects.{next_pc, branch_if, effect_of}

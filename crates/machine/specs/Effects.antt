@@ -1,9 +1,11 @@
 -- What the eighteen instructions do (MIPS32 Architecture For Programmers, Volume II), without delay slots. Assumes nothing.
 use Rattle.std.specs.Prelude.{ℕ, ◌+◌, ◌-◌, ◌*◌, ◌/◌, ◌^◌, Bool, cond, not, ℤ, ◌+ℤ◌, ◌-ℤ◌, ◌==◌, bit_or, bit_xor, int_lt, nat_lt}
 use Rattle.std.specs.Int.Signed.{shr_z}
+use Rattle.field.specs.Wrap.{wrap32}
+use Rattle.field.specs.Bit.{bit}
 use Rattle.loading.specs.Run.{signed16}
 use Rattle.machine.specs.Instructions.{sa, immediate, target}
-use Rattle.machine.specs.Numbers.{wrap32, signed, bits, is_signed32, bit}
+use Rattle.machine.specs.Numbers.{signed, bits, is_signed32}
 use Rattle.machine.specs.declared.Instruction.{Instruction}
 use Rattle.machine.specs.declared.Instruction.TheVariants.{Nop, Addiu, Addi, Add, Addu, Sub, Subu, Slt, Sltu, Ori, Xori, Xor, Nor, Lui, Sra, Beq, Bne, J, Other}
 use Rattle.machine.specs.declared.Effect.{Effect}

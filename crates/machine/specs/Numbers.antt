@@ -1,11 +1,8 @@
 -- Numbers of 32 bits, unsigned and signed. Assumes nothing.
-use Rattle.std.specs.Prelude.{ℕ, ◌%◌, ◌^◌, Bool, true, false, ℤ, nat_lt, ◌+◌, ◌&&◌, nat_le}
+use Rattle.std.specs.Prelude.{ℕ, ◌%◌, ◌^◌, Bool, ℤ, nat_lt, ◌+◌, ◌&&◌, nat_le}
 use Rattle.std.specs.Int.Signed.{mag}
 use Rattle.std.specs.Int.{w32}
 use Rattle.std.proofs.Common.{to_z, of_z}
-
-abbrev pub wrap32 : ℕ → ℕ
-wrap32 n = n % 2 ^ 32
 
 -- 32 bits read as a two's complement number, and such a number's 32 bits
 abbrev pub signed : ℕ → ℤ
@@ -17,10 +14,6 @@ bits z = of_z w32 z
 -- z is from -2^31 to 2^31 - 1: `mag` gives n for both n and -1 - n
 abbrev pub is_signed32 : ℤ → Bool
 is_signed32 z = nat_lt (mag z) (2 ^ 31)
-
-abbrev pub bit : Bool → ℕ
-bit true = 1
-bit false = 0
 
 -- the signed number that n's 32 bits stand for, plus 2^31
 abbrev pub raised : ℕ → ℕ

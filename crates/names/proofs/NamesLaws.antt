@@ -5,8 +5,8 @@ use Rattle.std.proofs.Math.Bool.{true, false, and-eq-true_iff}
 use Rattle.std.proofs.Math.Path.{◌≡◌, refl, ap}
 use Rattle.std.proofs.Common.{sym, ap₂, ◌∙◌, length-take, length-drop, leb-true, le-leb, arith}
 use Rattle.record.specs.Bytes.{part}
-use Rattle.record.specs.Records.{body_len, next, whole, places, places_from, first_bad}
-use Rattle.record.proofs.RecordsLaws.{places_step, places_end, whole_is, first_pass, first_hit, first_good, first_place}
+use Rattle.record.specs.Records.{body_len, next, whole, places, places_from, first_bad, limit, within_limit}
+use Rattle.record.proofs.RecordsLaws.{places_step, places_end, whole_is, first_pass, first_hit, first_good, first_place, limit_good}
 use Rattle.names.specs.Names.{name_of, has_name, first_where, is_at, first_later, is_first}
 
 -- what the test that a record has a name says, in facts
@@ -122,6 +122,10 @@ module _ (same : ℕ → ℕ → Bool) where
   -- and so its place is within the list
   pub later_place : (s : List ℕ) (p : ℕ) → first_later same (places s) (places s) ≡ Some p → p ≤ length s
   later_place s p e = first_place (is_first same (places s)) s p (later_bad (places s) (places s) p e)
+
+  -- in a list within the limit it is at most the limit
+  pub repeat_within : (s : List ℕ) (l : Option ℕ) (p : ℕ) → within_limit s l ≡ None → first_later same (places s) (places s) ≡ Some p → p ≤ limit
+  repeat_within s l p g e = omega (arith, (limit_good s l g).0, later_place s p e)
 
 pub later_agree : (ok : ℕ → Bool) (same other : ℕ → ℕ → Bool) → ((p q : ℕ) → ok p ≡ true → ok q ≡ true → same p q ≡ other p q)
     → (list ps : List ℕ) → first_bad ok list ≡ None → first_bad ok ps ≡ None → first_later same list ps ≡ first_later other list ps

@@ -4,9 +4,9 @@ use Rattle.std.proofs.Common.{arith, sym, ◌∙◌}
 use Rattle.std.proofs.Math.Path.{ap}
 use mathlib.Core.List.{append-nil, append_assoc, flatten}
 use Rattle.io.specs.Digits.{last_digits}
+use Rattle.field.specs.Wrap.{wrap32}
 use Rattle.record.specs.Bytes.{le32}
 use Rattle.regions.specs.Regions.{region_count, region_place}
-use Rattle.patch.specs.Patches.{wrap32}
 use Rattle.reading.specs.Reading.{ImageRegion, Image, image_region, image_of}
 use Rattle.reading.proofs.ImageLaws.{image_next, image_end}
 use Rattle.reading.specs.Rows.{row, rows}

@@ -2,7 +2,7 @@
 use Rattle.std.specs.Prelude.{ℕ, zero, suc, ◌+◌, ◌-◌, ◌*◌, ◌/◌, ◌%◌, ◌≤◌, ◌<◌, List, [], ◌∷◌, ◌++◌, ◌≡◌, refl, length, take}
 use Rattle.std.proofs.Common.{mod-eq_of_lt, arith, append-nil, append_assoc, ap, ap₂, ◌∙◌, length-append, length-take, lt-ltb}
 use Rattle.io.specs.Digits.{hex_digit_ascii, last_digits}
-use Rattle.pseudo_names.specs.PseudoNames.{bytes_of}
+use Rattle.record.specs.Texts.{bytes_of}
 use Rattle.text.specs.Text.{hex_bytes}
 use Rattle.text.proofs.TextLaws.{hex_length, digits_length}
 use Rattle.page_outcome.specs.Page.{blanks, columns, line, cut, region_line, word_line}

@@ -1,6 +1,6 @@
 -- The end of a word's line: what comes after the word. Assumes nothing.
 use Rattle.std.specs.Prelude.{List, ◌++◌, ℕ}
-use Rattle.pseudo_names.specs.PseudoNames.{bytes_of}
+use Rattle.record.specs.Texts.{bytes_of}
 use Rattle.page_outcome.specs.Page.{columns, cut}
 
 -- two blanks, the label's columns, and 32 blanks to make 72 columns

@@ -3,9 +3,9 @@
 use Rattle.std.specs.Prelude.{ℕ, ◌+◌, ◌-◌, ◌<◌, ◌≡◌, refl, length, drop, get_or}
 use Rattle.std.proofs.Common.{arith, sym, ap, ap₂, ◌∙◌, length-append, get_or-drop}
 use mathlib.Core.List.{List, [], ◌∷◌, ◌++◌, map, flatten}
+use Rattle.field.specs.Wrap.{wrap32}
 use Rattle.record.specs.Records.{body_len, places}
 use Rattle.finished_words.specs.Listed.{Bytes}
-use Rattle.patch.specs.Patches.{wrap32}
 use Rattle.reading.specs.Reading.{ImageRegion, Image, image_region, image_of}
 use Rattle.reading.specs.Rows.{Row, rows}
 use Rattle.reading.proofs.RowsLaws.{Each, RowIs, rows_are, bytes_take, rows_bytes, data_of, rows_data}

@@ -5,8 +5,8 @@ use Rattle.std.proofs.Math.Seq.{take-append_seam, drop-append_seam}
 use Rattle.std.proofs.lemmas.Bool.{eqb-false}
 use Rattle.io.specs.Digits.{hex_digit_ascii, last_digits}
 use Rattle.record.specs.Bytes.{le32}
+use Rattle.record.specs.Texts.{bytes_of}
 use Rattle.finished_words.specs.Listed.{Bytes}
-use Rattle.pseudo_names.specs.PseudoNames.{bytes_of}
 use Rattle.reading.specs.Rows.{Row}
 use Rattle.reading.proofs.RowsLaws.{Each, RowIs}
 use Rattle.text.specs.Text.{hex_bytes, word_text}

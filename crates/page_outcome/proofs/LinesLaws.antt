@@ -4,7 +4,7 @@ use Rattle.std.proofs.Common.{arith, ap, length-append, length-take, leb-true, l
 use Rattle.std.proofs.lemmas.List.{length-replicate}
 use Rattle.std.proofs.lemmas.Bool.{lt-leb}
 use Rattle.io.specs.Digits.{last_digits}
-use Rattle.pseudo_names.specs.PseudoNames.{bytes_of}
+use Rattle.record.specs.Texts.{bytes_of}
 use Rattle.text.proofs.TextLaws.{digits_length}
 use Rattle.page_outcome.specs.Page.{blanks, columns, line, cut, region_line, word_line}
 

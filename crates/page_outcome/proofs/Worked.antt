@@ -2,10 +2,10 @@
 -- region's end, names of 20 and 21 bytes. Accepted at the exact length and with bytes behind it, 18 one byte short of it, 2 before 18. Assumes nothing.
 use Rattle.std.specs.Prelude.{ℕ, ◌≡◌, refl, replicate, Err, Ok}
 use mathlib.Core.List.{List, [], ◌∷◌, ◌++◌, flatten}
-use Rattle.pseudo_names.specs.PseudoNames.{bytes_of}
 use Rattle.record.specs.Bytes.{all, same_bytes}
 use Rattle.record.specs.Records.{places_f, places_from, places, first_bad, first_bad_of, within_limit}
 use Rattle.record.specs.Stores.{le32_bytes, record_bytes, append}
+use Rattle.record.specs.Texts.{bytes_of}
 use Rattle.refusal.specs.declared.Refusal.TheVariants.{BadLayout, DuplicateName, NoPageSpace}
 use Rattle.names.specs.Names.{first_where, first_later}
 use Rattle.name_order.specs.Order.{order}

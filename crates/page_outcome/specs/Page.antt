@@ -4,7 +4,7 @@ use mathlib.Core.List.{List, [], ◌∷◌, ◌++◌, map, flatten}
 use Rattle.io.specs.Digits.{last_digits}
 use Rattle.record.specs.Bytes.{le32}
 use Rattle.record.specs.Records.{places}
-use Rattle.pseudo_names.specs.PseudoNames.{bytes_of}
+use Rattle.record.specs.Texts.{bytes_of}
 use Rattle.names.specs.Owners.{owned_name}
 use Rattle.name_order.specs.Order.{order}
 use Rattle.reading.specs.Reading.{Image, image_of}

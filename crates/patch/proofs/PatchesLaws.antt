@@ -6,6 +6,7 @@ use Rattle.std.proofs.Math.Bool.{and-eq-true_iff}
 use Rattle.std.proofs.Common.{sym, subst, ◌∙◌, eqb-true, leb-true, leb-false, le-leb}
 use Rattle.std.proofs.Math.Path.{ap}
 use Rattle.std.proofs.lemmas.Bool.{lt-leb}
+use Rattle.field.specs.Wrap.{wrap32}
 use Rattle.jobs.specs.declared.Job.{Job}
 use Rattle.jobs.specs.Jobs.{by_manual, most_back, most_ahead}
 use Rattle.field.specs.Field.{get_field, set_field}
@@ -20,7 +21,7 @@ use Rattle.pending.specs.declared.InstructionLabelKind.{InstructionLabelKind}
 use Rattle.pending.specs.declared.InstructionLabelKind.TheVariants.{Branch, Jump, Lower, Upper, Full}
 use Rattle.pending.specs.declared.Pending.{Pending}
 use Rattle.regions.specs.declared.Region.{Region}
-use Rattle.patch.specs.Patches.{wrap32, pc_of, after, field_width, field_value, branch_in_range, jump_in_range, in_range, patched_word, plus_offset, destination, name_location, reach_verdict, patch_stop, pending_verdict}
+use Rattle.patch.specs.Patches.{pc_of, after, field_width, field_value, branch_in_range, jump_in_range, in_range, patched_word, plus_offset, destination, name_location, reach_verdict, patch_stop, pending_verdict}
 
 -- a destination of 32 bits has a field of the kind's width
 pub value_fits : (kind : InstructionLabelKind) (pc dest : ℕ) → dest < 2 ^ 32 → field_value kind pc dest < 2 ^ field_width kind

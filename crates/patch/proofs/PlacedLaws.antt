@@ -2,13 +2,14 @@
 use Rattle.std.specs.Prelude.{◌≡◌, ℕ, ◌+◌, ◌≤◌, List, length, ◌≢◌, None, Option, Some}
 use Rattle.std.proofs.Common.{arith, sym, ◌∙◌, ne_eqb}
 use Rattle.std.proofs.Math.Path.{refl, ap}
+use Rattle.field.specs.Wrap.{wrap32}
 use Rattle.record.specs.Bytes.{le32, part}
 use Rattle.labels.specs.Labels.{label_layout, labelled, resolve, table_of}
 use Rattle.labels.proofs.LabelsLaws.{labels_within, found_label, resolve_is}
 use Rattle.address_label.specs.declared.AddressLabel.{AddressLabel}
 use Rattle.address_label.specs.declared.AddressLabel.TheVariants.{Constant, Label}
 use Rattle.address_label.specs.declared.NamedLabel.{NamedLabel}
-use Rattle.patch.specs.Patches.{wrap32, plus_offset, destination}
+use Rattle.patch.specs.Patches.{plus_offset, destination}
 use Rattle.patch.proofs.PatchesLaws.{wrapped_offset}
 use Rattle.patch.specs.Placed.{no_place, place_of, label_place, address_at, placed_destination, Placed}
 

@@ -2,6 +2,7 @@
 -- the work stops'). Assumes nothing.
 use Rattle.std.specs.Prelude.{ℕ, ◌+◌, ◌-◌, ◌/◌, ◌%◌, ◌^◌, Bool, true, false, ◌&&◌, List, ◌==◌, nat_le, Err, None, Ok, Option, Some}
 use Rattle.field.specs.Field.{set_field}
+use Rattle.field.specs.Wrap.{wrap32}
 use Rattle.jobs.specs.declared.Job.{Job}
 use Rattle.jobs.specs.Jobs.{most_back, most_ahead}
 use Rattle.record.specs.Bytes.{le32, part}
@@ -18,9 +19,6 @@ use Rattle.pending.specs.declared.Pending.{Pending}
 use Rattle.regions.specs.declared.Region.{Region}
 use Rattle.regions.specs.Regions.{region_place, region_at}
 use Rattle.refusal.specs.Verdicts.{Verdict}
-
-abbrev pub wrap32 : ℕ → ℕ
-wrap32 n = n % 2 ^ 32
 
 -- "label address plus offset. The sum wraps at 2^32."
 abbrev pub plus_offset : Option ℕ → ℕ → Option ℕ

@@ -1,10 +1,11 @@
 -- A patch's destination from the place of its label, so that the label is looked up only once (document 02, P13). Assumes nothing.
 use Rattle.std.specs.Prelude.{ℕ, ◌+◌, true, false, List, ◌==◌, ◌≤◌, length, ◌≢◌, None, Option, Some}
+use Rattle.field.specs.Wrap.{wrap32}
 use Rattle.record.specs.Bytes.{le32, part}
 use Rattle.labels.specs.Labels.{labelled}
 use Rattle.address_label.specs.declared.AddressLabel.{AddressLabel}
 use Rattle.address_label.specs.declared.AddressLabel.TheVariants.{Constant, Label}
-use Rattle.patch.specs.Patches.{wrap32, plus_offset}
+use Rattle.patch.specs.Patches.{plus_offset}
 
 -- stands for no label: in a list of 65,536 bytes no whole record begins there
 abbrev pub no_place : ℕ

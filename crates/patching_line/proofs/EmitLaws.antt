@@ -22,14 +22,14 @@ use Rattle.emit_outcome.specs.Room.{no_region, most_data}
 use Rattle.emit_outcome.specs.Emit.{refuse, emit_outcome}
 use Rattle.emit_outcome.proofs.Refused.{refused_stays}
 use Rattle.patching_outcome.specs.declared.PatchCounts.{PatchCounts}
-use Rattle.patching_outcome.specs.Patching.{Patching, patching_of}
+use Rattle.patching_outcome.specs.Patching.{Patching, patching_of, filled_regions}
 use Rattle.patching_outcome.specs.Grown.{inserted, grown}
 use Rattle.patching_outcome.specs.Line.{most_words, emit_call, new_words, lined, lined_by}
 use Rattle.emit_in_list.specs.InList.{data_in}
 use Rattle.emit_in_list.proofs.CallLaws.{Told, told_done, told_refused, Appends, appends, words_are}
 use Rattle.emit_in_list.proofs.EmittedLaws.{call_adds, data_long}
 use Rattle.patching_line.specs.Contract.{given_of, LinesTo}
-use Rattle.patching_line.specs.Lists.{filled_regions, LineLists, timely, nowhere, room_of, counts_of, found_call, FoundIn, GrowsTo, counts_grown}
+use Rattle.patching_line.specs.Lists.{LineLists, timely, nowhere, room_of, counts_of, found_call, FoundIn, GrowsTo, counts_grown}
 
 -- ---- with no region selected
 

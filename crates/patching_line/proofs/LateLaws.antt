@@ -13,9 +13,9 @@ use Rattle.build_outcome.specs.Build.{patch_order}
 use Rattle.binary_builder.specs.Steps.{most_pendings, Ordered, InPatchOrder}
 use Rattle.binary_builder.proofs.OrderLaws.{order_count, pendings_few, order_pending}
 use Rattle.patching_outcome.specs.declared.PatchCounts.{PatchCounts}
-use Rattle.patching_outcome.specs.Patching.{patching_of}
+use Rattle.patching_outcome.specs.Patching.{patching_of, filled_regions, filled_pendings}
 use Rattle.patching_outcome.specs.Line.{is_below, is_late, late_refusal}
-use Rattle.patching_line.specs.Lists.{filled_regions, filled_pendings, LineLists}
+use Rattle.patching_line.specs.Lists.{LineLists}
 
 module _ (regions pending : List ℕ) (counts : PatchCounts) (region : ℕ) where
   pub late_stopped : (counts.state ≡ 0 → ⊥) → is_late (patching_of regions pending [] [] counts) region ≡ true

@@ -9,11 +9,11 @@ use Rattle.pending.specs.Pendings.{pending_layout}
 use Rattle.breakpoints.specs.Breakpoints.{filled_layout, breakpoint_buffer_layout}
 use Rattle.emit_outcome.specs.Room.{no_region}
 use Rattle.patching_outcome.specs.declared.PatchCounts.{PatchCounts}
-use Rattle.patching_outcome.specs.Patching.{patching_of, has_patched, pendings_layout}
+use Rattle.patching_outcome.specs.Patching.{patching_of, has_patched, pendings_layout, filled_regions, filled_pendings}
 use Rattle.patching_outcome.specs.Line.{listed_layout, line_layouts}
 use Rattle.patching_outcome.proofs.LayoutLaws.{LineListsPass, line_lists, listed_below}
 use Rattle.patching_line.specs.Contract.{given_of}
-use Rattle.patching_line.specs.Lists.{filled_regions, filled_pendings, listed_in, LayoutsAre, LineLists}
+use Rattle.patching_line.specs.Lists.{listed_in, LayoutsAre, LineLists}
 
 module _ (tokens mnemonic descriptors : List ℕ) (region : ℕ) (regions pending breakpoints : List ℕ) (counts : PatchCounts) where
   pub layouts_are : {t m d r p b : Verdict} → layout_verdict 0 (token_layout tokens) ≡ t → layout_verdict 1 (mnemonic_layout mnemonic) ≡ m

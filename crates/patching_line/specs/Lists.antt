@@ -13,18 +13,12 @@ use Rattle.emit_outcome.specs.Room.{no_region, most_data}
 use Rattle.emit_outcome.specs.Emit.{emit_outcome}
 use Rattle.patching_outcome.specs.declared.PatchCounts.{PatchCounts}
 use Rattle.patching_outcome.specs.declared.Lined.{Lined}
-use Rattle.patching_outcome.specs.Patching.{Patching, patching_of}
+use Rattle.patching_outcome.specs.Patching.{Patching, patching_of, filled_regions, filled_pendings}
 use Rattle.patching_outcome.specs.Line.{LineGiven, is_listed, only_listed, line_layouts, most_words, emit_call, lined_by, LineOutcome}
 use Rattle.emit_in_list.specs.InList.{list_call, EmittedIn}
 use Rattle.refusal.specs.declared.Refusal.{Refusal}
 use Rattle.refusal.specs.Verdicts.{Verdict}
 use Rattle.patching_line.specs.Contract.{LineIs}
-
-abbrev pub filled_regions : List ℕ → PatchCounts → List ℕ
-filled_regions regions counts = take counts.regions regions
-
-abbrev pub filled_pendings : List ℕ → PatchCounts → List ℕ
-filled_pendings pending counts = take counts.pending pending
 
 -- the layout of a line's region list, from its buffer and fill count
 abbrev pub listed_in : (region fill : ℕ) → List ℕ → Option ℕ

@@ -6,11 +6,11 @@ ghost use Rattle.record.specs.Records.{limit};
 ghost use Rattle.record.specs.Stores.{append, le16_bytes};
 ghost use Rattle.regions.specs.Regions.{region_count};
 ghost use Rattle.emit_outcome.specs.Emit.{emit_outcome};
-ghost use Rattle.patching_outcome.specs.Patching.{patching_of};
+ghost use Rattle.patching_outcome.specs.Patching.{patching_of, filled_regions};
 ghost use Rattle.patching_outcome.specs.Line.{most_words, is_listed, is_late, late_refusal, late_answer};
 ghost use Rattle.patching_line.specs.Contract.{given_of, LinesTo, LineIs};
 ghost use Rattle.patching_line.specs.Given.{given_by};
-ghost use Rattle.patching_line.specs.Lists.{filled_regions, listed_in, LayoutsAre, LineLists, timely, nowhere, FoundIn, GrowsTo, counts_grown, CheckedLine};
+ghost use Rattle.patching_line.specs.Lists.{listed_in, LayoutsAre, LineLists, timely, nowhere, FoundIn, GrowsTo, counts_grown, CheckedLine};
 
 use emit_in_list::Within;
 use emit_outcome::{EmitAnswer, Emitted, FillCounts, LinePlace, Lists, RefusedLine};

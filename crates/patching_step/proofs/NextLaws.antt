@@ -20,11 +20,11 @@ use Rattle.binary_builder.specs.Steps.{most_pendings}
 use Rattle.binary_builder.proofs.OrderLaws.{order_count, order_pending, order_region, pendings_few}
 use Rattle.patching_outcome.specs.declared.PatchCounts.{PatchCounts}
 use Rattle.patching_outcome.specs.declared.Progress.TheVariants.{Patched}
-use Rattle.patching_outcome.specs.Patching.{patching_of}
+use Rattle.patching_outcome.specs.Patching.{patching_of, filled_regions, filled_pendings}
 use Rattle.patching_outcome.specs.Step.{now_at, put_back, next_by}
 use Rattle.patching_outcome.specs.Contract.{StepsTo}
 use Rattle.patching_step.specs.Undo.{PatchAt, PatchesAt}
-use Rattle.patching_step.specs.Steps.{filled_regions, filled_pendings, StepLists, InOrder, next_at}
+use Rattle.patching_step.specs.Steps.{StepLists, InOrder, next_at}
 use Rattle.refusal.specs.Verdicts.{Verdict}
 
 -- what passes ends within its region's data

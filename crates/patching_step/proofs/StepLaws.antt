@@ -17,11 +17,11 @@ use Rattle.breakpoints.proofs.BreakpointsLaws.{filled_good}
 use Rattle.build_outcome.specs.Build.{patch_order, patches_verdict, entry_verdict, entry_address}
 use Rattle.patching_outcome.specs.declared.PatchCounts.{PatchCounts}
 use Rattle.patching_outcome.specs.declared.Progress.TheVariants.{Ended}
-use Rattle.patching_outcome.specs.Patching.{patching_of, regions_layout, has_patched, pendings_layout, kept_layout}
+use Rattle.patching_outcome.specs.Patching.{patching_of, regions_layout, has_patched, pendings_layout, kept_layout, filled_regions, filled_pendings}
 use Rattle.patching_outcome.proofs.LayoutLaws.{regions_good, pendings_are}
 use Rattle.patching_outcome.specs.Step.{StepAnswer, step_layouts, step_checks, StepOutcome, now_at, running_step, ended_by, stopped_step, step_by, step_outcome}
 use Rattle.patching_outcome.specs.Contract.{StepsTo, StepIs}
-use Rattle.patching_step.specs.Steps.{filled_regions, filled_pendings, StepLists, InOrder, next_at, Stopped, LayoutsAre}
+use Rattle.patching_step.specs.Steps.{StepLists, InOrder, next_at, Stopped, LayoutsAre}
 
 -- ---- while patching runs
 module _ (job : Job) (labels : Table) (entry : ℕ) (regions pending kept : List ℕ) (counts : PatchCounts) (order : List ℕ) (in_order : InOrder regions pending counts order) where

@@ -1,5 +1,5 @@
 -- What the parts of a step are given, and what they promise. Assumes nothing.
-use Rattle.std.specs.Prelude.{ℕ, ◌*◌, ◌≤◌, List, ◌≡◌, length, take, None, Err, Ok, Result}
+use Rattle.std.specs.Prelude.{ℕ, ◌*◌, ◌≤◌, List, ◌≡◌, length, None, Err, Ok, Result}
 use Rattle.jobs.specs.declared.Job.{Job}
 use Rattle.record.specs.Records.{places}
 use Rattle.labels.specs.Labels.{Table}
@@ -7,19 +7,13 @@ use Rattle.regions.specs.Regions.{region_count}
 use Rattle.pending.specs.Pendings.{pending_layout}
 use Rattle.build_outcome.specs.Build.{patch_order, patch_verdict}
 use Rattle.patching_outcome.specs.declared.PatchCounts.{PatchCounts}
-use Rattle.patching_outcome.specs.Patching.{Patching, patching_of, regions_of, pendings_of}
+use Rattle.patching_outcome.specs.Patching.{Patching, patching_of, filled_regions, filled_pendings, regions_of, pendings_of}
 use Rattle.patching_outcome.specs.Step.{StepAnswer, step_layouts, StepOutcome, next_by, stopped_step}
 use Rattle.patching_step.specs.Undo.{FilledRegions}
 use Rattle.refusal.specs.Verdicts.{Verdict}
 use Rattle.refusal.specs.declared.Refusal.{Refusal}
 use Rattle.patching_outcome.specs.declared.Stepped.{Stepped}
 use Rattle.patching_outcome.specs.Contract.{StepIs}
-
-abbrev pub filled_regions : List ℕ → PatchCounts → List ℕ
-filled_regions regions counts = take counts.regions regions
-
-abbrev pub filled_pendings : List ℕ → PatchCounts → List ℕ
-filled_pendings pending counts = take counts.pending pending
 
 -- lists that keep their layouts
 pub record ListsGood (regions pending : List ℕ) (counts : PatchCounts) : Type 0 where

@@ -5,8 +5,8 @@ use Rattle.std.proofs.lemmas.Bool.{lt-leb}
 use Rattle.std.proofs.Math.Bool.{and-eq-true_iff}
 use Rattle.io.specs.Digits.{last_digits}
 use Rattle.jobs.specs.declared.Job.{Job}
+use Rattle.record.specs.Texts.{bytes_of}
 use Rattle.refusal.specs.Numbers.{numbered}
-use Rattle.pseudo_names.specs.PseudoNames.{bytes_of}
 use Rattle.emit_outcome.specs.Answer.{EmitAnswer}
 use Rattle.patching_outcome.specs.declared.PatchCounts.{PatchCounts}
 use Rattle.patching_outcome.specs.declared.Progress.TheVariants.{Patched, Ended}

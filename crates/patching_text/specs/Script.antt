@@ -3,7 +3,7 @@ use Rattle.std.specs.Prelude.{ℕ, zero, suc, List, ◌++◌, true, false, leb, 
 use Rattle.io.specs.Digits.{last_digits}
 use Rattle.jobs.specs.declared.Job.{Job}
 use Rattle.record.specs.Bytes.{byte_at}
-use Rattle.pseudo_names.specs.PseudoNames.{bytes_of}
+use Rattle.record.specs.Texts.{bytes_of}
 use Rattle.refusal.specs.Numbers.{numbered}
 use Rattle.labels.specs.Labels.{table_of}
 use Rattle.emit_outcome.specs.Answer.{EmitAnswer}

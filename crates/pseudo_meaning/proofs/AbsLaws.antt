@@ -4,7 +4,8 @@ use Rattle.std.proofs.Common.{arith, ap, ◌∙◌, ltb-true, ltb-false}
 use Rattle.std.specs.Int.Bits.{bit_and, bit_xor, xor_zero_r, xor_add_and}
 use Rattle.std.proofs.lemmas.Nat.{and_mask}
 use Rattle.std.specs.Int.Signed.{shr_z}
-use Rattle.machine.specs.Numbers.{wrap32, signed, bits}
+use Rattle.field.specs.Wrap.{wrap32}
+use Rattle.machine.specs.Numbers.{signed, bits}
 use Rattle.machine.proofs.NumbersLaws.{shift_from, shift_below}
 
 -- 0 or 2^32 - 1, by the sign

@@ -1,6 +1,7 @@
 -- The claim of P11 for abs in jobs by the manual. Assumes nothing.
 use Rattle.std.specs.Prelude.{ℕ, ◌+◌, ◌*◌, ◌%◌, ◌^◌, ◌<◌, ◌≡◌, refl, true, List, [], ◌∷◌, nat_abs, length, None}
 use Rattle.std.proofs.Common.{arith, ap, ◌∙◌, subst}
+use Rattle.field.specs.Wrap.{wrap32}
 use Rattle.jobs.specs.declared.Job.{Job}
 use Rattle.jobs.specs.declared.Job.TheVariants.{Commit, Manual, Release6}
 use Rattle.jobs.specs.Jobs.{by_manual}
@@ -9,7 +10,7 @@ use Rattle.registers.specs.NumberLaws.{register_lt}
 use Rattle.pseudo_names.specs.declared.Pseudo.TheVariants.{Abs}
 use Rattle.reading.specs.Reading.{Image, image_of}
 use Rattle.loading.specs.Run.{Registers, read_register}
-use Rattle.machine.specs.Numbers.{wrap32, signed}
+use Rattle.machine.specs.Numbers.{signed}
 use Rattle.machine.specs.Effects.{next_pc}
 use Rattle.machine.specs.Step.{at}
 use Rattle.machine.specs.declared.Reason.TheVariants.{Allowance}

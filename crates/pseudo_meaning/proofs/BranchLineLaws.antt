@@ -4,6 +4,7 @@ use Rattle.std.proofs.Common.{arith, sym, ap, ap₂, ◌∙◌, subst, inl, inr,
 use mathlib.Core.List.Memᴰ
 use mathlib.Core.List.{List, [], ◌∷◌, ◌++◌, Memᴰ}
 use Rattle.std.proofs.lemmas.Bool.{eqb-false}
+use Rattle.field.specs.Wrap.{wrap32}
 use Rattle.jobs.specs.declared.Job.{Job}
 use Rattle.jobs.specs.declared.Job.TheVariants.{Commit, Manual, Release6}
 use Rattle.jobs.specs.Jobs.{by_manual}
@@ -15,7 +16,7 @@ use Rattle.address_label.specs.declared.AddressLabel.{AddressLabel}
 use Rattle.pending.specs.declared.InstructionLabelKind.{InstructionLabelKind}
 use Rattle.pending.specs.declared.InstructionLabelKind.TheVariants.{Branch}
 use Rattle.pending.specs.Pendings.{pending_at}
-use Rattle.patch.specs.Patches.{wrap32, after, address_or}
+use Rattle.patch.specs.Patches.{after, address_or}
 use Rattle.patch.proofs.PatchesLaws.{manual_near}
 use Rattle.pseudo_names.specs.declared.Pseudo.TheVariants.{BranchCustom}
 use Rattle.operand.specs.declared.InstructionValue.{InstructionValue}

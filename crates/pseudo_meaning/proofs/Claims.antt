@@ -2,8 +2,9 @@
 use Rattle.std.specs.Prelude.{◌≡◌, refl, true, false, Some}
 use Rattle.jobs.specs.declared.Job.{Job}
 use Rattle.record.specs.Bytes.{same_bytes}
+use Rattle.record.specs.Texts.{bytes_of}
 use Rattle.pseudo_names.specs.declared.Pseudo.TheVariants.{Abs, BranchCustom, SetCustom, Seq, Sne}
-use Rattle.pseudo_names.specs.PseudoNames.{bytes_of, pseudo_in, pseudo_of}
+use Rattle.pseudo_names.specs.PseudoNames.{pseudo_in, pseudo_of}
 use Rattle.pseudo_meaning.specs.Lines.{LineInBuild}
 use Rattle.pseudo_meaning.specs.Meaning.{BranchMeans, SetMeans, AbsMeans}
 use Rattle.pseudo_meaning.specs.Stops.{BranchStops, SetStops, SeqStops, SneStops}

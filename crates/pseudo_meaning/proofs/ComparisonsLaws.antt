@@ -4,7 +4,8 @@ use Rattle.std.proofs.Common.{sym, ltb-true, ltb-false, le-leb}
 use Rattle.std.specs.Int.Bits.{bit_xor}
 use Rattle.std.specs.Int.Signed.{lt_z, le_z}
 use Rattle.std.proofs.lemmas.Bool.{lt-leb}
-use Rattle.machine.specs.Numbers.{signed, bit}
+use Rattle.field.specs.Bit.{bit}
+use Rattle.machine.specs.Numbers.{signed}
 use Rattle.pseudo_meaning.specs.Comparisons.{compares}
 
 -- what slt finds: the operands are exchanged for greater than

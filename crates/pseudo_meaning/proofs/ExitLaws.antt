@@ -4,10 +4,10 @@ use Rattle.std.proofs.Common.{arith, inl, inr, ⊎_elim, sym, ◌∙◌, subst}
 use mathlib.Core.List.Memᴰ
 use mathlib.Core.List.{List, [], Memᴰ}
 use Rattle.std.proofs.lemmas.List.{length-map}
+use Rattle.field.specs.Wrap.{wrap32}
 use Rattle.record.specs.Bytes.{le32}
 use Rattle.regions.specs.Regions.{region_place}
 use Rattle.pending.specs.Pendings.{pending_at}
-use Rattle.patch.specs.Patches.{wrap32}
 use Rattle.build_outcome.proofs.KeptLaws.{Kept}
 use Rattle.build_outcome.specs.Build.{patched_regions}
 use Rattle.build_outcome.proofs.BuildLaws.{outcome_accepted}

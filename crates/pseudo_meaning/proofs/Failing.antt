@@ -7,6 +7,7 @@ use Rattle.field.specs.Field.{get_field, set_field}
 use Rattle.record.specs.Bytes.{all, same_bytes}
 use Rattle.record.specs.Records.{places_f, places_from, places, first_bad, first_bad_of, within_limit}
 use Rattle.record.specs.Stores.{append}
+use Rattle.record.specs.Texts.{bytes_of}
 use Rattle.refusal.specs.Verdicts.{first_stop}
 use Rattle.names.specs.Names.{first_where, first_later}
 use Rattle.loading.specs.Load.{is_small, form_of, load_words}
@@ -26,7 +27,7 @@ use Rattle.descriptors.specs.Mnemonics.{mnemonic_ok, one_mnemonic, mnemonic_layo
 use Rattle.descriptors.specs.Descriptors.{fields_ok, descriptor_ok, descriptor_layout}
 use Rattle.breakpoints.specs.Breakpoints.{breakpoint_ok, filled_layout, pending_buffer_layout, breakpoint_buffer_layout, data_buffer_layout}
 use Rattle.breakpoints.specs.BreakpointBytes.{pcs_bytes}
-use Rattle.pseudo_names.specs.PseudoNames.{bytes_of, pseudo_in}
+use Rattle.pseudo_names.specs.PseudoNames.{pseudo_in}
 use Rattle.emit_pairs.specs.Pairs.{load_pairs, label_pairs, is_immediate, immediate_pairs}
 use Rattle.emit_bytes.specs.Appended.{word_bytes, pendings_bytes}
 use Rattle.emit_dispatch.specs.Lines.{encoding_line, pseudo_line}

@@ -4,6 +4,7 @@ use Rattle.std.proofs.Common.{arith, sym, subst}
 use mathlib.Core.List.{List, [], ◌∷◌, ◌++◌, map, Memᴰ}
 use Rattle.jobs.specs.declared.Job.TheVariants.{Commit, Manual}
 use Rattle.registers.specs.declared.RegisterSlot.TheVariants.{Temporary0, Temporary1, Temporary2}
+use Rattle.record.specs.Texts.{bytes_of}
 use Rattle.regions.specs.Regions.{region_count}
 use Rattle.record.specs.Bytes.{part}
 use Rattle.address_label.specs.declared.AddressLabel.TheVariants.{Constant}
@@ -41,7 +42,7 @@ use Rattle.descriptors.specs.Mnemonics.{mnemonic_ok, one_mnemonic, mnemonic_layo
 use Rattle.descriptors.specs.Descriptors.{fields_ok, descriptor_ok, descriptor_layout}
 use Rattle.breakpoints.specs.Breakpoints.{breakpoint_ok, filled_layout, pending_buffer_layout, breakpoint_buffer_layout, data_buffer_layout}
 use Rattle.breakpoints.specs.BreakpointBytes.{pcs_bytes}
-use Rattle.pseudo_names.specs.PseudoNames.{bytes_of, pseudo_in}
+use Rattle.pseudo_names.specs.PseudoNames.{pseudo_in}
 use Rattle.emit_pairs.specs.Pairs.{load_pairs, label_pairs, is_immediate, immediate_pairs}
 use Rattle.emit_bytes.specs.Appended.{word_bytes, pendings_bytes}
 use Rattle.emit_dispatch.specs.Lines.{encoding_line, pseudo_line}

@@ -5,6 +5,8 @@ use Rattle.std.proofs.Math.Path.{ap, ap₂}
 use Rattle.std.proofs.Math.Bool.{true, false}
 use Rattle.std.specs.Int.Bits.{bit_xor}
 use Rattle.std.proofs.Math.ListN.{length}
+use Rattle.field.specs.Wrap.{wrap32}
+use Rattle.field.specs.Bit.{bit}
 use Rattle.word.proofs.LayoutLaws.{get_opcode, get_rs}
 use Rattle.registers.specs.Numbers.{register_number}
 use Rattle.operand.specs.declared.InstructionValue.{InstructionValue}
@@ -15,7 +17,7 @@ use Rattle.loading.specs.Load.{low32, upper_half, lower_half, form_of, form_word
 use Rattle.loading.specs.Run.{Registers, read_register, write_register}
 use Rattle.loading.proofs.Loading.{read_chosen, read_other, length_write, loading_runs}
 use Rattle.reading.specs.Reading.{Image}
-use Rattle.machine.specs.Numbers.{wrap32, signed, bit}
+use Rattle.machine.specs.Numbers.{signed}
 use Rattle.machine.specs.Effects.{next_pc, branch_target, branch_if}
 use Rattle.machine.specs.Step.{goes, at, apply, step_word}
 use Rattle.machine.specs.declared.Machine.{Machine}

@@ -1,13 +1,13 @@
 -- The claim of P11 for sge, sgt and sle. Assumes nothing.
 use Rattle.std.specs.Prelude.{ℕ, ◌^◌, ◌<◌, ◌≡◌, Bool, true, false, List, [], ◌∷◌, ◌++◌, length}
 use Rattle.std.proofs.Common.{arith, ap₂, length-append}
+use Rattle.field.specs.Bit.{bit}
 use Rattle.registers.specs.Numbers.{register_number}
 use Rattle.registers.specs.NumberLaws.{register_lt}
 use Rattle.pseudo_names.specs.declared.Pseudo.TheVariants.{SetCustom}
 use Rattle.operand.specs.declared.InstructionValue.{InstructionValue}
 use Rattle.reading.specs.Reading.{Image, image_of}
 use Rattle.loading.specs.Run.{Registers, read_register}
-use Rattle.machine.specs.Numbers.{bit}
 use Rattle.dry_run_outcome.proofs.StandingLaws.{Standing}
 use Rattle.formats.proofs.Formats.{InFormats, no_words, first}
 use Rattle.formats.proofs.EncodingFormats.{value_in}

@@ -1,6 +1,7 @@
 -- The forms that fail P11 stop at their comparison in every run. Assumes nothing.
 use Rattle.std.specs.Prelude.{ℕ, zero, suc, ◌+◌, ◌-◌, ◌*◌, ◌%◌, ◌^◌, ◌<◌, ◌≡◌, refl, Bool, true, false, List, [], ◌∷◌, ◌++◌, length, get_or, Some}
 use Rattle.std.proofs.Common.{add-zero, arith, ap, ◌∙◌, length-append}
+use Rattle.field.specs.Wrap.{wrap32}
 use Rattle.registers.specs.Numbers.{register_number}
 use Rattle.registers.specs.declared.RegisterSlot.{RegisterSlot}
 use Rattle.pseudo_names.specs.declared.Pseudo.{Pseudo}
@@ -11,7 +12,6 @@ use Rattle.emit_dispatch.specs.Wants.{pseudo_wants}
 use Rattle.emit_dispatch.specs.Lines.{pseudo_pairs}
 use Rattle.reading.specs.Reading.{Image, image_of}
 use Rattle.loading.specs.Run.{Registers}
-use Rattle.machine.specs.Numbers.{wrap32}
 use Rattle.machine.specs.Instructions.{rs, rt, rd}
 use Rattle.machine.specs.Effects.{next_pc}
 use Rattle.machine.specs.Step.{at, stops, step_word}

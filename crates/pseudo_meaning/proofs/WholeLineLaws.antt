@@ -1,11 +1,11 @@
 -- The words of a whole line, those that load its literal and its own, run from their pc. Assumes nothing.
 use Rattle.std.specs.Prelude.{ℕ, ◌+◌, ◌*◌, ◌%◌, ◌^◌, ◌<◌, ◌≡◌, Bool, true, false, cond, List, [], ◌∷◌, ◌++◌, length}
 use Rattle.std.proofs.Common.{arith, ap, ap₂, ◌∙◌}
+use Rattle.field.specs.Bit.{bit}
 use Rattle.operand.specs.declared.InstructionValue.{InstructionValue}
 use Rattle.loading.specs.Run.{Registers, read_register, write_register}
 use Rattle.loading.proofs.Loading.{read_chosen, read_other, length_write}
 use Rattle.reading.specs.Reading.{Image}
-use Rattle.machine.specs.Numbers.{bit}
 use Rattle.machine.specs.Effects.{next_pc, branch_target}
 use Rattle.machine.specs.Step.{at}
 use Rattle.machine.specs.declared.Reason.TheVariants.{Allowance}

@@ -1,6 +1,7 @@
 -- The line of an accepted emit call, and where it stands in the lists of a build (document 02, P11). Assumes nothing.
 use Rattle.std.specs.Prelude.{ℕ, ◌+◌, ◌*◌, ◌<◌, ◌≤◌, ◌≡◌, ◌⊎◌, length}
 use mathlib.Core.List.{List, map, Memᴰ}
+use Rattle.field.specs.Wrap.{wrap32}
 use Rattle.jobs.specs.declared.Job.{Job}
 use Rattle.record.specs.Bytes.{part}
 use Rattle.regions.specs.declared.Region.{Region}
@@ -12,7 +13,6 @@ use Rattle.operand.specs.Answers.{Got}
 use Rattle.operand_list.specs.OperandLists.{AskedAll, read_operands}
 use Rattle.descriptors.specs.Mnemonics.{mnemonic_name}
 use Rattle.pending.specs.Pendings.{pending_at}
-use Rattle.patch.specs.Patches.{wrap32}
 use Rattle.loading.specs.declared.LoadForm.{LoadForm}
 use Rattle.emit_bytes.specs.Appended.{word_bytes}
 use Rattle.emit_dispatch.specs.Wants.{pseudo_wants}

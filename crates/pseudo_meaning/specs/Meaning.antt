@@ -1,6 +1,8 @@
 -- What P11 claims (document 02) about every accepted line in every accepted build, whatever the job of either, and from every state.
 -- Assumes nothing.
 use Rattle.std.specs.Prelude.{ℕ, ◌^◌, ◌<◌, ◌≡◌, Bool, true, false, cond, nat_abs}
+use Rattle.field.specs.Wrap.{wrap32}
+use Rattle.field.specs.Bit.{bit}
 use Rattle.jobs.specs.Jobs.{by_manual}
 use Rattle.registers.specs.Numbers.{register_number}
 use Rattle.registers.specs.declared.RegisterSlot.{RegisterSlot}
@@ -10,10 +12,9 @@ use Rattle.operand.specs.declared.InstructionValue.{InstructionValue}
 use Rattle.operand.specs.declared.InstructionValue.TheVariants.{Slot, Literal}
 use Rattle.operand_list.specs.OperandLists.{AskedAll}
 use Rattle.emit_dispatch.specs.Wants.{pseudo_wants}
-use Rattle.patch.specs.Patches.{wrap32}
 use Rattle.loading.specs.Load.{low32}
 use Rattle.loading.specs.Run.{read_register}
-use Rattle.machine.specs.Numbers.{signed, bit}
+use Rattle.machine.specs.Numbers.{signed}
 use Rattle.machine.specs.declared.Machine.{Machine}
 use Rattle.machine.specs.declared.Reason.TheVariants.{Allowance}
 use Rattle.dry_run_outcome.specs.declared.DryRun.{DryRun}

@@ -1,13 +1,13 @@
 -- The forms that fail P11 (document 02): every run of them stops, whatever the job, and where. They compare with the Rust's function 41, at
 -- which a dry run stops; the manual's SLTU is 43. Assumes nothing.
 use Rattle.std.specs.Prelude.{ℕ, ◌+◌, ◌*◌, ◌≡◌, Bool, true, length}
+use Rattle.field.specs.Wrap.{wrap32}
 use Rattle.pseudo_names.specs.declared.Pseudo.{Pseudo}
 use Rattle.pseudo_names.specs.declared.Pseudo.TheVariants.{BranchCustom, SetCustom, Seq, Sne}
 use Rattle.operand.specs.declared.InstructionValue.{InstructionValue}
 use Rattle.operand_list.specs.OperandLists.{AskedAll}
 use Rattle.emit_dispatch.specs.Wants.{pseudo_wants}
 use Rattle.emit_dispatch.specs.LineLoads.{value_loads, loading_words}
-use Rattle.patch.specs.Patches.{wrap32}
 use Rattle.machine.specs.declared.Machine.{Machine}
 use Rattle.machine.specs.declared.Reason.TheVariants.{Word}
 use Rattle.dry_run_outcome.specs.declared.DryRun.{DryRun}

@@ -1,19 +1,14 @@
 -- The names of the pseudo-instructions (emit.rs). Assumes nothing.
 use Rattle.std.specs.Prelude.{ℕ, List, [], ◌∷◌, true, false, None, Option, Some}
-use Prim.Native.Char.{code}
-use Prim.Native.String.{String, [] as empty, ◌∷◌ as ◌then◌}
+use Prim.Native.String.{String}
 use Rattle.record.specs.Bytes.{same_bytes}
+use Rattle.record.specs.Texts.{bytes_of}
 use Rattle.pseudo_names.specs.declared.Pseudo.{Pseudo}
 use Rattle.pseudo_names.specs.declared.Pseudo.TheVariants.{Nop, Abs, BranchCustom, SetCustom, Beqz, Bnez, Seq, Sne, Neg, Negu, Not, Li, La, Move, B, Subi, Subiu}
 
 pub record PseudoName : Type 0 where
   pub name : List ℕ
   pub pseudo : Pseudo
-
--- the bytes of a text; its characters are ASCII
-abbrev pub bytes_of : String → List ℕ
-bytes_of empty = []
-bytes_of (c then s) = code c ∷ bytes_of s
 
 abbrev pub called : String → Pseudo → PseudoName
 called name pseudo = record { name = bytes_of name; pseudo = pseudo }

@@ -1,7 +1,8 @@
 -- What each kind of field reads as. Assumes nothing.
 use Rattle.std.specs.Prelude.{ℕ, ◌+◌, ◌-◌, ◌*◌, ◌/◌, ◌%◌, ◌^◌, ◌<◌, ◌≤◌, Bool, true, false, ◌≡◌, refl, leb}
 use Rattle.std.proofs.Common.{arith, mod-eq_of_lt, lt-ltb, le-ltb, leb-true, leb-false}
-use Rattle.patch.specs.Patches.{wrap32, after, distance_bits}
+use Rattle.field.specs.Wrap.{wrap32}
+use Rattle.patch.specs.Patches.{after, distance_bits}
 use Rattle.reading.specs.Reading.{signed_bytes}
 
 signed_low : (n : ℕ) → n < 32768 → signed_bytes n ≡ 4 * n

@@ -3,13 +3,14 @@ use Rattle.std.specs.Prelude.{ℕ, ◌+◌, ◌-◌, ◌*◌, ◌/◌, ◌%◌, 
 use Rattle.std.proofs.Common.{arith, sym, ap, ◌∙◌, leb-true, ltb-true, ltb-false}
 use Rattle.std.proofs.Math.Path.{◌≡◌, ap₂}
 use Rattle.std.proofs.Math.Bool.{true, and-eq-true_iff}
+use Rattle.field.specs.Wrap.{wrap32}
 use Rattle.jobs.specs.declared.Job.{Job}
 use Rattle.jobs.specs.Jobs.{by_manual, most_back, most_ahead}
 use Rattle.labels.specs.Labels.{Table}
 use Rattle.pending.specs.declared.InstructionLabelKind.{InstructionLabelKind}
 use Rattle.pending.specs.declared.InstructionLabelKind.TheVariants.{Branch, Jump, Lower, Upper, Full}
 use Rattle.pending.specs.Pendings.{pending_at}
-use Rattle.patch.specs.Patches.{wrap32, after, distance_bits, field_width, field_value, branch_in_range, in_range}
+use Rattle.patch.specs.Patches.{after, distance_bits, field_width, field_value, branch_in_range, in_range}
 use Rattle.build_outcome.specs.Build.{patched_regions, build_verdict}
 use Rattle.finished_words.specs.Listed.{In, Apart, destination_at, pc_at}
 use Rattle.finished_words.proofs.AcceptedLaws.{dest_lt, in_range_lem}

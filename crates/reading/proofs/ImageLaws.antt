@@ -2,13 +2,14 @@
 use Rattle.std.specs.Prelude.{ℕ, zero, suc, ◌+◌, ◌-◌, ◌<◌, ◌≤◌, List, [], ◌∷◌, map, ◌≡◌, refl, length, drop, get_or}
 use Rattle.std.proofs.Common.{arith, add_assoc, add-one, sym, ap, ap₂, ◌∙◌, length-take, length-drop, drop_of_length-le, drop-cons, get_or-take, get_or-drop}
 use Rattle.std.proofs.lemmas.List.{length-map}
+use Rattle.field.specs.Wrap.{wrap32}
 use Rattle.record.specs.Bytes.{byte_at, le32, part}
 use Rattle.record.specs.Records.{body_len, places}
 use Rattle.regions.specs.declared.Region.{Region}
 use Rattle.regions.specs.Regions.{region_count, region_place, region_at}
 use Rattle.regions.proofs.RegionsLaws.{RegionIs, region_is, region_place_ok}
 use Rattle.pending.specs.declared.Pending.{Pending}
-use Rattle.patch.specs.Patches.{wrap32, pc_of, region_for}
+use Rattle.patch.specs.Patches.{pc_of, region_for}
 use Rattle.build_outcome.proofs.KeptLaws.{Kept, region_same}
 use Rattle.reading.specs.Reading.{ImageRegion, image_region, image_of, missing_region, region_in, pc_in, word_in}
 

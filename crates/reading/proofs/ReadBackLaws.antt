@@ -5,6 +5,7 @@ use Rattle.std.proofs.Common.{arith, sym, ◌∙◌, eqb-true}
 use Rattle.std.proofs.Math.Bool.{true}
 use Rattle.std.proofs.Math.Path.{ap, ap₂}
 use Rattle.std.proofs.lemmas.Bool.{eqb-false}
+use Rattle.field.specs.Wrap.{wrap32}
 use Rattle.jobs.specs.declared.Job.{Job}
 use Rattle.jobs.specs.declared.Job.TheVariants.{Commit, Manual, Release6}
 use Rattle.jobs.specs.Jobs.{by_manual}
@@ -18,7 +19,7 @@ use Rattle.pending.specs.Pendings.{pending_at, label_of}
 use Rattle.labels.specs.Labels.{Table, table_of}
 use Rattle.labels.proofs.StraightLaws.{straight}
 use Rattle.names.specs.Owners.{WithoutOwners}
-use Rattle.patch.specs.Patches.{destination, plus_offset, wrap32, after, field_width, field_value, in_range, address_or}
+use Rattle.patch.specs.Patches.{destination, plus_offset, after, field_width, field_value, in_range, address_or}
 use Rattle.patch.proofs.PatchesLaws.{jump_page, manual_near}
 use Rattle.build_outcome.specs.Build.{patched_regions, build_verdict}
 use Rattle.finished_words.specs.Listed.{In, Apart, kind_of, slot_at, destination_at, pc_at}

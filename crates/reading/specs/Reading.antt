@@ -1,5 +1,6 @@
 -- The finished image, and document 01's MIPS32 reading of each patch in it. Assumes nothing.
 use Rattle.std.specs.Prelude.{ℕ, ◌+◌, ◌-◌, ◌*◌, ◌/◌, ◌%◌, ◌^◌, List, [], map, true, false, get_or, ltb, Option, Some}
+use Rattle.field.specs.Wrap.{wrap32}
 use Rattle.record.specs.Bytes.{le32, part}
 use Rattle.record.specs.Records.{body_len, places}
 use Rattle.labels.specs.Labels.{Table}
@@ -7,7 +8,7 @@ use Rattle.pending.specs.declared.InstructionLabelKind.{InstructionLabelKind}
 use Rattle.pending.specs.declared.InstructionLabelKind.TheVariants.{Branch, Jump, Lower, Upper, Full}
 use Rattle.pending.specs.declared.Pending.{Pending}
 use Rattle.pending.specs.Pendings.{pending_at}
-use Rattle.patch.specs.Patches.{wrap32, after, destination}
+use Rattle.patch.specs.Patches.{after, destination}
 
 -- "its image is each region's address and final data"
 pub record ImageRegion : Type 0 where

@@ -1,6 +1,6 @@
 -- The words of a region's data in order: `finish` (document 01) and a page for the wall (document 02, P3) have a line for each. Assumes nothing.
 use Rattle.std.specs.Prelude.{ℕ, ◌+◌, List, [], ◌∷◌}
-use Rattle.patch.specs.Patches.{wrap32}
+use Rattle.field.specs.Wrap.{wrap32}
 
 -- a word: its pc and its bytes
 pub record Row : Type 0 where

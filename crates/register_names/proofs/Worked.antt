@@ -2,7 +2,8 @@
 use Rattle.std.specs.Prelude.{◌≡◌, refl, Some, None}
 use Rattle.registers.specs.declared.RegisterSlot.TheVariants.{Temporary0, ReturnAddress}
 use Rattle.registers.specs.declared.FPRegisterSlot.TheVariants.{F31}
-use Rattle.register_names.specs.RegisterNames.{bytes_of, register_named}
+use Rattle.record.specs.Texts.{bytes_of}
+use Rattle.register_names.specs.RegisterNames.{register_named}
 use Rattle.register_names.specs.declared.NamedRegister.TheVariants.{General, Float}
 
 pub known : (register_named (bytes_of "t0") ≡ Some (General Temporary0)) × (register_named (bytes_of "31") ≡ Some (General ReturnAddress)) × (register_named (bytes_of "f31") ≡ Some (Float F31))

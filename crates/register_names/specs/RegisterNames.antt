@@ -1,17 +1,11 @@
 -- The names of the registers (document 02, P7: "Registers use the names in registers.rs, 0 to 31, or f0 to f31, without leading zeros").
 -- Assumes nothing.
 use Rattle.std.specs.Prelude.{ℕ, suc, List, [], ◌∷◌, ◌++◌, map, true, false, length, ltb, Option, Some, None}
-use Prim.Native.Char.{code}
-use Prim.Native.String.{String, [] as empty, ◌∷◌ as ◌then◌}
 use Rattle.record.specs.Bytes.{same_bytes}
+use Rattle.record.specs.Texts.{bytes_of}
 use Rattle.registers.specs.Slots.{register_of, fp_register_of}
 use Rattle.register_names.specs.declared.NamedRegister.{NamedRegister}
 use Rattle.register_names.specs.declared.NamedRegister.TheVariants.{General, Float}
-
--- a string's bytes: its characters are ASCII
-abbrev pub bytes_of : String → List ℕ
-bytes_of empty = []
-bytes_of (c then s) = code c ∷ bytes_of s
 
 -- the names in registers.rs, in the order of the registers' numbers
 unfoldable pub general_names : List (List ℕ)

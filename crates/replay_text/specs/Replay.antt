@@ -2,7 +2,7 @@
 -- its answer, fill counts or lent bytes are not the ones stored after its inputs. Assumes nothing.
 use Rattle.std.specs.Prelude.{ℕ, zero, suc, ◌+◌, List, ◌++◌, Bool, true, false, ◌&&◌, ltb, replicate}
 use Rattle.record.specs.Bytes.{same_bytes}
-use Rattle.pseudo_names.specs.PseudoNames.{bytes_of}
+use Rattle.record.specs.Texts.{bytes_of}
 use Rattle.emit_outcome.specs.declared.LinePlace.{LinePlace}
 use Rattle.emit_outcome.specs.Call.{Lent, lent_of}
 use Rattle.linked_build.specs.LinkedBuild.{linked_build}

@@ -1,32 +1,21 @@
 -- What an accepted line leaves is taken by the next call and by a build, and reads as what was there and then the line's own
 -- (document 01: "the filled parts of the last two are checked as lists"). Assumes nothing.
-use Rattle.std.specs.Prelude.{ℕ, ◌+◌, ◌*◌, ◌<◌, ◌≡◌, List, [], ◌∷◌, ◌++◌, true, length, take, None}
+use Rattle.std.specs.Prelude.{ℕ, ◌+◌, ◌*◌, ◌<◌, ◌≡◌, [], ◌∷◌, ◌++◌, true, length, None}
 use Rattle.std.proofs.Common.{sym, subst}
 use Rattle.jobs.specs.declared.Job.{Job}
 use Rattle.pending.specs.Pendings.{pending_layout}
 use Rattle.breakpoints.specs.Breakpoints.{region_number_ok, data_buffer_layout, pending_buffer_layout, breakpoint_buffer_layout}
 use Rattle.emit_bytes.specs.Appended.{word_bytes}
 use Rattle.loading.specs.declared.LoadForm.{LoadForm}
-use Rattle.emit_outcome.specs.Call.{Lent, Call, EmitOutcome}
+use Rattle.emit_outcome.specs.Call.{filled_data, filled_pending, filled_breakpoints, Call, EmitOutcome}
 use Rattle.emit_outcome.specs.Emit.{emit_outcome}
 use Rattle.emit_outcome.specs.Answer.{done_at}
-use Rattle.emit_outcome.specs.declared.FillCounts.{FillCounts}
 use Rattle.finished_words.specs.Listed.{Bytes}
 use Rattle.routine.specs.PatchValues.{patches_in}
 use Rattle.routine.specs.BreakpointValues.{breakpoints_in}
 use Rattle.routine.specs.CallValues.{call_pairs, call_patches, call_breakpoint}
 use Rattle.routine.proofs.AcceptedLaws.{AcceptedCall, accept_line, accepted}
 use Rattle.routine.proofs.LineFitsLaws.{data_after, words_after, data_count_after, region_selected, pending_after, patches_after, build_after, breakpoints_after, breakpoints_read}
-
--- the filled parts
-abbrev pub filled_data : Lent → FillCounts → List ℕ
-filled_data lent counts = take counts.data_len lent.region_data
-
-abbrev pub filled_pending : Lent → FillCounts → List ℕ
-filled_pending lent counts = take counts.pending lent.pending
-
-abbrev pub filled_breakpoints : Lent → FillCounts → List ℕ
-filled_breakpoints lent counts = take counts.breakpoints lent.breakpoints
 
 pub record LineFits (job : Job) (c : Call) (o : EmitOutcome) : Type 0 where
   -- the next call's checks of the three buffers pass

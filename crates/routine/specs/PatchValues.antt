@@ -1,9 +1,10 @@
 -- Patches as values, with names as bytes, so that patches in two buffers can be compared (document 01, 'Pending 36, breakpoint 37'). Assumes nothing.
 use Rattle.std.specs.Prelude.{ℕ, ◌+◌, ◌*◌, List, [], ◌∷◌, ◌++◌, map, None, Option, Some}
+use Rattle.field.specs.Wrap.{wrap32}
 use Rattle.record.specs.Records.{places}
 use Rattle.record.specs.declared.Location.{Location}
 use Rattle.labels.specs.Labels.{Table}
-use Rattle.patch.specs.Patches.{wrap32, plus_offset}
+use Rattle.patch.specs.Patches.{plus_offset}
 use Rattle.address_label.specs.LabelBytes.{name_bytes}
 use Rattle.address_label.specs.declared.AddressLabel.{AddressLabel}
 use Rattle.address_label.specs.declared.AddressLabel.TheVariants.{Constant, Label}

@@ -2,6 +2,7 @@
 -- Assumes nothing.
 use Rattle.std.specs.Prelude.{ℕ, zero, suc, ◌+◌, ◌%◌, ◌<◌, ◌≤◌, ◌≡◌, refl, List, [], ◌∷◌, ◌++◌, false, None, Ok, Option, Some}
 use Rattle.std.proofs.Common.{arith, sym, ap, subst, ◌∙◌}
+use Rattle.field.specs.Wrap.{wrap32}
 use Rattle.jobs.specs.declared.Job.{Job}
 use Rattle.jobs.specs.declared.Job.TheVariants.{Commit, Manual, Release6}
 use Rattle.record.specs.Bytes.{all, same_bytes}
@@ -17,7 +18,7 @@ use Rattle.pending.specs.declared.InstructionLabelKind.TheVariants.{Branch, Jump
 use Rattle.breakpoints.specs.BreakpointBytes.{pcs_bytes}
 use Rattle.emit_pairs.specs.Pairs.{label_pairs, immediate_pairs}
 use Rattle.emit_outcome.specs.Emit.{emit_outcome}
-use Rattle.patch.specs.Patches.{wrap32, plus_offset, in_range}
+use Rattle.patch.specs.Patches.{plus_offset, in_range}
 use Rattle.build_outcome.specs.Build.{entry_verdict, build_verdict, build_outcome}
 use Rattle.example_lists.specs.Lists.{descriptor}
 use Rattle.reading.specs.Reading.{image_of, readings, destinations}

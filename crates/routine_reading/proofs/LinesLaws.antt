@@ -1,6 +1,7 @@
 -- Labels mean lines: what branches and jumps to labels before lines read as, and that no build refuses them. Assumes nothing.
 use Rattle.std.specs.Prelude.{ℕ, ◌+◌, ◌%◌, ◌^◌, ◌<◌, ◌≤◌, ◌≡◌, refl, List, true, None, Ok, Option, Some}
 use Rattle.std.proofs.Common.{arith, sym, ap, subst, ◌∙◌}
+use Rattle.field.specs.Wrap.{wrap32}
 use Rattle.jobs.specs.declared.Job.{Job}
 use Rattle.jobs.specs.declared.Job.TheVariants.{Commit}
 use Rattle.record.specs.Records.{places}
@@ -11,7 +12,7 @@ use Rattle.pending.specs.Pendings.{pending_ok, pending_layout, pending_at}
 use Rattle.pending.proofs.PendingsLaws.{pending_good, pending_region}
 use Rattle.pending.specs.declared.InstructionLabelKind.{InstructionLabelKind}
 use Rattle.pending.specs.declared.InstructionLabelKind.TheVariants.{Branch, Jump, Lower, Upper, Full}
-use Rattle.patch.specs.Patches.{wrap32, plus_offset, destination, address_or, in_range}
+use Rattle.patch.specs.Patches.{plus_offset, destination, address_or, in_range}
 use Rattle.patch.proofs.PatchesLaws.{verdict_is, passes}
 use Rattle.build_outcome.specs.Build.{patch_verdict, patch_order, build_verdict}
 use Rattle.build_outcome.proofs.BuildLaws.{all_pass, ordered_in, accepted_is, is_accepted}

@@ -5,6 +5,7 @@ use Rattle.std.proofs.Common.{arith}
 use Rattle.std.specs.Prelude.{◌≡◌, refl, List, Bool, true, false, leb, None}
 use Rattle.std.proofs.Math.Bool.{and-eq-true_iff}
 use borrow.Author.Tests.{le-leb, eq-eqb}
+use Rattle.field.specs.Wrap.{wrap32}
 use Rattle.jobs.specs.declared.Job.{Job}
 use Rattle.jobs.specs.Jobs.{by_manual, most_back, most_ahead}
 use Rattle.regions.specs.declared.Region.{Region}
@@ -12,7 +13,7 @@ use Rattle.regions.specs.Regions.{region_layout, region_count, region_place}
 use Rattle.regions.proofs.RegionsLaws.{region_is, region_place_ok, region_good}
 use Rattle.pending.specs.declared.InstructionLabelKind.{InstructionLabelKind}
 use Rattle.pending.specs.declared.InstructionLabelKind.TheVariants.{Branch, Jump, Lower, Upper, Full}
-use Rattle.patch.specs.Patches.{wrap32, after, branch_in_range, jump_in_range, in_range}
+use Rattle.patch.specs.Patches.{after, branch_in_range, jump_in_range, in_range}
 use Rattle.reading.specs.OnTarget.{Going}
 use Rattle.reading.proofs.ExactlyLaws.{taken}
 use Rattle.routine_reading.specs.Lines.{region_number, Plain}

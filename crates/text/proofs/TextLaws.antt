@@ -7,9 +7,9 @@ use Rattle.io.specs.Digits.{hex_digit_ascii, last_digits, IsDigitCount}
 use Rattle.record.specs.Bytes.{le32}
 use Rattle.record.specs.Stores.{append}
 use Rattle.record.proofs.StoresLaws.{append_none, append_append, append_then, filled_append}
+use Rattle.record.specs.Texts.{bytes_of}
 use Rattle.refusal.specs.Split.{is_negative, size}
 use Rattle.refusal.specs.declared.Numbered.{Numbered}
-use Rattle.pseudo_names.specs.PseudoNames.{bytes_of}
 use Rattle.text.specs.Text.{Put, decimal_in, decimal, hex_bytes, word_text, field, signed_field, last_field, location_fields, refused_line}
 
 append_length : (d : List ℕ) (at : ℕ) (xs : List ℕ) → at + length xs ≤ length d → length (append d at xs) ≡ length d

@@ -4,7 +4,7 @@ use Rattle.io.specs.Digits.{hex_digit_ascii, last_digits}
 use Rattle.record.specs.Bytes.{le32}
 use Rattle.record.specs.Stores.{append}
 use Rattle.record.specs.declared.Location.{Location}
-use Rattle.pseudo_names.specs.PseudoNames.{bytes_of}
+use Rattle.record.specs.Texts.{bytes_of}
 use Rattle.refusal.specs.declared.Numbered.{Numbered}
 
 -- xs is written into d at `at`: `e` is d afterwards, and `end` is where xs ends

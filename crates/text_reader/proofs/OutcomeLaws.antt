@@ -10,6 +10,7 @@ use Rattle.record.specs.Records.{limit}
 use Rattle.record.specs.Stores.{append}
 use Rattle.record.proofs.StoresLaws.{append_append}
 use Rattle.refusal.specs.declared.Refusal.TheVariants.{BadLayout, BadByte as Refusal21, BadToken as Refusal22, NoTokenSpace}
+use Rattle.refusal.specs.Leaves.{leaves}
 use Rattle.lexer.specs.declared.Token.{Token as TokenRead}
 use Rattle.lexer.specs.declared.TokenKind.{TokenKind}
 use Rattle.token_bytes.specs.TokenBytes.{carried_by, carried_size, token_bytes}
@@ -24,7 +25,7 @@ use Rattle.text_pieces.specs.declared.Piece.TheVariants.{Blank, Token, BadByte, 
 use Rattle.text_reader.specs.Reading.{Reading, End, Next, Fault, location_of, reading, reading_from}
 use Rattle.text_reader.proofs.ReadingLaws.{reading_end, reading_step}
 use Rattle.text_reader.proofs.FitLaws.{Good, Stands, piece_good}
-use Rattle.text_reader.specs.Outcome.{answer_from, bytes_of, answer_of, leaves, outcome_of, read_text, is_read}
+use Rattle.text_reader.specs.Outcome.{answer_from, bytes_of, answer_of, outcome_of, read_text, is_read}
 use Rattle.refusal.specs.declared.Refusal.{Refusal}
 
 -- where a blank byte stands there is a blank

@@ -7,9 +7,10 @@ use Rattle.record.specs.Records.{limit}
 use Rattle.record.specs.Stores.{append}
 use Rattle.record.proofs.StoresLaws.{filled_append}
 use Rattle.refusal.specs.declared.Refusal.{Refusal}
+use Rattle.refusal.specs.Leaves.{leaves}
 use Rattle.token_bytes.proofs.Written.{list_bytes, AllFit, Written, written_reads_back}
 use Rattle.text_reader.specs.Reading.{reading, tokens_of}
-use Rattle.text_reader.specs.Outcome.{answer_of, bytes_of, leaves, read_text, is_read}
+use Rattle.text_reader.specs.Outcome.{answer_of, bytes_of, read_text, is_read}
 use Rattle.text_reader.proofs.OutcomeLaws.{read_fits, over_text, over_tokens, within_limits}
 use Rattle.text_reader.proofs.TokensLaws.{tokens_all, bytes_are}
 

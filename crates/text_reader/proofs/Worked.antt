@@ -1,12 +1,12 @@
 -- The definition, computed: texts that are read, among them one that the theorems' premises fit, and each refusal. Assumes nothing.
 use Rattle.std.specs.Prelude.{ℕ, [], ◌∷◌, ◌≡◌, refl, replicate, Err, Ok, Result}
 use Prim.Native.String.{String}
+use Rattle.record.specs.Texts.{bytes_of}
 use Rattle.refusal.specs.declared.Refusal.TheVariants.{BadByte, BadToken, NoTokenSpace}
 use Rattle.registers.specs.declared.RegisterSlot.TheVariants.{Temporary0}
 use Rattle.lexer.specs.declared.Token.{Token}
 use Rattle.lexer.specs.declared.TokenKind.{TokenKind}
 use Rattle.lexer.specs.declared.TokenKind.TheVariants.{Comment, Directive, Register, IntegerLiteral, Symbol, Minus, Comma, NewLine}
-use Rattle.register_names.specs.RegisterNames.{bytes_of}
 use Rattle.text_pieces.specs.Pieces.{piece_at}
 use Rattle.text_reader.specs.Reading.{location_of, reading_from, reading, tokens_of}
 use Rattle.text_reader.specs.Outcome.{answer_of, answer_from, read_text}

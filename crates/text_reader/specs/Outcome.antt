@@ -3,6 +3,7 @@ use Rattle.std.specs.Prelude.{ℕ, ◌+◌, List, [], ◌++◌, Bool, true, fals
 use Rattle.record.specs.Records.{limit}
 use Rattle.record.specs.Stores.{append}
 use Rattle.refusal.specs.declared.Refusal.TheVariants.{BadLayout, NoTokenSpace}
+use Rattle.refusal.specs.Leaves.{leaves}
 use Rattle.token_bytes.specs.TokenBytes.{token_bytes}
 use Rattle.text_reader.specs.Reading.{Reading, End, Next, Fault, reading}
 use Rattle.refusal.specs.declared.Refusal.{Refusal}
@@ -28,11 +29,6 @@ answer_of text source room =
       | true ↦ elim (leb room limit) [ true ↦ answer_from text room 0 (reading source text) | false ↦ Err (BadLayout 1 limit) ]
       | false ↦ Err (BadLayout 0 limit)
     ]
-
--- the records go to the buffer's start, and the bytes after them stay; a refusal changes no byte
-abbrev pub leaves : Result ℕ Refusal → (records buffer : List ℕ) → List ℕ
-leaves (Ok fill) records buffer = append buffer 0 records
-leaves (Err r) records buffer = buffer
 
 pub record TextOutcome : Type 0 where
   pub answer : Result ℕ Refusal

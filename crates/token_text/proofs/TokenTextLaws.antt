@@ -4,11 +4,12 @@ use Rattle.std.proofs.Common.{arith, sym, ◌∙◌, length-append, length-take,
 use Rattle.std.proofs.Math.Path.{ap}
 use Rattle.std.proofs.lemmas.List.{length-replicate}
 use Rattle.record.specs.Records.{limit}
-use Rattle.pseudo_names.specs.PseudoNames.{bytes_of}
+use Rattle.record.specs.Texts.{bytes_of}
 use Rattle.refusal.specs.declared.Refusal.{Refusal}
 use Rattle.refusal.specs.Numbers.{numbered}
+use Rattle.refusal.specs.Leaves.{leaves}
 use Rattle.text_reader.specs.Reading.{reading}
-use Rattle.text_reader.specs.Outcome.{answer_of, bytes_of as records_of, leaves, read_text}
+use Rattle.text_reader.specs.Outcome.{answer_of, bytes_of as records_of, read_text}
 use Rattle.text_reader.proofs.OutcomeLaws.{over_text, over_tokens}
 use Rattle.text.specs.Text.{hex_bytes, refused_line}
 use Rattle.text.proofs.TextLaws.{hex_length}

@@ -1,6 +1,6 @@
 -- What `read_text` prints (document 02, P7), in the lines that docs/DECISIONS.md gives. Assumes nothing.
 use Rattle.std.specs.Prelude.{ℕ, List, ◌++◌, take, drop, replicate, Err, Ok, Result}
-use Rattle.pseudo_names.specs.PseudoNames.{bytes_of}
+use Rattle.record.specs.Texts.{bytes_of}
 use Rattle.refusal.specs.Numbers.{numbered}
 use Rattle.text_reader.specs.Outcome.{TextOutcome, read_text}
 use Rattle.input.specs.Input.{word_or_zero}

@@ -1,18 +1,18 @@
 -- Laws of the call's checks, and its outcome by what its two passes answer and leave. Assumes nothing.
 use Rattle.std.specs.Prelude.{ℕ, ◌≤◌, ◌<◌, List, true, false, ◌≡◌, length, Err, None, Ok, Option, Result, Some}
-use Rattle.std.proofs.Common.{arith, sym, ◌∙◌, le-leb}
+use Rattle.std.proofs.Common.{sym, ◌∙◌, le-leb}
 use Rattle.std.proofs.lemmas.Bool.{lt-leb}
 use Rattle.std.proofs.Math.Path.{refl, ap, ap₂}
 use Rattle.record.specs.Records.{places, first_bad, limit, within_limit}
 use Rattle.record.proofs.RecordsLaws.{limit_good, first_limit}
 use Rattle.record.specs.Stores.{append}
 use Rattle.record.proofs.StoresLaws.{append_none}
-use Rattle.names.proofs.NamesLaws.{later_place}
+use Rattle.names.proofs.NamesLaws.{repeat_within}
 use Rattle.refusal.specs.declared.Refusal.{Refusal}
 use Rattle.refusal.specs.declared.Refusal.TheVariants.{BadLayout}
 use Rattle.refusal.specs.Verdicts.{and_then, layout_verdict, name_verdict, Verdict}
 use Rattle.refusal.proofs.VerdictsLaws.{both_pass, layout_pass}
-use Rattle.lexer.specs.Tokens.{token_ok, token_layout}
+use Rattle.lexer.specs.Tokens.{token_layout}
 use Rattle.macros.specs.Macros.{macro_at_ok, macro_layout, same_macro, macro_repeat}
 use Rattle.written_out.specs.Written.{Step, written_out}
 use Rattle.written_out.specs.Outcome.{answer_from, bytes_of, write_out_stop, answer_after, outcome_of, write_out_outcome}
@@ -22,17 +22,13 @@ use Rattle.write_out.proofs.FillLaws.{written_all}
 use Rattle.write_out.specs.Entry.{room_layout, stop_by}
 
 -- ---- places that a refusal names
-pub token_place : (s : List ℕ) (p : ℕ) → token_layout s ≡ Some p → p ≤ limit
-unfolding token_layout
-token_place s p e = first_limit (token_ok s) s p e
-
 pub macro_place : (s : List ℕ) (p : ℕ) → macro_layout s ≡ Some p → p ≤ limit
 unfolding macro_layout
 macro_place s p e = first_limit (macro_at_ok s) s p e
 
 pub repeat_place : (s : List ℕ) (p : ℕ) → macro_layout s ≡ None → macro_repeat s ≡ Some p → p ≤ limit
 unfolding macro_layout macro_repeat
-repeat_place s p g e = omega (arith, (limit_good s (first_bad (macro_at_ok s) (places s)) g).0, later_place (same_macro s) s p e)
+repeat_place s p = repeat_within (same_macro s) s (first_bad (macro_at_ok s) (places s)) p
 
 -- ---- the checks in order
 module _ (tokens macros : List ℕ) (room : ℕ) where

@@ -12,13 +12,14 @@ use Rattle.record.proofs.StoresLaws.{filled_append}
 use Rattle.refusal.specs.declared.Refusal.TheVariants.{NoWrittenSpace}
 use Rattle.refusal.specs.Verdicts.{layout_verdict, name_verdict, Verdict}
 use Rattle.refusal.proofs.VerdictsLaws.{both_pass, layout_pass}
+use Rattle.refusal.specs.Leaves.{leaves}
 use Rattle.lexer.specs.Tokens.{token_ok, token_layout}
 use Rattle.lexer.proofs.TokensLaws.{token_good}
 use Rattle.line_heads.specs.Lines.{record_at, records_of}
 use Rattle.macros.specs.Macros.{body_tokens, macro_of, macro_ok, body_at, macro_at_ok, macro_layout, macros_of, macro_repeat}
 use Rattle.macros.proofs.LayoutLaws.{parts_of}
 use Rattle.written_out.specs.Written.{Step, write, stop, written_out}
-use Rattle.written_out.specs.Outcome.{answer_from, bytes_of, write_out_stop, answer_after, leaves, write_out_outcome}
+use Rattle.written_out.specs.Outcome.{answer_from, bytes_of, write_out_stop, answer_after, write_out_outcome}
 use Rattle.written_out.proofs.Every.{Every, EveryMacro, EveryStep, every_written}
 use Rattle.written_out.proofs.AloneLaws.{Alone, alone_then, alone_at}
 use Rattle.refusal.specs.declared.Refusal.{Refusal}

@@ -4,7 +4,8 @@ use Rattle.std.proofs.Common.{refl, sym, ap, ◌∙◌, arith}
 use Rattle.std.proofs.lemmas.Result.{err_from_is_err_and}
 use Rattle.refusal.specs.Verdicts.{layout_verdict}
 use Rattle.refusal.proofs.VerdictsLaws.{verdict}
-use Rattle.emit_checks.proofs.PlacesLaws.{token_place, mnemonic_place, descriptor_place, data_place, pending_place, breakpoint_place}
+use Rattle.lexer.proofs.TokensLaws.{token_place}
+use Rattle.emit_checks.proofs.PlacesLaws.{mnemonic_place, descriptor_place, data_place, pending_place, breakpoint_place}
 use Rattle.emit_checks.proofs.ListsLaws.{verdicts_are}
 use Rattle.emit_checks.proofs.check_layouts.Goals as goal
 

@@ -1,6 +1,6 @@
 use Rattle.std.proofs.Common.{◌≡◌, ◌+◌, ◌*◌, ◌++◌, length}
 use Rattle.std.specs.Slice.Iter.{chunks_rest, chunks_size}
-use Rattle.patch.specs.Patches.{wrap32}
+use Rattle.field.specs.Wrap.{wrap32}
 use Rattle.image_text.specs.Image.{data_lines}
 use Rattle.image_text.proofs.put_data.Given as goal
 

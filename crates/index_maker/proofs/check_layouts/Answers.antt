@@ -4,11 +4,12 @@ use Rattle.std.proofs.lemmas.Result.{err_from_is_err_and}
 use Rattle.record.specs.Records.{within_limit}
 use Rattle.record.proofs.RecordsLaws.{limit_kept, limit_passed}
 use Rattle.refusal.specs.Verdicts.{and_then, layout_verdict, Verdict}
+use Rattle.labels.proofs.LabelsLaws.{label_place_lem}
 use Rattle.breakpoints.specs.Breakpoints.{pending_buffer_layout}
 use Rattle.labels.specs.Labels.{label_layout}
 use Rattle.emit_checks.proofs.PlacesLaws.{pending_place}
 use Rattle.indexed_outcome.specs.Make.{make_layouts}
-use Rattle.indexed_outcome.proofs.MakeLaws.{label_place_lem, layouts_are}
+use Rattle.indexed_outcome.proofs.MakeLaws.{layouts_are}
 use Rattle.index_maker.proofs.check_layouts.Goals as goal
 
 -- the layouts' verdict by that of each buffer

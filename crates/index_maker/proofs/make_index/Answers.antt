@@ -4,10 +4,11 @@ use Rattle.std.proofs.lemmas.Result.{err_from_is_err_and}
 use Rattle.refusal.specs.declared.Refusal.{Refusal}
 use Rattle.refusal.specs.Verdicts.{and_then, name_verdict, Verdict}
 use Rattle.labels.specs.Labels.{label_repeat}
+use Rattle.labels.proofs.LabelsLaws.{repeat_place}
 use Rattle.breakpoints.proofs.BreakpointsLaws.{pending_buffer_good}
 use Rattle.label_uses.specs.UseBytes.{index_of}
 use Rattle.indexed_outcome.specs.Make.{make_layouts, make_outcome, make_by, made_of, room_for}
-use Rattle.indexed_outcome.proofs.MakeLaws.{layouts_good, outcome_by, repeat_place}
+use Rattle.indexed_outcome.proofs.MakeLaws.{layouts_good, outcome_by}
 use Rattle.index_maker.proofs.make_index.Goals as goal
 use Rattle.index_maker.proofs.make_index.Goals.{After-first_repeat}
 

@@ -1,7 +1,7 @@
 use Rattle.std.proofs.Common.{◌≡◌, ℕ, List, length, sym, ap, ◌∙◌, subst, arith, rules}
 use Rattle.record.specs.Records.{places}
 use Rattle.record.specs.Stores.{append}
-use Rattle.emit_outcome.specs.Call.{lent_of}
+use Rattle.emit_outcome.specs.Call.{lent_of, filled_pending}
 use Rattle.emit_pairs.specs.Pairs.{pairs_of}
 use Rattle.label_uses.specs.Uses.{uses_of}
 use Rattle.label_uses.specs.UseBytes.{uses_bytes}
@@ -9,7 +9,6 @@ use Rattle.use_adding.specs.Adding.{IndexIn}
 use Rattle.line_uses.specs.Line.{LineIn}
 use Rattle.line_uses.specs.LineUses.{line_uses}
 use Rattle.line_uses.specs.LineIndex.{RoomForLine, AddsLineTo}
-use Rattle.indexed_outcome.specs.Indexed.{filled_pending}
 use Rattle.indexed_core.proofs.NewUsesLaws.{part_bytes, index_held}
 use Rattle.indexed_core.proofs.append_indexed.Goals as goal
 use Rattle.indexed_core.proofs.append_indexed.Goals.{After-count-first, After-add_to-filled}

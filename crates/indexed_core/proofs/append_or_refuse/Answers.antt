@@ -4,7 +4,7 @@ use Rattle.std.proofs.lemmas.Result.{err_from_is_err_and}
 use Rattle.record.specs.Records.{places}
 use Rattle.emit_pairs.specs.declared.emit_instruction.EmitInstruction.{EmitInstruction}
 use Rattle.emit_dispatch.specs.declared.Unmade.{Unmade}
-use Rattle.emit_outcome.specs.Call.{Lent, lent_of}
+use Rattle.emit_outcome.specs.Call.{Lent, lent_of, filled_pending}
 use Rattle.emit_outcome.specs.Emit.{line_outcome}
 use Rattle.emit_outcome.specs.declared.RefusedLine.{RefusedLine}
 use Rattle.emit_pairs.specs.Pairs.{pairs_of}
@@ -16,7 +16,7 @@ use Rattle.use_adding.specs.Adding.{IndexIn}
 use Rattle.use_adding.proofs.AddingLaws.{part_in}
 use Rattle.line_uses.specs.Line.{LineIn}
 use Rattle.line_uses.specs.LineIndex.{SizeWithLine}
-use Rattle.indexed_outcome.specs.Indexed.{IndexedOutcome, filled_pending, indexed_outcome_of}
+use Rattle.indexed_outcome.specs.Indexed.{IndexedOutcome, indexed_outcome_of}
 use Rattle.indexed_core.specs.Steps.{new_index, with_index}
 use Rattle.indexed_core.proofs.NewUsesLaws.{part_bytes, index_held}
 use Rattle.indexed_core.proofs.StepsLaws.{with_stopped, with_short, with_room}

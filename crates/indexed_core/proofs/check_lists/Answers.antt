@@ -3,15 +3,15 @@ use Rattle.std.proofs.Common.{refl, sym, ap, ap₂, ◌∙◌, arith, length-tak
 use Rattle.std.proofs.lemmas.Result.{err_from_is_err_and}
 use Rattle.refusal.specs.Verdicts.{and_then, layout_verdict, name_verdict, Verdict}
 use Rattle.refusal.proofs.VerdictsLaws.{layout_pass, verdict}
+use Rattle.labels.proofs.LabelsLaws.{repeat_place, label_place_lem}
 use Rattle.descriptors.specs.Descriptors.{descriptor_repeat}
 use Rattle.labels.specs.Labels.{label_layout, label_repeat}
-use Rattle.emit_outcome.specs.Call.{lent_of, call_of}
+use Rattle.emit_outcome.specs.Call.{lent_of, call_of, filled_pending}
 use Rattle.emit_outcome.specs.Checks.{layout_stop}
 use Rattle.emit_checks.proofs.ListsLaws.{layouts_pass}
 use Rattle.emit_checks.proofs.PlacesLaws.{repeat_place as descriptor_place}
 use Rattle.label_uses.specs.UseBytes.{index_layout}
-use Rattle.indexed_outcome.specs.Indexed.{IndexedCall, filled_pending, indexed_call_of, indexed_stop}
-use Rattle.indexed_outcome.proofs.MakeLaws.{label_place_lem, repeat_place}
+use Rattle.indexed_outcome.specs.Indexed.{IndexedCall, indexed_call_of, indexed_stop}
 use Rattle.indexed_core.proofs.ChecksLaws.{index_place, pending_passes, stops_are}
 use Rattle.indexed_core.proofs.check_lists.Goals as goal
 use Rattle.indexed_core.proofs.check_lists.Goals.{After-check_layouts, After-check_uses-uses, After-first_repeat}

@@ -1,7 +1,7 @@
 use Rattle.std.specs.Prelude.{Err}
 use Rattle.std.proofs.Common.{ℕ, List, true, sym, ap, subst, ◌∙◌, arith}
 use Rattle.std.proofs.lemmas.Result.{err_from_is_err_and}
-use Rattle.emit_outcome.specs.Call.{Lent, Call, EmitOutcome, lent_of, call_of}
+use Rattle.emit_outcome.specs.Call.{Lent, Call, EmitOutcome, lent_of, call_of, filled_pending}
 use Rattle.emit_outcome.specs.Emit.{line_outcome}
 use Rattle.emit_outcome.specs.declared.RefusedLine.{RefusedLine}
 use Rattle.emit_checks.specs.Made.{made_line}
@@ -10,7 +10,7 @@ use Rattle.emit_made.proofs.MadeLaws.{stopped_ok, stopped_err}
 use Rattle.emit_core.specs.Read.{ReadBy, ReadIs}
 use Rattle.emit_core.proofs.EmitLaws.{read_outcome_lem, unread_outcome}
 use Rattle.label_uses.specs.UseBytes.{index_of}
-use Rattle.indexed_outcome.specs.Indexed.{IndexedCall, filled_pending, indexed_call_of, indexed_outcome_of}
+use Rattle.indexed_outcome.specs.Indexed.{IndexedCall, indexed_call_of, indexed_outcome_of}
 use Rattle.indexed_core.specs.Steps.{new_index}
 use Rattle.indexed_core.proofs.NewUsesLaws.{new_index_lem}
 use Rattle.indexed_core.proofs.ChecksLaws.{all_pass, pending_passes}

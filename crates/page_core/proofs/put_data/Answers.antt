@@ -1,6 +1,6 @@
 use Rattle.std.proofs.Common.{◌≡◌, ◌+◌, ◌*◌, ◌≤◌, ◌<◌, ◌++◌, ◌∙◌, length, length-append, ap, arith}
 use Rattle.std.specs.Slice.Iter.{chunks_rest}
-use Rattle.patch.specs.Patches.{wrap32}
+use Rattle.field.specs.Wrap.{wrap32}
 use Rattle.text.specs.Text.{word_text}
 use Rattle.text.proofs.TextLaws.{Left, left_room, left_next, left_none, text_length}
 use Rattle.page_outcome.specs.Page.{word_line, label_at}

@@ -6,11 +6,12 @@ use Rattle.refusal.specs.Verdicts.{layout_verdict}
 use Rattle.refusal.proofs.VerdictsLaws.{layout_pass, verdict}
 use Rattle.pending.specs.Pendings.{pending_layout}
 use Rattle.breakpoints.specs.Breakpoints.{filled_layout}
-use Rattle.emit_checks.proofs.PlacesLaws.{token_place, mnemonic_place, descriptor_place, breakpoint_place}
+use Rattle.lexer.proofs.TokensLaws.{token_place}
+use Rattle.emit_checks.proofs.PlacesLaws.{mnemonic_place, descriptor_place, breakpoint_place}
 use Rattle.patching_outcome.specs.declared.PatchCounts.{PatchCounts}
-use Rattle.patching_outcome.specs.Patching.{has_patched}
+use Rattle.patching_outcome.specs.Patching.{has_patched, filled_pendings}
 use Rattle.patching_checks.proofs.PlacesLaws.{pendings_place}
-use Rattle.patching_line.specs.Lists.{filled_pendings, listed_in}
+use Rattle.patching_line.specs.Lists.{listed_in}
 use Rattle.patching_line.proofs.ListedLaws.{listed_place, listed_good}
 use Rattle.patching_line.proofs.ListsLaws.{layouts_are}
 use Rattle.patching_line.proofs.check_layouts.Goals as goal

@@ -2,7 +2,7 @@ use Rattle.std.proofs.Common.{ℕ, ap, ◌∙◌, arith}
 use Rattle.std.proofs.lemmas.List.{length-replicate}
 use Rattle.pending.specs.Pendings.{pending_at}
 use Rattle.binary_builder.specs.Steps.{most_pendings}
-use Rattle.patching_line.specs.Lists.{filled_pendings}
+use Rattle.patching_outcome.specs.Patching.{filled_pendings}
 use Rattle.patching_line.proofs.LateLaws.{last_in, last_pending, late_by}
 use Rattle.patching_line.proofs.is_late.Goals as goal
 

@@ -10,9 +10,8 @@ use Rattle.breakpoints.specs.Breakpoints.{filled_layout}
 use Rattle.breakpoints.proofs.BreakpointsLaws.{filled_good}
 use Rattle.binary_builder.proofs.PlacesLaws.{entry_place}
 use Rattle.patching_outcome.specs.declared.PatchCounts.{PatchCounts}
-use Rattle.patching_outcome.specs.Patching.{has_patched}
+use Rattle.patching_outcome.specs.Patching.{has_patched, filled_pendings}
 use Rattle.patching_checks.proofs.PlacesLaws.{regions_place, pendings_place, kept_place}
-use Rattle.patching_step.specs.Steps.{filled_pendings}
 use Rattle.patching_step.proofs.StepLaws.{patched_layout, layouts_are}
 use Rattle.patching_step.proofs.check_layouts.Goals as goal
 

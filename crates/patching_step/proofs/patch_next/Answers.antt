@@ -11,7 +11,8 @@ use Rattle.patch.specs.Patches.{destination, region_for, patch_stop}
 use Rattle.binary_builder.specs.Steps.{most_pendings}
 use Rattle.binary_builder.proofs.OrderLaws.{pending_name}
 use Rattle.patching_outcome.specs.declared.PatchCounts.{PatchCounts}
-use Rattle.patching_step.specs.Steps.{filled_regions, filled_pendings, StepLists, InOrder}
+use Rattle.patching_outcome.specs.Patching.{filled_regions, filled_pendings}
+use Rattle.patching_step.specs.Steps.{StepLists, InOrder}
 use Rattle.patching_step.proofs.NextLaws.{order_short, patch_at, patches_at, next_inside, next_stops, next_passes}
 use Rattle.patching_step.proofs.patch_next.Goals as goal
 use Rattle.refusal.specs.Verdicts.{Verdict}

@@ -13,7 +13,8 @@ use Rattle.binary_builder.specs.Steps.{most_pendings, Ordered, InPatchOrder}
 use Rattle.binary_builder.proofs.OrderLaws.{order_count, pendings_few}
 use Rattle.binary_builder.proofs.ContractLaws.{entry_passes, entry_stops}
 use Rattle.patching_outcome.specs.declared.PatchCounts.{PatchCounts}
-use Rattle.patching_step.specs.Steps.{filled_regions, filled_pendings, ListsGood}
+use Rattle.patching_outcome.specs.Patching.{filled_regions, filled_pendings}
+use Rattle.patching_step.specs.Steps.{ListsGood}
 use Rattle.patching_step.proofs.StepLaws.{lists_pass, checks_are, step_refuses, step_runs, step_stopped}
 use Rattle.patching_step.proofs.step_with.Goals as goal
 

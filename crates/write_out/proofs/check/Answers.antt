@@ -4,8 +4,9 @@ use Rattle.std.proofs.lemmas.Result.{err_from_is_err_and}
 use Rattle.refusal.specs.Verdicts.{layout_verdict}
 use Rattle.refusal.proofs.VerdictsLaws.{layout_pass}
 use Rattle.lexer.specs.Tokens.{token_layout}
+use Rattle.lexer.proofs.TokensLaws.{token_place}
 use Rattle.macros.specs.Macros.{macro_layout}
-use Rattle.write_out.proofs.EntryLaws.{token_place, macro_place, repeat_place, first_stops, second_stops, stop_room, stop_name}
+use Rattle.write_out.proofs.EntryLaws.{macro_place, repeat_place, first_stops, second_stops, stop_room, stop_name}
 use Rattle.write_out.proofs.check.Goals as goal
 use Rattle.write_out.proofs.check.Goals.{After-first_bad_macro, After-first_repeat}
 

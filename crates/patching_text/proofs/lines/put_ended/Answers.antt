@@ -1,6 +1,6 @@
 use Rattle.std.proofs.Common.{◌++◌, append_assoc, ◌∙◌}
 use Rattle.io.specs.Digits.{last_digits}
-use Rattle.pseudo_names.specs.PseudoNames.{bytes_of}
+use Rattle.record.specs.Texts.{bytes_of}
 use Rattle.patching_text.proofs.lines.put_ended.Goals as goal
 
 pub returns : goal.returns

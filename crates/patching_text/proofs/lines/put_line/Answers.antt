@@ -1,5 +1,5 @@
 use Rattle.std.proofs.Common.{append_assoc}
-use Rattle.pseudo_names.specs.PseudoNames.{bytes_of}
+use Rattle.record.specs.Texts.{bytes_of}
 use Rattle.line_text.specs.Line.{position_line}
 use Rattle.patching_text.proofs.lines.put_line.Goals as goal
 
