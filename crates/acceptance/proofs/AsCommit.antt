@@ -28,7 +28,7 @@ use Rattle.emit_outcome.specs.Checks.{list_stop}
 use Rattle.emit_outcome.specs.Room.{room_stop}
 use Rattle.emit_outcome.specs.Answer.{EmitAnswer}
 use Rattle.emit_outcome.specs.Dispatch.{meaning}
-use Rattle.emit_outcome.specs.Emit.{start_of, accept_or, line_outcome, call_line, meaning_outcome, list_outcome, emit_outcome}
+use Rattle.emit_outcome.specs.Emit.{start_of, accept_or, line_outcome, call_made, call_line, line_or_unknown, list_outcome, emit_outcome}
 use Rattle.emit_outcome.specs.declared.Meaning.{Meaning}
 use Rattle.emit_outcome.specs.declared.Meaning.TheVariants.{Table, Builtin, Neither}
 use Rattle.finished_words.specs.InstanceTables.{labels₁, entry, regions, pending}
@@ -68,7 +68,7 @@ use Rattle.address_label.specs.Entries.{entry_layout, entry_ok}
 use Rattle.regions.specs.Regions.{region_layout, region_records, region_ok}
 use Rattle.labels.specs.Labels.{resolve, label_layout, label_ok}
 use Rattle.field.specs.Field.{set_field}
-use Rattle.acceptance.proofs.SameOutcome.{SameEncoded, SameRead, meaning_same, line_by_lem, build_same}
+use Rattle.acceptance.proofs.SameOutcome.{meaning_outcome, SameEncoded, SameRead, meaning_same, line_by_lem, build_same}
 use Rattle.acceptance.specs.Unlisted.{Unlisted, UnlistedRead, IsRefused, UnlistedMeaning, UnlistedCall, UnlistedBuild}
 
 -- ---- lines
@@ -153,7 +153,7 @@ abs_same c h = go (read_operands (pseudo_wants Abs) (tokens c.token_list) (start
 
 -- what the commit answers where the lists have no fault
 commit_line : (c : Call) → list_stop c.token_list c.mnemonic c.descriptors c.lent c.numbers.place.region c.numbers.counts ≡ Ok tt
-    → emit_outcome Commit c ≡ meaning_outcome Commit c (meaning c.descriptors (mnemonic_name c.mnemonic))
+    → emit_outcome Commit c ≡ line_or_unknown c (call_made Commit c)
 unfolding emit_outcome
 commit_line c e = ap (list_outcome Commit c) e
 

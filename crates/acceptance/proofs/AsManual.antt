@@ -30,7 +30,7 @@ use Rattle.emit_dispatch.specs.Lines.{within_or, range_then, encoding_range, enc
 use Rattle.emit_outcome.specs.Call.{Call}
 use Rattle.emit_outcome.specs.Checks.{layout_stop, list_stop}
 use Rattle.emit_outcome.specs.Dispatch.{meaning, table_line}
-use Rattle.emit_outcome.specs.Emit.{start_of, call_line, refuse, fault_refusal, line_outcome, meaning_outcome, list_outcome, emit_outcome}
+use Rattle.emit_outcome.specs.Emit.{start_of, call_line, refuse, fault_refusal, line_outcome, list_outcome, emit_outcome}
 use Rattle.emit_outcome.specs.declared.Meaning.{Meaning}
 use Rattle.emit_outcome.specs.declared.Meaning.TheVariants.{Table, Builtin, Neither}
 use Rattle.registers.specs.declared.RegisterSlot.TheVariants.{Temporary0}
@@ -44,7 +44,7 @@ use Rattle.operands.specs.Operands.{get_register, get_constant, get_integer, sig
 use Rattle.breakpoints.specs.Breakpoints.{breakpoint_ok, filled_layout, pending_buffer_layout, breakpoint_buffer_layout, data_buffer_layout}
 use Rattle.example_lists.specs.Lists.{register, «jr», «mflo», descriptor, line}
 use Rattle.acceptance.proofs.AsCommit.{sll31}
-use Rattle.acceptance.proofs.SameOutcome.{SameRead, SameMeaning, pseudo_same, line_same, build_same}
+use Rattle.acceptance.proofs.SameOutcome.{meaning_outcome, SameRead, SameMeaning, pseudo_same, line_same, build_same}
 use Rattle.acceptance.specs.Changed.{is_listed27, dropped_or, UnchangedRead, UnchangedMeaning, UnchangedCall, TableCall}
 
 -- ---- what a Release 6 job takes: 19 and 20 as in a manual job, then 27, then 9

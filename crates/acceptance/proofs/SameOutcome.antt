@@ -28,12 +28,16 @@ use Rattle.build_outcome.specs.Build.{patch_order, patch_verdict, build_verdict,
 use Rattle.build_outcome.proofs.BuildLaws.{ordered_in}
 use Rattle.emit_dispatch.specs.Wants.{encoding_wants, pseudo_wants}
 use Rattle.emit_dispatch.specs.Lines.{encoding_range, encoding_pairs, encoding_form, pseudo_pairs, pseudo_form, line_by, encoding_line, pseudo_line}
-use Rattle.emit_outcome.specs.Call.{Call}
+use Rattle.emit_outcome.specs.Call.{Call, EmitOutcome}
 use Rattle.emit_outcome.specs.Checks.{list_stop}
-use Rattle.emit_outcome.specs.Dispatch.{meaning, table_line}
-use Rattle.emit_outcome.specs.Emit.{start_of, call_line, meaning_outcome, list_outcome, emit_outcome}
+use Rattle.emit_outcome.specs.Dispatch.{meaning, table_line, meaning_line}
+use Rattle.emit_outcome.specs.Emit.{start_of, call_made, call_line, line_or_unknown, list_outcome, emit_outcome}
 use Rattle.emit_outcome.specs.declared.Meaning.{Meaning}
 use Rattle.emit_outcome.specs.declared.Meaning.TheVariants.{Table, Builtin, Neither}
+
+-- the outcome of a call whose mnemonic has this meaning
+abbrev pub meaning_outcome : Job → Call → Meaning → EmitOutcome
+meaning_outcome job c m = line_or_unknown c (meaning_line job c.descriptors m (tokens c.token_list) (start_of c))
 
 module _ (j k : Job) where
   -- ---- lines
@@ -104,7 +108,7 @@ module _ (j k : Job) where
   -- where the lists have no fault the line decides
   pub line_by_lem : (c : Call)
       → (list_stop c.token_list c.mnemonic c.descriptors c.lent c.numbers.place.region c.numbers.counts ≡ Ok tt
-      → meaning_outcome j c (meaning c.descriptors (mnemonic_name c.mnemonic)) ≡ meaning_outcome k c (meaning c.descriptors (mnemonic_name c.mnemonic)))
+      → line_or_unknown c (call_made j c) ≡ line_or_unknown c (call_made k c))
       → emit_outcome j c ≡ emit_outcome k c
   unfolding emit_outcome
   line_by_lem c h = go (list_stop c.token_list c.mnemonic c.descriptors c.lent c.numbers.place.region c.numbers.counts) refl

@@ -14,7 +14,7 @@ use Rattle.record.proofs.RecordsLaws.{limit_good}
 use Rattle.cursor.specs.declared.Cursor.{Cursor}
 use Rattle.cursor.specs.Reads.{Placed, CursorIn}
 use Rattle.cursor.proofs.CursorsLaws.{place_least, place_end}
-use Rattle.descriptors.specs.Mnemonics.{mnemonic_name, mnemonic_location}
+use Rattle.descriptors.specs.Mnemonics.{mnemonic_location}
 use Rattle.descriptors.specs.Descriptors.{descriptor_layout, find_descriptor, instruction_at}
 use Rattle.descriptors.proofs.DescriptorsLaws.{descriptor_found}
 use Rattle.pseudo_names.specs.PseudoNames.{pseudo_of}
@@ -24,8 +24,7 @@ use Rattle.emit_dispatch.specs.declared.Unmade.TheVariants.{Missed as MissedOper
 use Rattle.emit_dispatch.specs.LineAnswers.{unmade_answer}
 use Rattle.emit_dispatch.specs.Lines.{Line, encoding_line}
 use Rattle.emit_dispatch.specs.Contract.{MadeAs, LineAs}
-use Rattle.emit_outcome.specs.declared.Meaning.{Meaning}
-use Rattle.emit_outcome.specs.declared.Meaning.TheVariants.{Table, Builtin, Neither}
+use Rattle.emit_outcome.specs.declared.Meaning.TheVariants.{Table}
 use Rattle.emit_outcome.specs.Dispatch.{meaning, or_neither, or_pseudo, table_line}
 use Rattle.loading.specs.declared.LoadForm.{LoadForm}
 use Rattle.emit_outcome.specs.Answer.{EmitAnswer, done_at}
@@ -35,7 +34,7 @@ use Rattle.emit_outcome.specs.Call.{Lent, Call, EmitOutcome, outcome_of}
 use Rattle.emit_outcome.specs.Returned.{returned}
 use Rattle.emit_outcome.specs.Contract.{EmittedBy}
 use Rattle.emit_outcome.specs.Checks.{list_stop}
-use Rattle.emit_outcome.specs.Emit.{call_line, call_refused, line_outcome, list_outcome, meaning_outcome, emit_outcome}
+use Rattle.emit_outcome.specs.Emit.{call_made, call_line, call_refused, line_outcome, line_or_unknown, list_outcome, emit_outcome}
 use Rattle.emit_checks.specs.Made.{words_line, answer_line, made_line}
 use Rattle.emit_checks.specs.declared.LineRead.{LineRead}
 use Rattle.emit_core.specs.Read.{LineMade, LineFor, ReadIs}
@@ -122,9 +121,9 @@ module _ (job : Job) (c : Call) where
   unfolding emit_outcome
   by_lists e = ap (list_outcome job c) e
 
-  pub by_meaning : {m : Meaning} → stop ≡ Ok tt → meaning c.descriptors (mnemonic_name c.mnemonic) ≡ m → emit_outcome job c ≡ meaning_outcome job c m
+  pub by_line : {o : Option Line} → stop ≡ Ok tt → call_made job c ≡ o → emit_outcome job c ≡ line_or_unknown c o
   unfolding emit_outcome
-  by_meaning e f = ap (list_outcome job c) e ∙ ap (meaning_outcome job c) f
+  by_line e f = ap (list_outcome job c) e ∙ ap (line_or_unknown c) f
 
   -- a line that was read, from where the call starts
   abbrev pub read_outcome : (known : Bool) → LineRead → EmitOutcome
@@ -135,18 +134,16 @@ module _ (job : Job) (c : Call) where
     located : (l : Line) → LineMade l read → call_line c l ≡ line_outcome c.token_list read.line c.numbers c.lent (made_line read)
     located l e = made_outcome c.token_list (mnemonic_location c.mnemonic) c.numbers c.lent l read.answer read.position e.0 e.1 ∙ ap (λ (x : Location). line_outcome c.token_list x c.numbers c.lent (made_line read)) (sym is.location_is)
 
-    by_read : (m : Meaning) → meaning c.descriptors (mnemonic_name c.mnemonic) ≡ m → LineFor job c.token_list c.descriptors c.numbers.place.position m known read
-        → emit_outcome job c ≡ read_outcome known read
-    by_read (Table p) e l = by_meaning pass e ∙ located _ l.1 ∙ sym (ap (λ (k : Bool). read_outcome k read) l.0)
-    by_read (Builtin p) e l = by_meaning pass e ∙ located _ l.1 ∙ sym (ap (λ (k : Bool). read_outcome k read) l.0)
-    by_read Neither e l =
-        by_meaning pass e ∙ ap (λ (x : Location). call_refused c (UnknownInstruction x)) (sym is.location_is) ∙ sym (ap (λ (k : Bool). read_outcome k read) l)
+    by_read : (o : Option Line) → call_made job c ≡ o → LineFor o known read → emit_outcome job c ≡ read_outcome known read
+    by_read (Some line) e l = by_line pass e ∙ located line l.1 ∙ sym (ap (λ (k : Bool). read_outcome k read) l.0)
+    by_read None e l =
+        by_line pass e ∙ ap (λ (x : Location). call_refused c (UnknownInstruction x)) (sym is.location_is) ∙ sym (ap (λ (k : Bool). read_outcome k read) l)
 
     pub read_outcome_lem : emit_outcome job c ≡ read_outcome known read
-    read_outcome_lem = by_read (meaning c.descriptors (mnemonic_name c.mnemonic)) refl is.line_is
+    read_outcome_lem = by_read (call_made job c) refl is.line_is
 
-  pub unread_outcome : (r : Refusal) → stop ≡ Ok tt → (meaning c.descriptors (mnemonic_name c.mnemonic) ≡ Neither) × (r ≡ UnknownInstruction (mnemonic_location c.mnemonic)) → emit_outcome job c ≡ call_refused c r
-  unread_outcome r pass m = by_meaning pass m.0 ∙ sym (ap (call_refused c) m.1)
+  pub unread_outcome : (r : Refusal) → stop ≡ Ok tt → (call_made job c ≡ None) × (r ≡ UnknownInstruction (mnemonic_location c.mnemonic)) → emit_outcome job c ≡ call_refused c r
+  unread_outcome r pass m = by_line pass m.0 ∙ sym (ap (call_refused c) m.1)
 
 -- an outcome that is the call's is all that a call promises
 pub emitted : {job : Job} {call : Call} {answer : EmitAnswer} {counts : FillCounts} {lent : Lent} → emit_outcome job call ≡ outcome_of answer counts lent → EmittedBy job call answer counts lent

@@ -1,5 +1,5 @@
 -- What an emit call leaves of its data buffer: words appended, or none. Assumes nothing.
-use Rattle.std.specs.Prelude.{ℕ, ◌+◌, ◌-◌, ◌*◌, ◌≤◌, Bool, ◌&&◌, List, [], eqb, Err, Ok}
+use Rattle.std.specs.Prelude.{ℕ, ◌+◌, ◌-◌, ◌*◌, ◌≤◌, Bool, ◌&&◌, List, [], eqb, Err, None, Ok, Option, Some}
 use Rattle.std.proofs.Common.{arith, sym, ap, ap₂, ◌∙◌}
 use Rattle.std.proofs.Math.Bool.{true, false, and-eq-true_iff}
 use Rattle.std.proofs.Math.Path.{◌≡◌, refl}
@@ -15,24 +15,20 @@ use Rattle.record_growth.proofs.PutLaws.{part_in}
 use Rattle.refusal.proofs.VerdictsLaws.{both_pass}
 use Rattle.refusal.specs.declared.Refusal.{Refusal}
 use Rattle.refusal.specs.declared.Refusal.TheVariants.{UnknownInstruction, NoSpace, MissingRegion}
-use Rattle.lexer.specs.Tokens.{tokens}
-use Rattle.descriptors.specs.Mnemonics.{mnemonic_name, mnemonic_location}
+use Rattle.descriptors.specs.Mnemonics.{mnemonic_location}
 use Rattle.emit_pairs.specs.declared.InstructionPair.{InstructionPair}
 use Rattle.emit_bytes.specs.Appended.{word_bytes}
 use Rattle.emit_bytes.proofs.AppendedLaws.{words_length}
-use Rattle.emit_dispatch.specs.Lines.{Line, pseudo_line}
+use Rattle.emit_dispatch.specs.Lines.{Line}
 use Rattle.emit_checks.proofs.RoomLaws.{line_room}
 use Rattle.loading.specs.declared.LoadForm.{LoadForm}
 use Rattle.emit_outcome.specs.declared.FillCounts.{FillCounts}
 use Rattle.emit_outcome.specs.declared.LineNumbers.{LineNumbers}
 use Rattle.emit_outcome.specs.Answer.{EmitAnswer, done_at, refused_at}
-use Rattle.emit_outcome.specs.declared.Meaning.{Meaning}
-use Rattle.emit_outcome.specs.declared.Meaning.TheVariants.{Table, Builtin, Neither}
 use Rattle.emit_outcome.specs.Call.{Lent, Call, EmitOutcome}
 use Rattle.emit_outcome.specs.Checks.{list_stop}
-use Rattle.emit_outcome.specs.Dispatch.{meaning, table_line}
 use Rattle.emit_outcome.specs.Room.{no_region, most_data, region_stop, edge_stop, space_stop, room_stop}
-use Rattle.emit_outcome.specs.Emit.{refuse, line_stop, accept_or, line_outcome, start_of, meaning_outcome, list_outcome, emit_outcome}
+use Rattle.emit_outcome.specs.Emit.{refuse, line_stop, accept_or, line_outcome, call_made, line_or_unknown, list_outcome, emit_outcome}
 use Rattle.patching_outcome.specs.Line.{new_words}
 use Rattle.refusal.specs.Verdicts.{Verdict}
 
@@ -92,17 +88,13 @@ module _ (token_list : List ℕ) (line : Location) (numbers : LineNumbers) (lent
     line_appends = verdict_appends (line_stop token_list line numbers lent made) refl
 
 module _ (job : Job) (c : Call) (inside : c.numbers.counts.data_len ≤ length c.lent.region_data) where
-  call_appends : (made : Line) → Appends c.numbers.place.region c.numbers.counts c.lent (line_outcome c.token_list (mnemonic_location c.mnemonic) c.numbers c.lent made)
-  call_appends made = line_appends c.token_list (mnemonic_location c.mnemonic) c.numbers c.lent made inside
-
-  meaning_appends : (m : Meaning) → Appends c.numbers.place.region c.numbers.counts c.lent (meaning_outcome job c m)
-  meaning_appends (Table p) = call_appends (table_line job c.descriptors p (tokens c.token_list) (start_of c))
-  meaning_appends (Builtin p) = call_appends (pseudo_line job p (tokens c.token_list) (start_of c))
-  meaning_appends Neither = refuse_appends c.numbers.place.region c.numbers.counts c.lent c.numbers.place.position (UnknownInstruction (mnemonic_location c.mnemonic)) inside
+  made_appends : (o : Option Line) → Appends c.numbers.place.region c.numbers.counts c.lent (line_or_unknown c o)
+  made_appends (Some made) = line_appends c.token_list (mnemonic_location c.mnemonic) c.numbers c.lent made inside
+  made_appends None = refuse_appends c.numbers.place.region c.numbers.counts c.lent c.numbers.place.position (UnknownInstruction (mnemonic_location c.mnemonic)) inside
 
   list_appends : (v : Verdict) → Appends c.numbers.place.region c.numbers.counts c.lent (list_outcome job c v)
   list_appends (Err r) = refuse_appends c.numbers.place.region c.numbers.counts c.lent c.numbers.place.position r inside
-  list_appends (Ok tt) = meaning_appends (meaning c.descriptors (mnemonic_name c.mnemonic))
+  list_appends (Ok tt) = made_appends (call_made job c)
 
   -- of every call
   pub appends : Appends c.numbers.place.region c.numbers.counts c.lent (emit_outcome job c)

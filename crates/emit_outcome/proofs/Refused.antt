@@ -1,23 +1,18 @@
 -- "Lent bytes and fill counts then remain as at entry": of every emit call that is refused. Assumes nothing.
-use Rattle.std.specs.Prelude.{ℕ, ◌≡◌, List, Err, Ok}
+use Rattle.std.specs.Prelude.{ℕ, ◌≡◌, List, Err, None, Ok, Option, Some}
 use Rattle.std.proofs.Common.{arith}
 use Rattle.jobs.specs.declared.Job.{Job}
 use Rattle.record.specs.declared.Location.{Location}
 use Rattle.refusal.specs.declared.Refusal.{Refusal}
 use Rattle.refusal.specs.declared.Refusal.TheVariants.{UnknownInstruction}
-use Rattle.lexer.specs.Tokens.{tokens}
-use Rattle.descriptors.specs.Mnemonics.{mnemonic_name, mnemonic_location}
+use Rattle.descriptors.specs.Mnemonics.{mnemonic_location}
 use Rattle.emit_dispatch.specs.Lines.{Line}
-use Rattle.emit_dispatch.specs.Lines.{pseudo_line}
-use Rattle.emit_outcome.specs.Dispatch.{meaning, table_line}
-use Rattle.emit_outcome.specs.declared.Meaning.{Meaning}
-use Rattle.emit_outcome.specs.declared.Meaning.TheVariants.{Table, Builtin, Neither}
 use Rattle.emit_outcome.specs.declared.FillCounts.{FillCounts}
 use Rattle.emit_outcome.specs.declared.LineNumbers.{LineNumbers}
 use Rattle.emit_outcome.specs.Answer.{refused_at}
 use Rattle.emit_outcome.specs.Call.{Lent, Call, EmitOutcome}
 use Rattle.emit_outcome.specs.Checks.{list_stop}
-use Rattle.emit_outcome.specs.Emit.{refuse, line_stop, accept_or, line_outcome, start_of, meaning_outcome, list_outcome, emit_outcome}
+use Rattle.emit_outcome.specs.Emit.{refuse, line_stop, accept_or, line_outcome, call_made, line_or_unknown, list_outcome, emit_outcome}
 use Rattle.emit_outcome.proofs.AnswerLaws.{refused_parts}
 use Rattle.refusal.specs.Verdicts.{Verdict}
 
@@ -38,17 +33,13 @@ module _ (token_list : List ℕ) (line : Location) (numbers : LineNumbers) (lent
   line_stays = verdict_stays (line_stop token_list line numbers lent made)
 
 module _ (job : Job) (c : Call) where
-  call_stays : (made : Line) → Stays c.numbers.counts c.lent (line_outcome c.token_list (mnemonic_location c.mnemonic) c.numbers c.lent made)
-  call_stays = line_stays c.token_list (mnemonic_location c.mnemonic) c.numbers c.lent
-
-  meaning_stays : (m : Meaning) → Stays c.numbers.counts c.lent (meaning_outcome job c m)
-  meaning_stays (Table p) = call_stays (table_line job c.descriptors p (tokens c.token_list) (start_of c))
-  meaning_stays (Builtin p) = call_stays (pseudo_line job p (tokens c.token_list) (start_of c))
-  meaning_stays Neither = refuse_stays c.numbers.counts c.lent c.numbers.place.position (UnknownInstruction (mnemonic_location c.mnemonic))
+  made_stays : (o : Option Line) → Stays c.numbers.counts c.lent (line_or_unknown c o)
+  made_stays (Some made) = line_stays c.token_list (mnemonic_location c.mnemonic) c.numbers c.lent made
+  made_stays None = refuse_stays c.numbers.counts c.lent c.numbers.place.position (UnknownInstruction (mnemonic_location c.mnemonic))
 
   list_stays : (v : Verdict) → Stays c.numbers.counts c.lent (list_outcome job c v)
   list_stays (Err s) = refuse_stays c.numbers.counts c.lent c.numbers.place.position s
-  list_stays (Ok tt) = meaning_stays (meaning c.descriptors (mnemonic_name c.mnemonic))
+  list_stays (Ok tt) = made_stays (call_made job c)
 
   -- the outcome with a refusal for its answer is that refusal's, with all that was lent as at entry
   pub refused_stays : Stays c.numbers.counts c.lent (emit_outcome job c)

@@ -1,5 +1,5 @@
 -- A whole emit call: its answer, position, counts and every lent byte, from its inputs (document 01, 'Where the work stops'). Assumes nothing.
-use Rattle.std.specs.Prelude.{ℕ, ◌+◌, ◌*◌, List, length, Err, Ok}
+use Rattle.std.specs.Prelude.{ℕ, ◌+◌, ◌*◌, List, length, Err, None, Ok, Option, Some}
 use Rattle.jobs.specs.declared.Job.{Job}
 use Rattle.record.specs.declared.Location.{Location}
 use Rattle.record.specs.Stores.{append}
@@ -9,15 +9,12 @@ use Rattle.lexer.specs.Tokens.{tokens}
 use Rattle.cursor.specs.Cursors.{start_index}
 use Rattle.descriptors.specs.Mnemonics.{mnemonic_name, mnemonic_location}
 use Rattle.emit_dispatch.specs.LineAnswers.{LineAnswer, Made, Missed, OutOfRange}
-use Rattle.emit_dispatch.specs.Lines.{Line}
-use Rattle.emit_dispatch.specs.Lines.{pseudo_line}
+use Rattle.emit_dispatch.specs.Lines.{Line, pseudo_line}
 use Rattle.emit_pairs.specs.declared.Fault.{Fault}
 use Rattle.emit_pairs.specs.declared.Fault.TheVariants.{Immediate, ShiftAmount, ConditionCode, Dropped}
 use Rattle.emit_pairs.specs.declared.InstructionPair.{InstructionPair}
 use Rattle.emit_bytes.specs.Appended.{word_bytes}
-use Rattle.emit_outcome.specs.Dispatch.{meaning, table_line}
-use Rattle.emit_outcome.specs.declared.Meaning.{Meaning}
-use Rattle.emit_outcome.specs.declared.Meaning.TheVariants.{Table, Builtin, Neither}
+use Rattle.emit_outcome.specs.Dispatch.{meaning, table_line, named_line}
 use Rattle.emit_outcome.specs.declared.FillCounts.{FillCounts}
 use Rattle.emit_outcome.specs.declared.LineNumbers.{LineNumbers}
 use Rattle.emit_outcome.specs.Answer.{done_at, refused_at}
@@ -82,6 +79,10 @@ line_outcome token_list line numbers lent made = accept_or token_list line numbe
 abbrev pub start_of : Call → ℕ
 start_of c = start_index (tokens c.token_list) c.numbers.place.position
 
+-- its line, if the mnemonic has one
+abbrev pub call_made : Job → Call → Option Line
+call_made job c = named_line job c.token_list c.mnemonic c.descriptors c.numbers.place.position
+
 abbrev pub call_line : Call → Line → EmitOutcome
 call_line c made = line_outcome c.token_list (mnemonic_location c.mnemonic) c.numbers c.lent made
 
@@ -90,14 +91,13 @@ abbrev pub call_refused : Call → Refusal → EmitOutcome
 call_refused c r = refuse c.numbers.counts c.lent c.numbers.place.position r
 
 -- "3. Neither descriptor nor pseudo-instruction has the mnemonic."
-abbrev pub meaning_outcome : Job → Call → Meaning → EmitOutcome
-meaning_outcome job c (Table p) = call_line c (table_line job c.descriptors p (tokens c.token_list) (start_of c))
-meaning_outcome job c (Builtin p) = call_line c (pseudo_line job p (tokens c.token_list) (start_of c))
-meaning_outcome job c Neither = call_refused c (UnknownInstruction (mnemonic_location c.mnemonic))
+abbrev pub line_or_unknown : Call → Option Line → EmitOutcome
+line_or_unknown c (Some made) = call_line c made
+line_or_unknown c None = call_refused c (UnknownInstruction (mnemonic_location c.mnemonic))
 
 abbrev pub list_outcome : Job → Call → Verdict → EmitOutcome
 list_outcome job c (Err r) = call_refused c r
-list_outcome job c (Ok tt) = meaning_outcome job c (meaning c.descriptors (mnemonic_name c.mnemonic))
+list_outcome job c (Ok tt) = line_or_unknown c (call_made job c)
 
 unfoldable pub emit_outcome : Job → Call → EmitOutcome
 unfolding list_stop meaning mnemonic_name table_line pseudo_line tokens line_outcome

@@ -7,7 +7,7 @@ use Rattle.jobs.specs.declared.Job.{Job}
 use Rattle.record.specs.Records.{places, first_bad}
 use Rattle.record.specs.declared.Location.{Location}
 use Rattle.refusal.specs.Verdicts.{Verdict}
-use Rattle.descriptors.specs.Mnemonics.{mnemonic_name, mnemonic_location}
+use Rattle.descriptors.specs.Mnemonics.{mnemonic_location}
 use Rattle.pending.specs.Pendings.{pending_ok}
 use Rattle.pending.specs.PendingBytes.{pending_bytes}
 use Rattle.pending.proofs.Written.{written_behind}
@@ -19,23 +19,18 @@ use Rattle.emit_dispatch.specs.Contract.{MadeAs}
 use Rattle.emit_bytes.specs.Appended.{onward, pair_bytes, pendings_bytes}
 use Rattle.emit_checks.specs.declared.LineRead.{LineRead}
 use Rattle.emit_outcome.specs.Call.{Call, EmitOutcome, filled_pending}
-use Rattle.lexer.specs.Tokens.{tokens}
-use Rattle.cursor.specs.Cursors.{start_index}
-use Rattle.emit_dispatch.specs.Lines.{Line, pseudo_line}
+use Rattle.emit_dispatch.specs.Lines.{Line}
 use Rattle.emit_outcome.specs.Checks.{list_stop}
-use Rattle.emit_outcome.specs.Dispatch.{meaning, table_line}
-use Rattle.emit_outcome.specs.Emit.{line_outcome, emit_outcome}
+use Rattle.emit_outcome.specs.Emit.{call_made, line_outcome, emit_outcome}
 use Rattle.emit_outcome.specs.Answer.{done_at}
-use Rattle.emit_outcome.specs.declared.Meaning.{Meaning}
-use Rattle.emit_outcome.specs.declared.Meaning.TheVariants.{Table, Builtin, Neither}
 use Rattle.emit_checks.specs.Made.{made_line}
-use Rattle.emit_core.proofs.EmitLaws.{by_lists, by_meaning, made_outcome, made_pairs}
+use Rattle.emit_core.proofs.EmitLaws.{by_lists, by_line, made_outcome, made_pairs}
 use Rattle.emit_core.specs.Read.{LineMade, LineFor}
 use Rattle.loading.specs.declared.LoadForm.{LoadForm}
 use Rattle.finished_words.specs.Listed.{Bytes}
 use Rattle.routine.proofs.WordLaws.{PairFits, PairsFit}
 use Rattle.routine.proofs.BehindLaws.{OriginFits}
-use Rattle.routine.specs.CallValues.{meaning_pairs, call_pairs, call_origin}
+use Rattle.routine.specs.CallValues.{line_pairs, call_pairs, call_origin}
 use Rattle.routine.proofs.AcceptedLaws.{accepted}
 use Rattle.routine.proofs.LineFitsLaws.{pending_is, pending_kept, origin_fits, offsets_fit}
 use Rattle.label_uses.specs.Uses.{Use, uses_of}
@@ -89,11 +84,10 @@ module _ (job : Job) (c : Call) (read : LineRead) (words : EmitInstruction) (mad
   words_made line l = sym (subst (MadeAs line) made l.0).1.pairs_are
 
   -- its words are the call's
-  pub pairs_read : (m : Meaning) → meaning c.descriptors (mnemonic_name c.mnemonic) ≡ m → LineFor job c.token_list c.descriptors c.numbers.place.position m true read → call_pairs job c ≡ pairs_of words
+  pub pairs_read : (o : Option Line) → call_made job c ≡ o → LineFor o true read → call_pairs job c ≡ pairs_of words
   unfolding call_pairs
-  pairs_read (Table p) e l = ap (meaning_pairs job c) e ∙ words_made (table_line job c.descriptors p (tokens c.token_list) (start_index (tokens c.token_list) c.numbers.place.position)) l.1
-  pairs_read (Builtin p) e l = ap (meaning_pairs job c) e ∙ words_made (pseudo_line job p (tokens c.token_list) (start_index (tokens c.token_list) c.numbers.place.position)) l.1
-  pairs_read Neither e l = never (cc)
+  pairs_read (Some line) e l = ap line_pairs e ∙ words_made line l.1
+  pairs_read None e l = never (cc)
 
 -- ---- an accepted call
 module _ (job : Job) (c : Call) (read : LineRead) (position : ℕ) (loaded : LoadForm) (done : (emit_outcome job c).answer ≡ done_at position loaded) where
@@ -118,21 +112,20 @@ module _ (job : Job) (c : Call) (read : LineRead) (position : ℕ) (loaded : Loa
     words_are = made_pairs c.token_list at c.numbers c.lent line read.answer read.position made.0 line_done
 
   -- the words of the line that was read are the call's, since the line is accepted
-  accepted_read : (m : Meaning) → meaning c.descriptors (mnemonic_name c.mnemonic) ≡ m → LineFor job c.token_list c.descriptors c.numbers.place.position m true read → call_pairs job c ≡ (made_line read).pairs
+  accepted_read : (o : Option Line) → call_made job c ≡ o → LineFor o true read → call_pairs job c ≡ (made_line read).pairs
   unfolding call_pairs
-  accepted_read (Table p) e l = ap (meaning_pairs job c) e ∙ words_are (table_line job c.descriptors p (tokens c.token_list) (start_index (tokens c.token_list) c.numbers.place.position)) l.1 (by_meaning job c (lists_pass stop refl) e)
-  accepted_read (Builtin p) e l = ap (meaning_pairs job c) e ∙ words_are (pseudo_line job p (tokens c.token_list) (start_index (tokens c.token_list) c.numbers.place.position)) l.1 (by_meaning job c (lists_pass stop refl) e)
-  accepted_read Neither e l = never (cc)
+  accepted_read (Some line) e l = ap line_pairs e ∙ words_are line l.1 (by_line job c (lists_pass stop refl) e)
+  accepted_read None e l = never (cc)
 
   pub new_index_lem : (labels : List ℕ) → Bytes c.token_list → Bytes c.mnemonic
-      → LineFor job c.token_list c.descriptors c.numbers.place.position (meaning c.descriptors (mnemonic_name c.mnemonic)) true read
+      → LineFor (call_made job c) true read
       → index_of labels (filled_pending (emit_outcome job c).lent (emit_outcome job c).counts) ≡ new_index labels c.token_list (filled_pending c.lent c.numbers.counts) (made_line read).pairs
   unfolding index_of
   new_index_lem labels tb mb l =
       let a = accepted job c position loaded tb done in
       let old = filled_pending c.lent c.numbers.counts in
       let ps = a.made.pairs in
-      let same : ps ≡ (made_line read).pairs = a.pairs_are ∙ accepted_read (meaning c.descriptors (mnemonic_name c.mnemonic)) refl l in
+      let same : ps ≡ (made_line read).pairs = a.pairs_are ∙ accepted_read (call_made job c) refl l in
       ap uses_bytes (ap (λ (o : EmitOutcome). uses_of labels (filled_pending o.lent o.counts)) a.outcome_is
       ∙ ap (uses_of labels) (pending_is job c a mb)
       ∙ uses_line labels c.token_list old (call_origin c) ps (pending_kept job c a mb) (origin_fits job c a mb) (offsets_fit job c a mb) a.words.fit

@@ -22,10 +22,10 @@ use Rattle.emit_outcome.specs.declared.Meaning.TheVariants.{Table, Builtin, Neit
 use Rattle.emit_outcome.specs.declared.LineNumbers.{LineNumbers}
 use Rattle.emit_outcome.specs.Answer.{done_at}
 use Rattle.emit_outcome.proofs.AnswerLaws.{done_parts}
-use Rattle.emit_outcome.specs.Dispatch.{meaning, table_line}
+use Rattle.emit_outcome.specs.Dispatch.{meaning, table_line, meaning_line}
 use Rattle.emit_outcome.specs.Call.{Lent, Call, EmitOutcome}
 use Rattle.emit_outcome.specs.Checks.{list_stop}
-use Rattle.emit_outcome.specs.Emit.{accept, answer_stop, line_stop, accept_or, line_outcome, start_of, call_line, meaning_outcome, list_outcome, emit_outcome}
+use Rattle.emit_outcome.specs.Emit.{accept, answer_stop, line_stop, accept_or, line_outcome, start_of, call_line, line_or_unknown, list_outcome, emit_outcome}
 use Rattle.emit_checks.proofs.ListsLaws.{lists_pass}
 use Rattle.loaded_lines.proofs.Loaded.{meant, bytes_of, Appended}
 use Rattle.refusal.specs.Verdicts.{Verdict}
@@ -93,7 +93,7 @@ module _ (job : Job) (c : Call) (position : ℕ) (loaded : LoadForm) (fits : c.n
       let a = accepted_line c.token_list (mnemonic_location c.mnemonic) c.numbers c.lent made position loaded h in
       (a.answer_is, a.form_is, subst (λ (o : EmitOutcome). Appended c o (words_of made.pairs)) (sym a.outcome_is) (accept_appends c fits made))
 
-  accepted_meaning : (m : Meaning) → (meaning_outcome job c m).answer ≡ done_at position loaded → AcceptedCall job c loaded m (meaning_outcome job c m)
+  accepted_meaning : (m : Meaning) → let o = line_or_unknown c (meaning_line job c.descriptors m (tokens c.token_list) (start_of c)) in o.answer ≡ done_at position loaded → AcceptedCall job c loaded m o
   unfolding table_line
   accepted_meaning (Table p) h =
       let l = line_appends (table_line job c.descriptors p (tokens c.token_list) (start_of c)) h in

@@ -12,12 +12,12 @@ use Rattle.record.specs.Stores.{append}
 use Rattle.record.specs.declared.Location.{Location}
 use Rattle.refusal.specs.Verdicts.{and_then, layout_verdict, name_verdict, Verdict}
 use Rattle.lexer.specs.Tokens.{token_layout, tokens}
-use Rattle.descriptors.specs.Mnemonics.{mnemonic_layout, mnemonic_name, mnemonic_location}
+use Rattle.descriptors.specs.Mnemonics.{mnemonic_layout, mnemonic_location}
 use Rattle.descriptors.specs.Descriptors.{descriptor_layout, descriptor_repeat}
 use Rattle.breakpoints.specs.Breakpoints.{region_number_ok, filled_layout, data_buffer_layout, pending_buffer_layout, breakpoint_buffer_layout}
 use Rattle.breakpoints.proofs.BreakpointsLaws.{data_good}
 use Rattle.emit_dispatch.specs.LineAnswers.{LineAnswer, Made, Missed, OutOfRange}
-use Rattle.emit_dispatch.specs.Lines.{Line, pseudo_line}
+use Rattle.emit_dispatch.specs.Lines.{Line}
 use Rattle.emit_pairs.specs.declared.InstructionPair.{InstructionPair}
 use Rattle.emit_bytes.specs.Appended.{word_bytes}
 use Rattle.emit_bytes.proofs.AppendedLaws.{words_length, pendings_length}
@@ -26,16 +26,13 @@ use Rattle.emit_checks.specs.Made.{RoomFor}
 use Rattle.emit_checks.proofs.RoomLaws.{room_fits, line_room}
 use Rattle.emit_outcome.specs.Call.{Call, EmitOutcome}
 use Rattle.emit_outcome.specs.Checks.{layout_stop, list_stop}
-use Rattle.emit_outcome.specs.Dispatch.{meaning, table_line}
 use Rattle.emit_outcome.specs.Room.{region_stop, edge_stop, space_stop, most_data, new_pending, new_breakpoint, room_stop}
-use Rattle.emit_outcome.specs.Emit.{answer_stop, line_stop, accept_or, line_outcome, start_of, call_line, meaning_outcome, list_outcome, emit_outcome}
+use Rattle.emit_outcome.specs.Emit.{answer_stop, line_stop, accept_or, line_outcome, call_made, call_line, line_or_unknown, list_outcome, emit_outcome}
 use Rattle.emit_outcome.specs.Answer.{done_at}
-use Rattle.emit_outcome.specs.declared.Meaning.{Meaning}
-use Rattle.emit_outcome.specs.declared.Meaning.TheVariants.{Table, Builtin, Neither}
 use Rattle.finished_words.specs.Listed.{Bytes}
 use Rattle.loading.specs.declared.LoadForm.{LoadForm}
 use Rattle.routine.proofs.AcceptedLaws.{AcceptedCall, call_stop, accept_line, accepted}
-use Rattle.routine.specs.CallValues.{meaning_pairs, call_pairs, call_origin}
+use Rattle.routine.specs.CallValues.{call_pairs, call_origin}
 use Rattle.routine.proofs.FilledLaws.{filled_is}
 use Rattle.routine.proofs.LineFitsLaws.{region_selected}
 use Rattle.routine.proofs.BehindLaws.{OriginFits}
@@ -108,13 +105,12 @@ module _ (c : Call) (d : List ℕ) (same : length d ≡ length c.lent.region_dat
       ∙ by_verdict made (line_stop c.token_list line c.numbers c.lent made)
 
   module _ (job : Job) where
-    by_meaning : (m : Meaning) → (meaning_outcome job (with_data c d) m).answer ≡ (meaning_outcome job c m).answer
-    by_meaning (Table p) = line_answer (table_line job c.descriptors p (tokens c.token_list) (start_of c))
-    by_meaning (Builtin p) = line_answer (pseudo_line job p (tokens c.token_list) (start_of c))
-    by_meaning Neither = refl
+    by_line : (o : Option Line) → (line_or_unknown (with_data c d) o).answer ≡ (line_or_unknown c o).answer
+    by_line (Some made) = line_answer made
+    by_line None = refl
 
     by_list : (v : Verdict) → (list_outcome job (with_data c d) v).answer ≡ (list_outcome job c v).answer
-    by_list (Ok tt) = by_meaning (meaning c.descriptors (mnemonic_name c.mnemonic))
+    by_list (Ok tt) = by_line (call_made job c)
     by_list (Err r) = refl
 
     -- the law
@@ -122,14 +118,9 @@ module _ (c : Call) (d : List ℕ) (same : length d ≡ length c.lent.region_dat
     unfolding emit_outcome
     emit_blind = ap (λ (v : Verdict). (list_outcome job (with_data c d) v).answer) stop_same ∙ by_list (call_stop c)
 
-    pairs_by : (m : Meaning) → meaning_pairs job (with_data c d) m ≡ meaning_pairs job c m
-    pairs_by (Table p) = refl
-    pairs_by (Builtin p) = refl
-    pairs_by Neither = refl
-
     pub pairs_blind : call_pairs job (with_data c d) ≡ call_pairs job c
     unfolding call_pairs
-    pairs_blind = pairs_by (meaning c.descriptors (mnemonic_name c.mnemonic))
+    pairs_blind = refl
 
 -- ---- an accepted call, taken apart
 module _ (job : Job) (c : Call) where

@@ -1,6 +1,6 @@
 -- What a late line answers: 29 where it would be accepted or get 11 or 12, at the position behind its operands, and else what it would get;
 -- nothing changes (document 02, P12). Assumes nothing.
-use Rattle.std.specs.Prelude.{ℕ, zero, suc, ◌+◌, ◌*◌, ◌-◌, ◌^◌, Bool, ◌&&◌, length, leb, eqb, Err, Ok}
+use Rattle.std.specs.Prelude.{ℕ, zero, suc, ◌+◌, ◌*◌, ◌-◌, ◌^◌, Bool, ◌&&◌, length, leb, eqb, Err, None, Ok, Option, Some}
 use Rattle.std.proofs.Common.{arith, subst, ◌∙◌}
 use mathlib.Core.List.{List, []}
 use Rattle.std.proofs.Math.Bool.{true, false}
@@ -10,12 +10,12 @@ use Rattle.record.specs.declared.Location.{Location}
 use Rattle.refusal.specs.Verdicts.{and_then, layout_verdict, name_verdict, Verdict}
 use Rattle.refusal.proofs.VerdictsLaws.{both_pass}
 use Rattle.refusal.specs.declared.Refusal.TheVariants.{MissingRegion, OverwriteEdge, LateLine}
-use Rattle.lexer.specs.Tokens.{token_layout, tokens}
-use Rattle.descriptors.specs.Mnemonics.{mnemonic_layout, mnemonic_name, mnemonic_location}
+use Rattle.lexer.specs.Tokens.{token_layout}
+use Rattle.descriptors.specs.Mnemonics.{mnemonic_layout, mnemonic_location}
 use Rattle.descriptors.specs.Descriptors.{descriptor_layout, descriptor_repeat}
 use Rattle.breakpoints.specs.Breakpoints.{data_buffer_layout, pending_buffer_layout}
 use Rattle.emit_dispatch.specs.LineAnswers.{LineAnswer, Made, Missed, OutOfRange}
-use Rattle.emit_dispatch.specs.Lines.{Line, pseudo_line}
+use Rattle.emit_dispatch.specs.Lines.{Line}
 use Rattle.emit_pairs.specs.declared.Fault.{Fault}
 use Rattle.emit_pairs.specs.declared.Fault.TheVariants.{Immediate, ShiftAmount, ConditionCode, Dropped}
 use Rattle.emit_pairs.specs.declared.InstructionPair.{InstructionPair}
@@ -25,11 +25,8 @@ use Rattle.emit_outcome.specs.Room.{no_region, most_data, region_stop, edge_stop
 use Rattle.emit_outcome.specs.Call.{Lent, Call}
 use Rattle.emit_outcome.specs.declared.LineNumbers.{LineNumbers}
 use Rattle.emit_outcome.specs.Checks.{layout_stop, list_stop}
-use Rattle.emit_outcome.specs.Dispatch.{meaning, table_line}
-use Rattle.emit_outcome.specs.Emit.{answer_stop, accept_or, line_outcome as emit_line, start_of, call_line, meaning_outcome, list_outcome, emit_outcome}
+use Rattle.emit_outcome.specs.Emit.{answer_stop, accept_or, line_outcome as emit_line, call_made, call_line, line_or_unknown, list_outcome, emit_outcome}
 use Rattle.emit_outcome.specs.Answer.{EmitAnswer, done_at, refused_at}
-use Rattle.emit_outcome.specs.declared.Meaning.{Meaning}
-use Rattle.emit_outcome.specs.declared.Meaning.TheVariants.{Table, Builtin, Neither}
 use Rattle.loading.specs.declared.LoadForm.{LoadForm}
 use Rattle.routine.proofs.AcceptedLaws.{call_stop, lists_pass}
 use Rattle.routine.proofs.FilledLaws.{data_passes}
@@ -118,10 +115,9 @@ module _ (job : Job) (g : LineGiven) (p : Patching) (pass : line_layouts g p ≡
       by (Missed m) = missed made m
       by (OutOfRange f) = faulty made f
 
-  by_meaning : (m : Meaning) → late_answer (meaning_outcome job (none_call g p) m).answer ≡ instead line (meaning_outcome job (emit_call g p) m).answer
-  by_meaning (Table d) = line_instead (table_line job g.descriptors d (tokens g.token_list) (start_of on))
-  by_meaning (Builtin d) = line_instead (pseudo_line job d (tokens g.token_list) (start_of on))
-  by_meaning Neither = refl
+  by_line : (o : Option Line) → late_answer (line_or_unknown (none_call g p) o).answer ≡ instead line (line_or_unknown (emit_call g p) o).answer
+  by_line (Some made) = line_instead made
+  by_line None = refl
 
   -- its lists pass too
   none_passes : call_stop (emit_call g p) ≡ Ok tt → call_stop (none_call g p) ≡ Ok tt
@@ -143,11 +139,10 @@ module _ (job : Job) (g : LineGiven) (p : Patching) (pass : line_layouts g p ≡
       → line_outcome job g p ≡ (record { answer = instead (mnemonic_location g.mnemonic) (emit_outcome job (emit_call g p)).answer; after = p })
   unfolding emit_outcome
   late_answer_lem s l =
-      let m = meaning g.descriptors (mnemonic_name g.mnemonic) in
       line_late job g p pass selected l
       ∙ ap (λ (a : EmitAnswer). record { answer = a; after = p })
       (ap (λ (v : Verdict). late_answer (list_outcome job (none_call g p) v).answer) (none_passes s)
-      ∙ by_meaning m ∙ sym (ap (λ (v : Verdict). instead line (list_outcome job (emit_call g p) v).answer) s))
+      ∙ by_line (call_made job on) ∙ sym (ap (λ (v : Verdict). instead line (list_outcome job (emit_call g p) v).answer) s))
 
   -- one that would be accepted
   pub late_instead : (position : ℕ) (loaded : LoadForm) → (emit_outcome job (emit_call g p)).answer ≡ done_at position loaded → is_late p g.region ≡ true

@@ -20,11 +20,13 @@ use Rattle.registers.specs.declared.RegisterSlot.{RegisterSlot}
 use Rattle.emit_dispatch.specs.Wants.{pseudo_wants}
 use Rattle.emit_dispatch.specs.Lines.{line_by, pseudo_pairs, pseudo_form, pseudo_line}
 use Rattle.emit_outcome.specs.Call.{Call}
+use Rattle.emit_outcome.specs.Dispatch.{meaning_line}
+use Rattle.emit_outcome.specs.declared.Meaning.{Meaning}
 use Rattle.emit_outcome.specs.Emit.{start_of}
 use Rattle.formats.proofs.Formats.{Format, InFormats, no_words, first}
 use Rattle.emit_dispatch.specs.LineLoads.{value_loads, loading_words}
 use Rattle.routine.specs.PatchValues.{Patch, target_of, patch_at, origin_at, patch_to, patches_from}
-use Rattle.routine.specs.CallValues.{meaning_pairs, call_pairs}
+use Rattle.routine.specs.CallValues.{line_pairs, call_pairs}
 use Rattle.pseudo_meaning.proofs.WordsThereLaws.{Words32}
 use Rattle.pseudo_meaning.specs.Lines.{Emitted}
 
@@ -33,7 +35,7 @@ pub pairs_are : (job : Job) (c : Call) (p : Pseudo) (x : AskedAll (pseudo_wants 
 unfolding call_pairs pseudo_line
 pairs_are job c p x e =
     let i = (read_operands (pseudo_wants p) (tokens c.token_list) (start_of c)).index in
-    ap (meaning_pairs job c) e.means
+    ap (λ (m : Meaning). line_pairs (meaning_line job c.descriptors m (tokens c.token_list) (start_of c))) e.means
     ∙ ap (λ (a : Answer (AskedAll (pseudo_wants p))). (line_by a i (λ y. Ok tt) (pseudo_pairs job p) (pseudo_form p)).pairs) e.operands_are
 
 -- words in formats have 32 bits

@@ -1,5 +1,5 @@
 -- An accepted emit call, taken apart: its lists passed, its line was made and has room, and its outcome is the line's. Assumes nothing.
-use Rattle.std.specs.Prelude.{ℕ, Err, None, Ok}
+use Rattle.std.specs.Prelude.{ℕ, Err, None, Ok, Option, Some}
 use Rattle.std.proofs.Common.{arith, ◌∙◌}
 use Rattle.std.proofs.Math.Path.{◌≡◌, refl, sym, ap}
 use Rattle.jobs.specs.declared.Job.{Job}
@@ -10,19 +10,19 @@ use Rattle.descriptors.specs.Mnemonics.{mnemonic_layout, mnemonic_name, mnemonic
 use Rattle.descriptors.specs.Descriptors.{descriptor_layout, descriptor_repeat, instruction_at}
 use Rattle.breakpoints.specs.Breakpoints.{data_buffer_layout, pending_buffer_layout, breakpoint_buffer_layout}
 use Rattle.emit_dispatch.specs.LineAnswers.{LineAnswer, Made, Missed, OutOfRange}
-use Rattle.emit_dispatch.specs.Lines.{Line, pseudo_line}
+use Rattle.emit_dispatch.specs.Lines.{Line}
 use Rattle.loading.specs.declared.LoadForm.{LoadForm}
 use Rattle.emit_outcome.specs.Call.{Call, EmitOutcome}
 use Rattle.emit_outcome.specs.Checks.{layout_stop, list_stop}
-use Rattle.emit_outcome.specs.Dispatch.{meaning, table_line}
-use Rattle.emit_outcome.specs.Emit.{accept, answer_stop, line_stop, accept_or, line_outcome, start_of, call_line, meaning_outcome, list_outcome, emit_outcome}
+use Rattle.emit_outcome.specs.Dispatch.{meaning, table_line, meaning_line}
+use Rattle.emit_outcome.specs.Emit.{accept, answer_stop, line_stop, accept_or, line_outcome, start_of, call_made, call_line, line_or_unknown, list_outcome, emit_outcome}
 use Rattle.emit_outcome.specs.Answer.{done_at}
 use Rattle.emit_outcome.specs.declared.Meaning.{Meaning}
 use Rattle.emit_outcome.specs.declared.Meaning.TheVariants.{Table, Builtin, Neither}
 use Rattle.finished_words.specs.Listed.{Bytes}
 use Rattle.routine.proofs.TokenLaws.{tokens_fit}
 use Rattle.routine.proofs.WordLaws.{Words, encoding_made, pseudo_made}
-use Rattle.routine.specs.CallValues.{meaning_pairs, call_pairs}
+use Rattle.routine.specs.CallValues.{line_pairs, call_pairs}
 
 abbrev pub call_stop : Call → Verdict
 call_stop c = list_stop c.token_list c.mnemonic c.descriptors c.lent c.numbers.place.region c.numbers.counts
@@ -84,6 +84,24 @@ module _ (c : Call) where
       go (Err r) p d = let z : ◌≡◌ {A = ℕ} 0 1 = cc in absurd (omega arith)
 
 module _ (job : Job) (c : Call) where
+  -- ---- the words of its line
+
+  -- of a line that is made: at least one and at most five
+  abbrev pub WordsMade : Option Line → Type 0
+  WordsMade (Some made) = made.answer ≡ Made → Words c.token_list 1 5 made.pairs
+  WordsMade None = Unit {0}
+
+  meaning_words : Bytes c.token_list → ListsPass c → (m : Meaning) → WordsMade (meaning_line job c.descriptors m (tokens c.token_list) (start_of c))
+  unfolding table_line
+  meaning_words bytes lists (Table p) =
+      let i = instruction_at c.descriptors p in
+      encoding_made c.token_list (tokens c.token_list) (tokens_fit c.token_list bytes lists.tokens_good) job i.encoding i.opcode (start_of c)
+  meaning_words bytes lists (Builtin p) = pseudo_made c.token_list (tokens c.token_list) (tokens_fit c.token_list bytes lists.tokens_good) job p (start_of c)
+  meaning_words bytes lists Neither = tt
+
+  pub line_words : Bytes c.token_list → ListsPass c → WordsMade (call_made job c)
+  line_words bytes lists = meaning_words bytes lists (meaning c.descriptors (mnemonic_name c.mnemonic))
+
   -- ---- the call
 
   pub record AcceptedCall : Type 0 where
@@ -95,41 +113,24 @@ module _ (job : Job) (c : Call) where
     pub outcome_is : emit_outcome job c ≡ accept_line c made
 
   module _ (position : ℕ) (loaded : LoadForm) (bytes : Bytes c.token_list) where
-    accepted_as : call_stop c ≡ Ok tt → (m : Meaning) → meaning c.descriptors (mnemonic_name c.mnemonic) ≡ m → (meaning_outcome job c m).answer ≡ done_at position loaded → AcceptedCall
-    unfolding emit_outcome call_pairs table_line
-    accepted_as s (Table p) e d =
-        let ts = tokens c.token_list in
-        let made = table_line job c.descriptors p ts (start_of c) in
-        let i = instruction_at c.descriptors p in
-        let lists = lists_pass c s in
+    accepted_as : call_stop c ≡ Ok tt → (o : Option Line) → call_made job c ≡ o → WordsMade o → (line_or_unknown c o).answer ≡ done_at position loaded → AcceptedCall
+    unfolding emit_outcome call_pairs
+    accepted_as s (Some made) e words d =
         let l = line_passes c made position loaded d in
         record {
-          lists = lists;
+          lists = lists_pass c s;
           made = made;
-          pairs_are = sym (ap (meaning_pairs job c) e);
+          pairs_are = sym (ap line_pairs e);
           line = l;
-          words = encoding_made c.token_list ts (tokens_fit c.token_list bytes lists.tokens_good) job i.encoding i.opcode (start_of c) l.made_is;
-          outcome_is = ap (list_outcome job c) s ∙ ap (meaning_outcome job c) e ∙ l.outcome_is;
+          words = words l.made_is;
+          outcome_is = ap (list_outcome job c) s ∙ ap (line_or_unknown c) e ∙ l.outcome_is;
         }
-    accepted_as s (Builtin p) e d =
-        let ts = tokens c.token_list in
-        let made = pseudo_line job p ts (start_of c) in
-        let lists = lists_pass c s in
-        let l = line_passes c made position loaded d in
-        record {
-          lists = lists;
-          made = made;
-          pairs_are = sym (ap (meaning_pairs job c) e);
-          line = l;
-          words = pseudo_made c.token_list ts (tokens_fit c.token_list bytes lists.tokens_good) job p (start_of c) l.made_is;
-          outcome_is = ap (list_outcome job c) s ∙ ap (meaning_outcome job c) e ∙ l.outcome_is;
-        }
-    accepted_as s Neither e d = let z : ◌≡◌ {A = ℕ} 0 1 = cc in absurd (omega arith)
+    accepted_as s None e words d = let z : ◌≡◌ {A = ℕ} 0 1 = cc in absurd (omega arith)
 
     pub accepted : (emit_outcome job c).answer ≡ done_at position loaded → AcceptedCall
     unfolding emit_outcome
     accepted d = go (call_stop c) refl d
       where
         go : (v : Verdict) → call_stop c ≡ v → (list_outcome job c v).answer ≡ done_at position loaded → AcceptedCall
-        go (Ok tt) s d = accepted_as s (meaning c.descriptors (mnemonic_name c.mnemonic)) refl d
+        go (Ok tt) s d = accepted_as s (call_made job c) refl (line_words bytes (lists_pass c s)) d
         go (Err r) s d = let z : ◌≡◌ {A = ℕ} 0 1 = cc in absurd (omega arith)

@@ -1,32 +1,26 @@
 -- How much room is enough for any line: what `line_grows` says that one adds at most, in data short of its limit. Assumes nothing.
-use Rattle.std.specs.Prelude.{ℕ, ◌+◌, ◌≤◌, length, Err, Ok}
+use Rattle.std.specs.Prelude.{ℕ, ◌+◌, ◌≤◌, length, Err, None, Ok, Option, Some}
 use native.Mathlib.Omega.{arith}
 use Rattle.std.proofs.Math.Path.{◌≡◌, refl}
 use Rattle.jobs.specs.declared.Job.{Job}
 use Rattle.record.specs.declared.Location.{Location}
 use Rattle.refusal.specs.declared.Refusal.TheVariants.{NoSpace, UnknownInstruction}
-use Rattle.lexer.specs.Tokens.{tokens}
-use Rattle.descriptors.specs.Mnemonics.{mnemonic_name, mnemonic_location}
-use Rattle.descriptors.specs.Descriptors.{instruction_at}
+use Rattle.descriptors.specs.Mnemonics.{mnemonic_location}
 use Rattle.breakpoints.proofs.BreakpointBytesLaws.{breakpoint_length}
 use Rattle.emit_bytes.proofs.AppendedLaws.{pendings_length}
 use Rattle.emit_dispatch.specs.LineAnswers.{LineAnswer, Made, Missed, OutOfRange}
-use Rattle.emit_dispatch.specs.Lines.{Line, pseudo_line}
+use Rattle.emit_dispatch.specs.Lines.{Line}
 use Rattle.emit_outcome.specs.Call.{Lent, Call}
-use Rattle.emit_outcome.specs.Dispatch.{meaning, table_line}
 use Rattle.emit_outcome.specs.Room.{most_data}
-use Rattle.emit_outcome.specs.Emit.{answer_stop, line_stop, accept_or, line_outcome, start_of, call_line, meaning_outcome, list_outcome, emit_outcome}
+use Rattle.emit_outcome.specs.Emit.{answer_stop, line_stop, accept_or, line_outcome, call_made, call_line, line_or_unknown, list_outcome, emit_outcome}
 use Rattle.emit_outcome.specs.Answer.{refused_at}
 use Rattle.emit_outcome.proofs.AnswerLaws.{refused_parts}
 use Rattle.emit_outcome.specs.declared.FillCounts.{FillCounts}
-use Rattle.emit_outcome.specs.declared.Meaning.{Meaning}
-use Rattle.emit_outcome.specs.declared.Meaning.TheVariants.{Table, Builtin, Neither}
 use Rattle.finished_words.specs.Listed.{Bytes}
-use Rattle.routine.specs.CallValues.{call_origin}
-use Rattle.routine.proofs.TokenLaws.{tokens_fit}
-use Rattle.routine.proofs.WordLaws.{Words, encoding_made, pseudo_made}
-use Rattle.routine.proofs.AcceptedLaws.{call_stop, ListsPass, lists_pass}
-use Rattle.routine.proofs.WaitsLaws.{waits, waits_bytes, meaning_waits}
+use Rattle.routine.specs.CallValues.{call_origin, line_pairs, call_pairs}
+use Rattle.routine.proofs.WordLaws.{Words}
+use Rattle.routine.proofs.AcceptedLaws.{call_stop, lists_pass, WordsMade, line_words}
+use Rattle.routine.proofs.WaitsLaws.{waits, waits_bytes, call_waits}
 use Rattle.routine.proofs.SpaceLaws.{Other, lists_other, miss_other, fault_other, room_other}
 use Rattle.refusal.specs.Verdicts.{Verdict}
 
@@ -63,26 +57,15 @@ module _ (job : Job) (c : Call) (roomy : Roomy c.numbers.counts c.lent) where
       go (Ok tt) s f = let z : ◌≡◌ {A = ℕ} 0 1 = cc in omega arith
       go (Err r) s f = let z : r ≡ NoSpace l a = (refused_parts f).0 in other l a cc
 
-  meaning_other : Bytes c.token_list → ListsPass c → (m : Meaning) (l : Location) (a position : ℕ) → (meaning_outcome job c m).answer ≡ refused_at (NoSpace l a) position → ⊥
-  unfolding table_line
-  meaning_other bytes lists (Table p) =
-      let ts = tokens c.token_list in
-      let x = instruction_at c.descriptors p in
-      let made = table_line job c.descriptors p ts (start_of c) in
-      outcome_other made
-      (line_other made (encoding_made c.token_list ts (tokens_fit c.token_list bytes lists.tokens_good) job x.encoding x.opcode (start_of c)) (meaning_waits job c (Table p)))
-  meaning_other bytes lists (Builtin p) =
-      let ts = tokens c.token_list in
-      let made = pseudo_line job p ts (start_of c) in
-      outcome_other made
-      (line_other made (pseudo_made c.token_list ts (tokens_fit c.token_list bytes lists.tokens_good) job p (start_of c)) (meaning_waits job c (Builtin p)))
-  meaning_other bytes lists Neither = λ l a position e. let k : UnknownInstruction line ≡ NoSpace l a = (refused_parts e).0 in let z : ◌≡◌ {A = ℕ} 0 1 = cc in omega arith
+  made_other : (o : Option Line) → WordsMade job c o → waits (line_pairs o) ≤ 2 → (l : Location) (a position : ℕ) → (line_or_unknown c o).answer ≡ refused_at (NoSpace l a) position → ⊥
+  made_other (Some made) words two = outcome_other made (line_other made words two)
+  made_other None words two = λ l a position e. let k : UnknownInstruction line ≡ NoSpace l a = (refused_parts e).0 in let z : ◌≡◌ {A = ℕ} 0 1 = cc in omega arith
 
   -- no line is refused with 12 then
   pub room_enough : Bytes c.token_list → (l : Location) (a position : ℕ) → (emit_outcome job c).answer ≡ refused_at (NoSpace l a) position → ⊥
-  unfolding emit_outcome
+  unfolding emit_outcome call_pairs
   room_enough bytes l a position e = go (call_stop c) refl e
     where
       go : (v : Verdict) → call_stop c ≡ v → (list_outcome job c v).answer ≡ refused_at (NoSpace l a) position → ⊥
       go (Err r) s f = let z : r ≡ NoSpace l a = (refused_parts f).0 in lists_other c.token_list c.mnemonic c.descriptors c.lent c.numbers.place.region c.numbers.counts l a cc
-      go (Ok tt) s f = meaning_other bytes (lists_pass c s) (meaning c.descriptors (mnemonic_name c.mnemonic)) l a position f
+      go (Ok tt) s f = made_other (call_made job c) (line_words job c bytes (lists_pass c s)) (call_waits job c) l a position f

@@ -35,11 +35,11 @@ use Rattle.emit_pseudo.specs.PseudoWords.{turned, sne_pairs}
 use Rattle.emit_dispatch.specs.Wants.{encoding_wants, pseudo_wants}
 use Rattle.emit_dispatch.specs.Lines.{encoding_pairs, pseudo_pairs, encoding_form, pseudo_form, encoding_range, line_by, encoding_line, pseudo_line}
 use Rattle.emit_outcome.specs.Call.{Call}
-use Rattle.emit_outcome.specs.Dispatch.{meaning, table_line}
+use Rattle.emit_outcome.specs.Dispatch.{meaning, table_line, meaning_line}
 use Rattle.emit_outcome.specs.Emit.{start_of}
 use Rattle.emit_outcome.specs.declared.Meaning.{Meaning}
 use Rattle.emit_outcome.specs.declared.Meaning.TheVariants.{Table, Builtin, Neither}
-use Rattle.routine.specs.CallValues.{meaning_pairs, call_pairs}
+use Rattle.routine.specs.CallValues.{line_pairs, call_pairs}
 use Rattle.routine.proofs.WordLaws.{PairFits, PairsFit}
 use Rattle.pending.specs.declared.InstructionLabel.{InstructionLabel}
 
@@ -194,7 +194,7 @@ line_waits (Got x) i range pairs form h = h x
 line_waits (Missed m) i range pairs form h = omega arith
 
 module _ (job : Job) (c : Call) where
-  pub meaning_waits : (m : Meaning) → waits (meaning_pairs job c m) ≤ 2
+  pub meaning_waits : (m : Meaning) → waits (line_pairs (meaning_line job c.descriptors m (tokens c.token_list) (start_of c))) ≤ 2
   unfolding waits table_line encoding_line pseudo_line
   meaning_waits (Table p) =
       let x = instruction_at c.descriptors p in

@@ -36,12 +36,12 @@ use Rattle.emit_pseudo.specs.PseudoWords.{turned, sne_pairs}
 use Rattle.emit_dispatch.specs.Wants.{encoding_wants, pseudo_wants}
 use Rattle.emit_dispatch.specs.Lines.{encoding_pairs, pseudo_pairs, encoding_form, pseudo_form, encoding_range, line_by, encoding_line, pseudo_line}
 use Rattle.emit_outcome.specs.Call.{Call}
-use Rattle.emit_outcome.specs.Dispatch.{meaning, table_line}
+use Rattle.emit_outcome.specs.Dispatch.{meaning, table_line, meaning_line}
 use Rattle.emit_outcome.specs.Emit.{start_of}
 use Rattle.emit_outcome.specs.declared.Meaning.{Meaning}
 use Rattle.emit_outcome.specs.declared.Meaning.TheVariants.{Table, Builtin, Neither}
 use Rattle.reading.specs.OnTarget.{Going}
-use Rattle.routine.specs.CallValues.{meaning_pairs, call_pairs}
+use Rattle.routine.specs.CallValues.{line_pairs, call_pairs}
 use Rattle.pending.specs.declared.InstructionLabel.{InstructionLabel}
 
 -- a word that waits for no half, and for no whole address
@@ -173,7 +173,7 @@ line_halves (Got x) i range pairs form h = h x
 line_halves (Missed m) i range pairs form h = done
 
 module _ (job : Job) (c : Call) where
-  meaning_halves : (m : Meaning) → Halves (meaning_pairs job c m)
+  meaning_halves : (m : Meaning) → Halves (line_pairs (meaning_line job c.descriptors m (tokens c.token_list) (start_of c)))
   unfolding table_line encoding_line pseudo_line
   meaning_halves (Table p) =
       let x = instruction_at c.descriptors p in
