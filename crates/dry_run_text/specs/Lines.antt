@@ -10,7 +10,7 @@ use Rattle.machine.specs.declared.Reason.TheVariants.{Allowance, Pc, Word, Overf
 use Rattle.dry_run_outcome.specs.DryRun.{RunAnswer, dry_run_outcome}
 use Rattle.input.specs.Input.{list_of, behind_lists, word_or_zero}
 use Rattle.text.specs.Text.{last_field, refused_line}
-use Rattle.register_bytes.specs.RegisterBytes.{registers_in}
+use Rattle.input.specs.RegisterBytes.{registers_in}
 
 -- the name after `reason`: `allowance`, `pc`, `word` or `overflow`
 abbrev pub reason_name : Reason → List ℕ

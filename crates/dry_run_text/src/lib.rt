@@ -17,7 +17,7 @@ fn machine_in(numbers: &[u8]) -> Machine
 {
     Machine {
         pc: input::word_or_zero(numbers, 128),
-        registers: register_bytes::registers_in(numbers),
+        registers: input::registers_in(numbers),
     }
 }
 

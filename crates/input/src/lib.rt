@@ -1,10 +1,11 @@
-// Reads the counted lists and the numbers in a program's input.
+// Reads the counted lists, the numbers and the registers in a program's input.
 #![tactic(auto)]
 
 ghost use Rattle.std.specs.Prelude.{◌≡◌, ◌+◌, ◌≤◌, min, length, take};
 ghost use Rattle.record.specs.Bytes.{byte_at};
 ghost use Rattle.record.specs.Stores.{append};
 ghost use Rattle.input.specs.Input.{list_end, list_in, behind_list, behind_lists, list_of, word_or_zero, half_or_zero};
+ghost use Rattle.input.specs.RegisterBytes.{registers_in};
 
 // The most bytes of standard input that a program reads.
 pub const MOST: usize = 0x10_0000;
@@ -50,6 +51,13 @@ pub fn word_or_zero(input: &[u8], at: usize) -> u32
         return 0;
     }
     record::word_at(input, at)
+}
+
+// Reads 32 registers from the start of `bytes`, four bytes each. A register with missing bytes is 0.
+pub fn registers_in(bytes: &[u8]) -> [u32; 32]
+    ensures { result ≡ registers_in bytes.now }
+{
+    std::array::from_fn(|i| word_or_zero(bytes, 4 * i))
 }
 
 // Returns the 2-byte number at `at`, or 0 if any of its bytes is missing.

@@ -22,7 +22,7 @@ use Rattle.dry_run_outcome.proofs.Call.{call_refused, call_fits}
 use Rattle.emit_pairs.specs.Pairs.{plain}
 use Rattle.emit_bytes.specs.Appended.{word_bytes}
 use Rattle.emit_bytes.proofs.AppendedLaws.{words_length}
-use Rattle.register_bytes.specs.RegisterBytes.{words_in}
+use Rattle.input.specs.RegisterBytes.{words_in}
 use Rattle.linked_answer.specs.Words.{answer_bytes, words_as_bytes}
 use Rattle.linked_dry_run.specs.LinkedDryRun.{LinkedDryRun, register_bytes, run_words, run_answered, registers_after, machine_of, linked_dry_run}
 use Rattle.linked_dry_run.proofs.LinkedDryRunLaws.{run_answered_lem}

@@ -7,7 +7,7 @@ use Rattle.machine.specs.declared.Reason.{Reason}
 use Rattle.machine.specs.declared.Reason.TheVariants.{Allowance, Pc, Word, Overflow}
 use Rattle.dry_run_outcome.specs.declared.DryRun.{DryRun}
 use Rattle.dry_run_outcome.specs.DryRun.{RunAnswer, dry_run_outcome}
-use Rattle.register_bytes.specs.RegisterBytes.{registers_in}
+use Rattle.input.specs.RegisterBytes.{registers_in}
 use Rattle.linked_answer.specs.Words.{answer_bytes, too_short, answer_words, number_of, words_as_bytes}
 
 -- the bytes of 32 registers

@@ -44,7 +44,7 @@ pub fn dry_run(
     if answer.len() < ANSWER_BYTES || registers.len() < REGISTER_BYTES {
         return TOO_SHORT;
     }
-    let held = register_bytes::registers_in(&*registers);
+    let held = input::registers_in(&*registers);
     let machine = Machine {
         pc,
         registers: held,

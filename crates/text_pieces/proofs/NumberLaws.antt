@@ -7,7 +7,7 @@ use Rattle.record.specs.Bytes.{byte_at}
 use Rattle.lexer.specs.declared.TokenKind.TheVariants.{IntegerLiteral}
 use Rattle.byte_class.specs.Class.{is, class_of}
 use Rattle.byte_class.specs.declared.Class.{Class}
-use Rattle.text_runs.specs.Numbers.{number_in}
+use Rattle.text_pieces.specs.Numbers.{number_in}
 use Rattle.text_pieces.specs.Pieces.{decimal_piece, hexadecimal_piece, starts_hexadecimal, number_at, piece_of, piece_at}
 use Rattle.text_pieces.proofs.TextLaws.{rest}
 use Rattle.text_pieces.specs.declared.Piece.TheVariants.{Token, BadToken}

@@ -9,8 +9,8 @@ use Rattle.std.proofs.Math.Dec.{leb}
 use Rattle.record.specs.Bytes.{byte_at, is_text, all}
 use Rattle.lexer.specs.declared.TokenKind.TheVariants.{Comment, StringLiteral}
 use Rattle.byte_class.specs.Class.{is}
-use Rattle.text_runs.specs.Leading.{leading, plain}
-use Rattle.text_runs.proofs.StopLaws.{leading_same, goes_on, plainly, plainly_text, stopped, broken}
+use Rattle.text_pieces.specs.Leading.{leading, plain}
+use Rattle.text_pieces.proofs.StopLaws.{leading_same, goes_on, plainly, plainly_text, stopped, broken}
 use Rattle.text_pieces.specs.Pieces.{text_piece, line_ends, comment_at, string_at}
 use Rattle.text_pieces.proofs.TextLaws.{rest, counted_fits, counted_long, bad}
 use Rattle.text_pieces.specs.declared.Piece.TheVariants.{Token, BadByte, BadToken}

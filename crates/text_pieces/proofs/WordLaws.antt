@@ -9,9 +9,9 @@ use Rattle.lexer.specs.declared.TokenKind.TheVariants.{Directive, Parameter, Sym
 use Rattle.byte_class.specs.Class.{word_byte}
 use Rattle.register_names.specs.RegisterNames.{register_named}
 use Rattle.register_names.specs.declared.NamedRegister.{NamedRegister}
-use Rattle.text_runs.specs.Leading.{leading}
-use Rattle.text_runs.proofs.LeadingLaws.{leading_all, leading_take}
-use Rattle.text_runs.proofs.StopLaws.{word_text}
+use Rattle.text_pieces.specs.Leading.{leading}
+use Rattle.text_pieces.proofs.LeadingLaws.{leading_all, leading_take}
+use Rattle.text_pieces.proofs.StopLaws.{word_text}
 use Rattle.text_pieces.specs.Pieces.{text_piece, word_at, symbol_at, directive_at, if_any, parameter_at, register_piece, register_at}
 use Rattle.text_pieces.proofs.TextLaws.{rest, counted_fits, counted_long}
 use Rattle.text_pieces.specs.declared.Piece.TheVariants.{Token, BadToken}

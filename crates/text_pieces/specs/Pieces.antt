@@ -12,8 +12,8 @@ use Rattle.byte_class.specs.declared.Mark.TheVariants.{Comment as CommentMark, D
 use Rattle.register_names.specs.RegisterNames.{register_named}
 use Rattle.register_names.specs.declared.NamedRegister.{NamedRegister}
 use Rattle.register_names.specs.declared.NamedRegister.TheVariants.{General, Float}
-use Rattle.text_runs.specs.Leading.{leading}
-use Rattle.text_runs.specs.Numbers.{number_in}
+use Rattle.text_pieces.specs.Leading.{leading}
+use Rattle.text_pieces.specs.Numbers.{number_in}
 use Rattle.text_pieces.specs.declared.Piece.{Piece}
 use Rattle.text_pieces.specs.declared.Piece.TheVariants.{Blank, Token, BadByte, BadToken}
 

@@ -2,9 +2,11 @@
 #![tactic(auto)]
 
 ghost use Rattle.std.specs.Prelude.{◌≡◌, ◌+◌, ◌<◌, ◌≤◌, length, drop};
-ghost use Rattle.text_runs.specs.Numbers.{number_in};
+ghost use Rattle.text_pieces.specs.Numbers.{number_in};
 ghost use Rattle.text_pieces.specs.Pieces.{line_ends, symbol_at, directive_at, parameter_at, comment_at, string_at, register_at};
 ghost use Rattle.text_pieces.specs.Pieces.{starts_hexadecimal, hexadecimal_piece, number_at, mark_at, piece_at};
+
+pub mod runs;
 
 use byte_class::{ByteClasses, Class, Mark};
 use lexer::{Text, TokenKind};
@@ -52,7 +54,7 @@ pub enum Piece {
 fn symbol_at(tables: &Tables, place: &Place<'_>) -> Piece
     ensures { result ≡ symbol_at place.now.text.now place.now.at }
 {
-    let len = text_runs::word_len(&tables.classes, &place.text[place.at..]);
+    let len = runs::word_len(&tables.classes, &place.text[place.at..]);
     if len > LONGEST {
         return Piece::BadToken;
     }
@@ -69,7 +71,7 @@ fn directive_at(tables: &Tables, place: &Place<'_>) -> Piece
     ensures { result ≡ directive_at place.now.text.now place.now.at }
 {
     let start = place.at + 1;
-    let len = text_runs::word_len(&tables.classes, &place.text[start..]);
+    let len = runs::word_len(&tables.classes, &place.text[start..]);
     if len > LONGEST {
         return Piece::BadToken;
     }
@@ -80,7 +82,7 @@ fn parameter_at(tables: &Tables, place: &Place<'_>) -> Piece
     ensures { result ≡ parameter_at place.now.text.now place.now.at }
 {
     let start = place.at + 1;
-    let len = text_runs::word_len(&tables.classes, &place.text[start..]);
+    let len = runs::word_len(&tables.classes, &place.text[start..]);
     if len == 0 || len > LONGEST {
         return Piece::BadToken;
     }
@@ -98,7 +100,7 @@ fn comment_at(place: &Place<'_>) -> Piece
     ensures { result ≡ comment_at place.now.text.now place.now.at }
 {
     let start = place.at + 1;
-    let len = text_runs::text_len(&place.text[start..], b'\n');
+    let len = runs::text_len(&place.text[start..], b'\n');
     let end = start + len;
     if !line_ends(place.text, end) {
         return Piece::BadByte;
@@ -113,7 +115,7 @@ fn string_at(place: &Place<'_>) -> Piece
     ensures { result ≡ string_at place.now.text.now place.now.at }
 {
     let start = place.at + 1;
-    let len = text_runs::text_len(&place.text[start..], b'"');
+    let len = runs::text_len(&place.text[start..], b'"');
     let end = start + len;
     if end == place.text.len() || place.text[end] != b'"' {
         return Piece::BadByte;
@@ -128,7 +130,7 @@ fn register_at(tables: &Tables, place: &Place<'_>) -> Piece
     ensures { result ≡ register_at place.now.text.now place.now.at }
 {
     let start = place.at + 1;
-    let len = text_runs::word_len(&tables.classes, &place.text[start..]);
+    let len = runs::word_len(&tables.classes, &place.text[start..]);
     let end = start + len;
     match tables.names.register_named(&place.text[start..end]) {
         Some(NamedRegister::General(r)) => Piece::Token(TokenKind::Register(r), len + 1),
@@ -150,7 +152,7 @@ fn hexadecimal_at(place: &Place<'_>) -> Piece
     requires { place.now.at + 2 ≤ length place.now.text.now }
     ensures { result ≡ hexadecimal_piece (number_in 16 (drop (place.now.at + 2) place.now.text.now)) }
 {
-    match text_runs::number_in(&place.text[place.at + 2..], 16) {
+    match runs::number_in(&place.text[place.at + 2..], 16) {
         Some((value, len)) if len > 0 => Piece::Token(TokenKind::IntegerLiteral(value), len + 2),
         _ => Piece::BadToken,
     }
@@ -162,7 +164,7 @@ fn number_at(place: &Place<'_>) -> Piece
     if is_hexadecimal(place) {
         return hexadecimal_at(place);
     }
-    match text_runs::number_in(&place.text[place.at..], 10) {
+    match runs::number_in(&place.text[place.at..], 10) {
         Some((value, len)) => Piece::Token(TokenKind::IntegerLiteral(value), len),
         None => Piece::BadToken,
     }

@@ -23,10 +23,10 @@ use Rattle.register_names.specs.declared.NamedRegister.{NamedRegister}
 use Rattle.register_names.specs.declared.NamedRegister.TheVariants.{General, Float as FloatNamed}
 use Rattle.token_bytes.specs.TokenBytes.{carried_by, carried_size, TextFits, CarriedFits}
 use Rattle.token_bytes.proofs.TokenBytesLaws.{carried_most}
-use Rattle.text_runs.specs.Leading.{leading}
-use Rattle.text_runs.proofs.LeadingLaws.{leading_le, leading_take, leading_next}
-use Rattle.text_runs.specs.Numbers.{number_in, is_digit_of, digit_value}
-use Rattle.text_runs.proofs.NumbersLaws.{number_is, digit_decimal}
+use Rattle.text_pieces.specs.Leading.{leading}
+use Rattle.text_pieces.proofs.LeadingLaws.{leading_le, leading_take, leading_next}
+use Rattle.text_pieces.specs.Numbers.{number_in, is_digit_of, digit_value}
+use Rattle.text_pieces.proofs.NumbersLaws.{number_is, digit_decimal}
 use Rattle.text_pieces.specs.Pieces.{text_piece, word_at, symbol_at, directive_at, if_any, parameter_at, comment_at, string_at, register_piece, register_at, decimal_piece, hexadecimal_piece, starts_hexadecimal, number_at, piece_of, piece_at}
 use Rattle.text_pieces.proofs.TextLaws.{fits, long, bad}
 use Rattle.text_pieces.proofs.NumberLaws.{hex_within, number_hex, number_decimal, hex_empty, hex_some}

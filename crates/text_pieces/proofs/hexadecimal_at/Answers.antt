@@ -1,8 +1,8 @@
 -- No more digits are counted than the text has.
 use Rattle.std.proofs.Common.{◌+◌, drop, sym, arith, length-drop}
-use Rattle.text_runs.proofs.LeadingLaws.{leading_le}
-use Rattle.text_runs.specs.Numbers.{is_digit_of}
-use Rattle.text_runs.proofs.NumbersLaws.{number_is}
+use Rattle.text_pieces.proofs.LeadingLaws.{leading_le}
+use Rattle.text_pieces.specs.Numbers.{is_digit_of}
+use Rattle.text_pieces.proofs.NumbersLaws.{number_is}
 use Rattle.text_pieces.proofs.NumberLaws.{number_read}
 use Rattle.text_pieces.proofs.hexadecimal_at.Goals as goal
 

@@ -1,10 +1,10 @@
 use Rattle.std.proofs.Common.{ℕ, ◌+◌, ◌*◌, ◌^◌, ◌≡◌, ◌<◌, length, sym, ap, ◌∙◌, arith}
-use Rattle.text_runs.proofs.NumbersLaws.{number_from, digits_at, number_start, number_end, number_stop, number_next, number_over}
-use Rattle.text_runs.specs.Numbers.{digit_value}
+use Rattle.text_pieces.proofs.NumbersLaws.{number_from, digits_at, number_start, number_end, number_stop, number_next, number_over}
+use Rattle.text_pieces.specs.Numbers.{digit_value}
 use Rattle.record.specs.Bytes.{byte_at}
-use Rattle.text_runs.proofs.DigitLaws.{digit_is, no_digit}
-use Rattle.text_runs.proofs.number_in.Goals as goal
-use Rattle.text_runs.proofs.number_in.Goals.{In-Some}
+use Rattle.text_pieces.proofs.DigitLaws.{digit_is, no_digit}
+use Rattle.text_pieces.proofs.runs.number_in.Goals as goal
+use Rattle.text_pieces.proofs.runs.number_in.Goals.{In-Some}
 
 -- the digit is that of the definition, and below the base
 digit_of : (c : In-Some) → (c.in-Some.digit ≡ digit_value (byte_at c.args.text.now c.loop-i.i)) × (c.in-Some.digit < c.args.base)

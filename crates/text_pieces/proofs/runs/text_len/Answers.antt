@@ -2,9 +2,9 @@ use Rattle.std.specs.Prelude.{not}
 use Rattle.std.proofs.Common.{rules, tests}
 use Rattle.std.proofs.lemmas.Iterator.{YieldsList-from_slice}
 use Rattle.std.proofs.lemmas.Iterator.Search.{position_from_yields_List}
-use Rattle.text_runs.specs.Leading.{plain}
-use Rattle.text_runs.proofs.LeadingLaws.{leading_position}
-use Rattle.text_runs.proofs.text_len.Goals as goal
+use Rattle.text_pieces.specs.Leading.{plain}
+use Rattle.text_pieces.proofs.LeadingLaws.{leading_position}
+use Rattle.text_pieces.proofs.runs.text_len.Goals as goal
 
 pub returns : goal.returns
 returns c =

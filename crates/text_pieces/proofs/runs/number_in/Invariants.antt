@@ -1,7 +1,7 @@
 use Rattle.std.proofs.Common.{◌^◌, ◌≡◌, ◌<◌}
-use Rattle.text_runs.specs.Numbers.{number_in}
-use Rattle.text_runs.proofs.NumbersLaws.{number_from, digits_at}
-use Rattle.text_runs.proofs.number_in.Given as goal
+use Rattle.text_pieces.specs.Numbers.{number_in}
+use Rattle.text_pieces.proofs.NumbersLaws.{number_from, digits_at}
+use Rattle.text_pieces.proofs.runs.number_in.Given as goal
 
 -- the number is that of the digits from here on, behind the value so far
 abbrev pub invariant-loop-i : goal.invariant-loop-i

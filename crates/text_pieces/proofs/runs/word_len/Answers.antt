@@ -3,8 +3,8 @@ use Rattle.std.proofs.Common.{rules, tests}
 use Rattle.std.proofs.lemmas.Iterator.{YieldsList-from_slice}
 use Rattle.std.proofs.lemmas.Iterator.Search.{position_from_yields_List}
 use Rattle.byte_class.specs.Class.{word_byte}
-use Rattle.text_runs.proofs.LeadingLaws.{leading_position}
-use Rattle.text_runs.proofs.word_len.Goals as goal
+use Rattle.text_pieces.proofs.LeadingLaws.{leading_position}
+use Rattle.text_pieces.proofs.runs.word_len.Goals as goal
 
 pub returns : goal.returns
 returns c =

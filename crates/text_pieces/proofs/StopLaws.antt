@@ -10,8 +10,8 @@ use Rattle.std.proofs.Math.ListN.{length}
 use Rattle.record.specs.Bytes.{byte_at, is_text, all}
 use Rattle.byte_class.specs.Class.{word_byte}
 use Rattle.byte_class.proofs.ClassLaws.{word_range}
-use Rattle.text_runs.specs.Leading.{leading}
-use Rattle.text_runs.proofs.LeadingLaws.{leading_on, leading_off, leading_all}
+use Rattle.text_pieces.specs.Leading.{leading}
+use Rattle.text_pieces.proofs.LeadingLaws.{leading_on, leading_off, leading_all}
 
 -- a weaker test passes too
 all_weaker : (p q : ℕ → Bool) → ((b : ℕ) → p b ≡ true → q b ≡ true) → (s : List ℕ) → all p s ≡ true → all q s ≡ true

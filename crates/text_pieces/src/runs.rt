@@ -1,10 +1,8 @@
 // Reads what a text begins with: letters and digits, printable bytes, or a number.
-#![tactic(auto)]
-
 ghost use Rattle.std.specs.Prelude.{◌≡◌, ◌<◌, ◌≤◌, length};
 ghost use Rattle.byte_class.specs.Class.{word_byte};
-ghost use Rattle.text_runs.specs.Leading.{leading, plain};
-ghost use Rattle.text_runs.specs.Numbers.{number_in};
+ghost use Rattle.text_pieces.specs.Leading.{leading, plain};
+ghost use Rattle.text_pieces.specs.Numbers.{number_in};
 
 use byte_class::ByteClasses;
 

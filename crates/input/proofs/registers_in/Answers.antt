@@ -1,6 +1,6 @@
 use Rattle.std.proofs.Common.{rules}
-use Rattle.register_bytes.proofs.RegisterBytesLaws.{all_read}
-use Rattle.register_bytes.proofs.registers_in.Goals as goal
+use Rattle.input.proofs.RegisterBytesLaws.{all_read}
+use Rattle.input.proofs.registers_in.Goals as goal
 
 pub returns : goal.returns
 returns c =

@@ -11,9 +11,9 @@ use Rattle.std.proofs.Math.Dec.{ltb}
 use borrow.Author.Tests.{lt-ltb, le-ltb, le-leb, lt-leb, ltb-true, ltb-false}
 use Rattle.record.specs.Bytes.{byte_at}
 use Rattle.byte_class.specs.Class.{between}
-use Rattle.text_runs.specs.Leading.{leading}
-use Rattle.text_runs.proofs.LeadingLaws.{leading_next, leading_stop, leading_end}
-use Rattle.text_runs.specs.Numbers.{digit_value, is_digit_of, value_from, within64, number_in}
+use Rattle.text_pieces.specs.Leading.{leading}
+use Rattle.text_pieces.proofs.LeadingLaws.{leading_next, leading_stop, leading_end}
+use Rattle.text_pieces.specs.Numbers.{digit_value, is_digit_of, value_from, within64, number_in}
 
 -- the number of these digits behind a number of n digits
 abbrev pub number_from : (base value n : ℕ) → List ℕ → Option (ℕ × ℕ)

@@ -3,7 +3,7 @@
 use Rattle.std.specs.Prelude.{ℕ, ◌+◌, ◌-◌, ◌*◌, ◌^◌, List, [], ◌∷◌, Bool, true, false, length, ltb, Option, Some, None}
 use Prim.Native.Char.{code}
 use Rattle.byte_class.specs.Class.{between}
-use Rattle.text_runs.specs.Leading.{leading}
+use Rattle.text_pieces.specs.Leading.{leading}
 
 abbrev or_else : Bool → ℕ → ℕ → ℕ
 or_else true n later = n

@@ -2,7 +2,7 @@
 use Rattle.std.proofs.Common.{ℕ, ◌≤◌, ◌<◌, ◌≡◌, arith}
 use Rattle.std.specs.Char.{IsDigitOf, digit_value as std_value}
 use Rattle.std.proofs.lemmas.Grind.{common_steps}
-use Rattle.text_runs.specs.Numbers.{digit_value}
+use Rattle.text_pieces.specs.Numbers.{digit_value}
 
 module _ (b base : ℕ) (h : base ≤ 16) where
   pub digit_is : (d : ℕ) → IsDigitOf b d → d < base → digit_value b ≡ d

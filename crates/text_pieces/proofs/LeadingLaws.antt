@@ -10,7 +10,7 @@ use Rattle.std.proofs.Math.Path.{refl}
 use Rattle.std.proofs.Math.ListN.{length, take}
 use Rattle.std.proofs.lemmas.Bool.{lt-leb}
 use Rattle.record.specs.Bytes.{byte_at, is_text, all}
-use Rattle.text_runs.specs.Leading.{leading, plain}
+use Rattle.text_pieces.specs.Leading.{leading, plain}
 
 module _ (p : ℕ → Bool) where
   pub leading_on : (b : ℕ) (s : List ℕ) → p b ≡ true → leading p (b ∷ s) ≡ b ∷ leading p s

@@ -8,7 +8,7 @@ use Rattle.std.proofs.Math.Seq.{take_all, append_snoc, drop-length}
 use Rattle.std.specs.Fn.{Mut, Called}
 use Rattle.std.specs.Array.{IsFromFnResultFrom}
 use Rattle.input.specs.Input.{word_or_zero}
-use Rattle.register_bytes.specs.RegisterBytes.{words_in, registers_in}
+use Rattle.input.specs.RegisterBytes.{words_in, registers_in}
 
 module _ {F : Type 0} (g : Mut F (ℕ × Unit {0}) ℕ) (f : F) (s : List ℕ) (reads : (i y : ℕ) (q : F) → Called g f (i, tt) y q → (q ≡ f) × (y ≡ word_or_zero s (4 * i))) where
   -- where each call reads the number that its index names, calls from index i on read the numbers in a row

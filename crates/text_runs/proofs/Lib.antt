@@ -1,4 +1,0 @@
-pub mod DigitLaws
-pub mod LeadingLaws
-pub mod NumbersLaws
-pub mod StopLaws

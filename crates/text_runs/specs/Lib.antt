@@ -1,2 +1,0 @@
-pub mod Leading
-pub mod Numbers
