@@ -13,6 +13,11 @@ use record::Location;
 // The record kind.
 const ENTRY: usize = 38;
 
+// The forms: a constant's first byte, and a name's.
+const CONSTANT: u8 = 0;
+
+const LABEL: u8 = 1;
+
 // A name with an offset; where the name stands in its list.
 #[derive(Clone, Copy)]
 pub struct NamedLabel {
@@ -35,12 +40,12 @@ pub fn address_label_ok(list: &[u8], at: usize, end: usize) -> bool
     ensures { result ≡ address_label_ok list.now at end }
 {
     match list[at] {
-        0 => {
+        CONSTANT => {
             end == at + 17
                 && record::word_at(list, at + 9) == 0
                 && record::word_at(list, at + 13) == 0
         }
-        1 => at + 18 <= end && end <= at + 81 && record::all_text(&list[at + 17..end]),
+        LABEL => at + 18 <= end && end <= at + 81 && record::all_text(&list[at + 17..end]),
         _ => false,
     }
 }
@@ -50,7 +55,7 @@ pub fn address_label_at(list: &[u8], at: usize, end: usize) -> AddressLabel
     ensures { result ≡ address_label_at list.now at end }
 {
     let offset = record::long_at(list, at + 1);
-    if list[at] == 0 {
+    if list[at] == CONSTANT {
         return AddressLabel::Constant(offset);
     }
     AddressLabel::Label(NamedLabel {
@@ -115,12 +120,12 @@ pub fn put_label(d: &mut [u8], names: &[u8], at: usize, label: AddressLabel)
 {
     match label {
         AddressLabel::Constant(value) => {
-            d[at] = 0;
+            d[at] = CONSTANT;
             record::put64(d, at + 1, value);
             record::put64(d, at + 9, 0);
         }
         AddressLabel::Label(name) => {
-            d[at] = 1;
+            d[at] = LABEL;
             record::put64(d, at + 1, name.offset);
             record::put_location(d, at + 9, name.location);
             record::put_all(d, at + 17, name_of(names, label));

@@ -11,6 +11,12 @@ use record::Location;
 // The record kind.
 const BREAKPOINT: u16 = 37;
 
+// The region number that means: no region is selected.
+pub const NO_REGION: u16 = 65535;
+
+// The most regions, so that a pending's region is 0 to 15.
+const MOST_REGIONS: usize = 16;
+
 // The pcs of a line's words: `count` of them, four apart.
 #[derive(Clone, Copy)]
 pub struct Pcs {
@@ -47,7 +53,7 @@ pub fn filled(buffer: &[u8], fill: usize) -> Option<usize>
 pub fn check_pending_buffer(buffer: &[u8], fill: usize) -> Option<usize>
     ensures { result ≡ pending_buffer_layout fill buffer.now }
 {
-    filled(buffer, fill).or_else(|| pending::first_bad_pending(&buffer[..fill], 16))
+    filled(buffer, fill).or_else(|| pending::first_bad_pending(&buffer[..fill], MOST_REGIONS))
 }
 
 // Checks the first `fill` bytes as a list of breakpoints, and returns the first bad place.
@@ -61,7 +67,7 @@ pub fn check_breakpoint_buffer(buffer: &[u8], fill: usize) -> Option<usize>
 pub fn region_number_ok(region: u16) -> bool
     ensures { result ≡ region_number_ok region }
 {
-    region <= 15 || region == 65535
+    region <= 15 || region == NO_REGION
 }
 
 // Checks the region's number, then the data's length and fill count. A bad number gives place 0.

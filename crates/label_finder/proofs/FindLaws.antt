@@ -28,6 +28,9 @@ module _ (labels name : List ℕ) where
   pub labels_stop : (r : Refusal) → Err r ≡ layout_verdict 0 (label_layout labels) → Err r ≡ layout_verdicts labels name
   labels_stop r e = ap (λ (v : Verdict). and_then v (layout_verdict 1 (within_limit name None))) e ∙ sym (layouts_are (label_layout labels) (within_limit name None) refl refl)
 
+  pub labels_good : label_layout labels ≡ None → layout_verdicts labels name ≡ layout_verdict 1 (within_limit name None)
+  labels_good e = layouts_are None (within_limit name None) e refl
+
   pub name_long : label_layout labels ≡ None → limit < length name → Err (BadLayout 1 limit) ≡ layout_verdicts labels name
   name_long e h = sym (layouts_are None (Some limit) e (limit_passed name None h))
 

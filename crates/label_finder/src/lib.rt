@@ -12,10 +12,7 @@ fn check_layouts(labels: &[u8], name: &[u8]) -> Result<(), Refusal>
     ensures { result ≡ layout_verdicts labels.now name.now }
 {
     refusal::check_layout(0, labels::first_bad_label(labels))?;
-    if name.len() > record::LIMIT {
-        return Err(Refusal::BadLayout(1, record::LIMIT as u32));
-    }
-    Ok(())
+    refusal::check_layout(1, record::past_limit(name))
 }
 
 // Finds the label that `name` stands for in `source`: returns its address or none, and the count of names compared, or a refusal.

@@ -12,7 +12,7 @@ ghost use Rattle.macros.specs.Macros.{name_at, behind_name, name_ok, name_places
 mod walk;
 
 // The kind of a Parameter token, as a usize: half_at returns a record's kind as one.
-const PARAMETER: usize = lexer::PARAMETER as usize;
+pub const PARAMETER: usize = lexer::PARAMETER as usize;
 
 // "up to 8 different parameters"
 pub const MOST: usize = 8;

@@ -14,6 +14,9 @@ use record::Location;
 // The record kind.
 const PENDING: u16 = 36;
 
+// The most pendings that a list can hold: each has at least 36 bytes.
+pub const MOST: usize = 1820;
+
 // The patch kinds, by their numbers in a record.
 #[derive(Clone, Copy)]
 pub enum InstructionLabelKind {

@@ -1,9 +1,9 @@
 -- Laws of a name's place in the list of names, and of the register there. Assumes nothing.
-use Rattle.std.specs.Prelude.{Option, Some, None, ℕ, zero, suc, ◌+◌, ◌-◌, ◌≤◌, ◌<◌, List, [], ◌∷◌, ◌++◌, Bool, true, false, ◌&&◌, ◌≡◌, refl, length, get_or, drop, leb, ltb, eqb, unwrap_or}
+use Rattle.std.specs.Prelude.{Option, Some, None, MatchOption, ℕ, zero, suc, ◌+◌, ◌-◌, ◌≤◌, ◌<◌, List, [], ◌∷◌, ◌++◌, Bool, true, false, ◌&&◌, ◌≡◌, refl, length, get_or, drop, leb, ltb, eqb, unwrap_or}
 use Rattle.std.proofs.Common.{not-suc-le-zero, add-one, arith, sym, ap, ◌∙◌, drop_of_length-le, drop-cons, leb-true, lt-ltb, le-ltb}
 use Rattle.std.specs.List.{position_or_len, range_with_len}
 use Rattle.std.proofs.Math.Bool.{cond, and-eq-true_iff}
-use borrow.Author.Tests.{eqb-true, eqb-false, ltb-false}
+use borrow.Author.Tests.{eqb-true, eqb-false, ltb-true, ltb-false}
 use Rattle.record.specs.Bytes.{all, same_bytes}
 use Rattle.record.proofs.BytesLaws.{eq_same, same_eq, same_refused}
 use Rattle.byte_class.specs.Class.{class_of, word_byte}
@@ -108,6 +108,18 @@ place_searched name w found e = ap (λ (o : Option ℕ). unwrap_or o 96) e ∙ g
     go : (b : Bool) → ltb p 96 ≡ b → unwrap_or (cond (ltb p 96) (Some p) None) 96 ≡ place_of name names
     go true b = rw b (by_key name w 0 96 (omega (arith, name_count)))
     go false b = rw b (omega (arith, ltb-false p 96 b, by_key name w 0 96 (omega (arith, name_count)), few name names, name_count))
+
+-- the same, by whether the search finds a name
+pub place_cases : (name : List ℕ) → Word name → (found : Option ℕ) → let p = position_or_len (has_key name) (range_with_len 0 96) in
+    found ≡ cond (ltb p 96) (Some p) None → MatchOption found (96 ≤ place_of name names) (λ at. (at ≡ place_of name names) × (at < 96))
+place_cases name w found e = rw e (go (ltb p 96) refl)
+  where
+    p : ℕ
+    p = position_or_len (has_key name) (range_with_len 0 96)
+
+    go : (b : Bool) → ltb p 96 ≡ b → MatchOption (cond (ltb p 96) (Some p) None) (96 ≤ place_of name names) (λ at. (at ≡ place_of name names) × (at < 96))
+    go true b = rw b (by_key name w 0 96 (omega (arith, name_count)), ltb-true p 96 b)
+    go false b = rw b (omega (arith, ltb-false p 96 b, by_key name w 0 96 (omega (arith, name_count))))
 
 -- a longer name is none of them
 longer : (name : List ℕ) (ns : List (List ℕ)) → 4 < length name → all_short ns ≡ true → place_of name ns ≡ length ns

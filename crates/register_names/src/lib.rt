@@ -1,7 +1,7 @@
 // Finds a register by the name that a text has after `$` (registers.rs, `from_string`).
 #![tactic(auto)]
 
-ghost use Rattle.std.specs.Prelude.{◌≡◌, true, [], ◌+◌, ◌*◌, ◌<◌, ◌≤◌, length, get_or};
+ghost use Rattle.std.specs.Prelude.{◌≡◌, true, [], ◌+◌, ◌*◌, ◌<◌, ◌≤◌, MatchOption, length, get_or};
 ghost use Rattle.std.proofs.Props.{props};
 ghost use Rattle.record.specs.Bytes.{all};
 ghost use Rattle.byte_class.specs.Class.{word_byte};
@@ -58,18 +58,16 @@ impl RegisterNames {
         u32::from_le_bytes([table[at], table[at + 1], table[at + 2], table[at + 3]])
     }
 
-    // Returns the name's place in the table, or the number of names if it is not there.
-    fn place_of(&self, name: &[u8]) -> usize
+    // Returns the name's place in the table.
+    fn place_of(&self, name: &[u8]) -> Option<usize>
         requires { all word_byte name.now ≡ true }
-        ensures { result ≡ place_of name.now names }
+        ensures { MatchOption result (96 ≤ place_of name.now names) (λ p. (p ≡ place_of name.now names) × (p < 96)) }
     {
         if WIDTH < name.len() {
-            return COUNT;
+            return None;
         }
         let key = key_of(name);
-        (0..COUNT)
-            .position(move |place| self.key_at(place) == key)
-            .unwrap_or(COUNT)
+        (0..COUNT).position(move |place| self.key_at(place) == key)
     }
 
     // Returns the register with this name, which is letters and digits.
@@ -77,12 +75,11 @@ impl RegisterNames {
         requires { all word_byte name.now ≡ true }
         ensures { result ≡ register_named name.now }
     {
-        let place = self.place_of(name);
+        let place = self.place_of(name)?;
         match place {
             0..=31 => Some(NamedRegister::General(RegisterSlot::from(place as u8))),
             32..=63 => Some(NamedRegister::General(RegisterSlot::from((place - 32) as u8))),
-            64..=95 => Some(NamedRegister::Float(FPRegisterSlot::from((place - 64) as u8))),
-            _ => None,
+            _ => Some(NamedRegister::Float(FPRegisterSlot::from((place - 64) as u8))),
         }
     }
 }

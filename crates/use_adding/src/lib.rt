@@ -28,7 +28,10 @@ use std::cmp::Ordering;
 use std::marker::Model;
 
 // The record kind of a use.
-const USE: u16 = 39;
+pub const USE: u16 = 39;
+
+// The byte that says that a use's name is known; 0 says that it is not.
+pub const KNOWN: u8 = 1;
 
 // The key of a use: a name, and what it stands for.
 #[derive(Drop)]
@@ -222,7 +225,7 @@ fn standing_at(index: &[u8], at: usize) -> Standing
 {
     let owner_at = at + 7 + 2 * record::half_at(index, at + 5);
     let kept = record::word_at(index, owner_at);
-    if index[at + 4] == 1 {
+    if index[at + 4] == KNOWN {
         Standing::Known(kept)
     } else {
         Standing::Unknown(kept)
