@@ -35,13 +35,18 @@ abbrev pub most_data : ℕ
 most_data = 65528
 
 -- "12. The words, pending or breakpoint records lack space, or data would exceed 65,528 bytes (a: 0, 1, 2, the first short)."
+abbrev pub spaces_stop : (token_list : List ℕ) → Location → LineNumbers → Lent → List InstructionPair → Verdict
+spaces_stop token_list line numbers lent pairs =
+    let counts = numbers.counts in
+    let filled = counts.data_len + 4 * length pairs in
+    and_then (space_stop line 0 (leb filled (length lent.region_data) && leb filled most_data))
+    (and_then (space_stop line 1 (leb (counts.pending + length (new_pending token_list line numbers pairs)) (length lent.pending)))
+    (space_stop line 2 (leb (counts.breakpoints + length (new_breakpoint line numbers pairs)) (length lent.breakpoints))))
+
+-- 10, then 11, then 12
 unfoldable pub room_stop : (token_list : List ℕ) → Location → LineNumbers → Lent → List InstructionPair → Verdict
 unfolding edge_stop word_bytes pendings_bytes
 room_stop token_list line numbers lent pairs =
-    let counts = numbers.counts in
-    let filled = counts.data_len + 4 * length pairs in
     and_then (region_stop line numbers.place.region)
-    (and_then (edge_stop line numbers.place.address (length pairs) counts.data_len)
-    (and_then (space_stop line 0 (leb filled (length lent.region_data) && leb filled most_data))
-    (and_then (space_stop line 1 (leb (counts.pending + length (new_pending token_list line numbers pairs)) (length lent.pending)))
-    (space_stop line 2 (leb (counts.breakpoints + length (new_breakpoint line numbers pairs)) (length lent.breakpoints))))))
+    (and_then (edge_stop line numbers.place.address (length pairs) numbers.counts.data_len)
+    (spaces_stop token_list line numbers lent pairs))
