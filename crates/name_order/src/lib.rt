@@ -1,8 +1,8 @@
-// Compares names by their bytes, and owners as numbers.
+// Compares names by their bytes.
 #![tactic(auto)]
 
 ghost use Rattle.std.specs.Prelude.{◌≡◌};
-ghost use Rattle.name_order.specs.Order.{numbers, order};
+ghost use Rattle.name_order.specs.Order.{order};
 ghost use Rattle.name_order.specs.EightBytes.{high_first, Bytes};
 
 use std::cmp::Ordering;
@@ -44,10 +44,4 @@ pub fn compare(a: &[u8], b: &[u8]) -> Ordering
         b = b_rest;
     }
     compare_bytes(a, b)
-}
-
-pub fn compare_numbers(x: u32, y: u32) -> Ordering
-    ensures { result ≡ numbers x y }
-{
-    x.cmp(&y)
 }
