@@ -40,6 +40,7 @@ fn put_region(out: &mut Printed, regions: &Regions<'_>, number: usize)
     put_data(out, region.address, &list[start..end]);
 }
 
+// kept: by number; each turn finds its region again, in a list of at most 16.
 #[tactic(auto, using(crate::proofs::ImageLaws::regions_next, crate::proofs::ImageLaws::regions_end, std::proofs::lemmas::Grind::common_steps))]
 fn put_regions(out: &mut Printed, regions: &Regions<'_>)
     requires { length out.old + length (regions_text 0 (image_of regions.now)) ≤ MOST }

@@ -23,6 +23,7 @@ pub enum Size {
 }
 
 // How an instruction reads its operands and lays its word out.
+// kept: FPMove, FPCrossMove and FPBranch carry a flag as in the Rust, and document 01 has a byte for it in the descriptor.
 #[derive(Clone, Copy, PartialEq, Eq)]
 pub enum Encoding {
     Register,

@@ -2,6 +2,7 @@
 #![tactic(auto)]
 
 ghost use Rattle.std.specs.Prelude.{◌≡◌, ◌++◌, ◌+◌, ◌≤◌, length};
+ghost use Rattle.record.specs.Texts.{bytes_of};
 ghost use Rattle.emit_outcome.specs.Call.{lent_of, outcome_of};
 ghost use Rattle.emit_outcome.specs.Contract.{EmittedBy};
 ghost use Rattle.line_text.specs.Line.{numbers_in, outcome_text, call_in, job_text, job_numbered, job_in, line_text};
@@ -102,6 +103,14 @@ fn job_in(input: &[u8]) -> Option<Job>
     job_numbered(input::byte_or_zero(input::behind_lists(input, 6), 22))
 }
 
+// Writes the text of an input whose job's byte names no job.
+pub fn put_no_job(out: &mut Printed)
+    ensures { out.new ≡ bytes_of "no such job\n" }
+{
+    out.clear();
+    out.push(b"no such job\n");
+}
+
 // Writes the text that `emit_line` prints for an input.
 #[tactic(auto, unfolding(crate::specs::Line::line_text))]
 pub fn emit_line(input: &[u8], out: &mut Printed)
@@ -109,10 +118,7 @@ pub fn emit_line(input: &[u8], out: &mut Printed)
 {
     match job_in(input) {
         Some(job) => put_job(job, input, out),
-        None => {
-            out.clear();
-            out.push(b"no such job\n");
-        }
+        None => put_no_job(out),
     }
 }
 

@@ -129,6 +129,7 @@ impl<'a> Line<'a> {
     }
 
     // Adds the use of the label that a word waits for, if any, as pending number n. Returns the index's new fill count.
+    // kept: a `match`, for the reason at `pair_has`; here the closure would also hold the lent index.
     fn add_pair(
         &self,
         index: &mut [u8],

@@ -15,6 +15,7 @@ pub(crate) fn field(word: u32, offset: u32, width: u32) -> u32
 }
 
 // The numbers of a word's registers.
+// kept: three functions; the manual names three fields, and so do specs/Instructions.antt and the steps that read them.
 pub fn rs(word: u32) -> usize
     ensures { (result ≡ rs word) × (result < 32) }
 {

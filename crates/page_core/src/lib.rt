@@ -38,6 +38,7 @@ fn put_row(out: &mut [u8], at: usize, pc: u32, bytes: &[u8], name: &[u8]) -> usi
 }
 
 // Writes a line for each four bytes, and one for any bytes left over.
+// kept: `slots[i]`; a zip ends with either side, and the proof would also have to show that the slots last as long as the data.
 fn put_data(
     out: &mut [u8],
     at: usize,
@@ -93,6 +94,7 @@ fn put_region(
 }
 
 // Writes all regions in turn.
+// kept: by number; each turn finds its region again, in a list of at most 16.
 fn put_page(
     out: &mut [u8],
     labels: &LabelTable<'_>,
@@ -111,6 +113,7 @@ fn put_page(
 }
 
 // Counts the lines of a page: one for each region and one for each of its words. The four address bytes in a record count as the region's own line.
+// kept: a loop; the closure for `map` reads the list and would need its bounds as a clause, and `sum` asks that each part of it fits.
 fn count_lines(regions: &Regions<'_>) -> usize
     ensures { (result ≡ line_count (image_of regions.now)) × (result < 16384) }
 {

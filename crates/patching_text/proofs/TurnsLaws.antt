@@ -1,5 +1,6 @@
 -- Laws of a script's turns: how long their texts are, and the text of a script from its next turn on. Assumes nothing.
 use Rattle.std.specs.Prelude.{ℕ, zero, suc, ◌+◌, ◌-◌, ◌*◌, ◌≤◌, ◌<◌, ◌≡◌, refl, Bool, true, false, ◌&&◌, List, [], ◌∷◌, ◌++◌, leb, ltb, eqb, length, drop, get_or, Err, Ok}
+use Rattle.std.specs.Result.{is_ok}
 use Rattle.std.proofs.Common.{arith, sym, ap, subst, ◌∙◌, append_assoc, length-append, leb-true, le-leb, ltb-true, ltb-false, lt-ltb, le-ltb, eq-eqb, ne_eqb}
 use Rattle.std.proofs.lemmas.Bool.{lt-leb}
 use Rattle.std.proofs.Math.Bool.{and-eq-true_iff}
@@ -20,7 +21,7 @@ use Rattle.text.specs.Text.{last_field, refused_line}
 use Rattle.text.proofs.TextLaws.{digits_length, last_most, refused_most}
 use Rattle.bytes_line.specs.BytesLine.{bytes_line}
 use Rattle.bytes_line.proofs.BytesLineLaws.{bytes_length}
-use Rattle.line_text.specs.Line.{position_line, fills_line}
+use Rattle.line_text.specs.Line.{position_line, answer_text, fills_line}
 use Rattle.line_text.proofs.LineLaws.{position_most, fills_most}
 use Rattle.patching_text.specs.Script.{step_text, line_text, state_text, fills_of, counts_text, end_text, Given, turn_byte, line_in, turned_by, step_turn, line_turn, turn_of, behind_turn, script_text, most_turns}
 use Rattle.patching_text.specs.Turns.{Turns, goes_on}
@@ -35,6 +36,15 @@ step_most (Err r) = omega (arith, refused_most (numbered r))
 pub line_most : (a : EmitAnswer) → length (line_text a) ≤ 144
 line_most (Ok done) = omega (arith, position_most done.position)
 line_most (Err refused) = omega (arith, length-append (refused_line (numbered refused.refusal)) (position_line refused.position), refused_most (numbered refused.refusal), position_most refused.position)
+
+-- a line's text by the text of an emit call's answer
+pub accepted_is : (a : EmitAnswer) → is_ok a ≡ true → line_text a ≡ bytes_of "accepted\n" ++ answer_text a
+accepted_is (Ok done) e = refl
+accepted_is (Err refused) e = let z : ◌≡◌ {A = ℕ} 0 1 = cc in absurd (omega arith)
+
+pub refused_is : (a : EmitAnswer) → is_ok a ≡ false → line_text a ≡ answer_text a
+refused_is (Ok done) e = let z : ◌≡◌ {A = ℕ} 0 1 = cc in absurd (omega arith)
+refused_is (Err refused) e = refl
 
 pub state_most : (state : ℕ) → length (state_text state) ≤ 14
 state_most state = go (eqb state 0) (eqb state 1)

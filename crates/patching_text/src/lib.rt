@@ -17,6 +17,11 @@ mod lines;
 // The most turns of a script that are made; a longer script ends here.
 const MOST_TURNS: usize = 4096;
 
+// The bytes that begin a turn; any other byte ends the script.
+const STEP: u8 = 0;
+
+const LINE: u8 = 1;
+
 // Four bytes for each pending that a list may have.
 const KEPT: usize = 7_280;
 
@@ -36,7 +41,7 @@ fn behind_turn(script: &[u8]) -> &[u8]
     ensures { result.now ≡ behind_turn script.now }
 {
     let rest = &script[1..];
-    if script[0] == 0 {
+    if script[0] == STEP {
         return rest;
     }
     let numbers = input::behind_lists(rest, 2);
@@ -71,7 +76,7 @@ fn do_step(
     stepped.counts
 }
 
-// Adds a line, prints its answer and returns the caller's record after it. `line` is the script after the byte 1.
+// Adds a line, prints its answer and returns the caller's record after it. `line` is the script after the byte LINE.
 #[tactic(auto, using(crate::proofs::TurnsLaws::line_most))]
 fn do_line(
     out: &mut Printed,
@@ -119,7 +124,7 @@ fn do_turn(
         (patching_of regions.old pending.old breakpoints.old kept.old counts) script.now)
         out.old out.new (patching_of regions.new pending.new breakpoints.new kept.new result) }
 {
-    if script[0] == 0 {
+    if script[0] == STEP {
         return do_step(out, setup, counts, regions, &*pending, kept);
     }
     do_line(
@@ -156,7 +161,7 @@ fn put_turns(
         let Some(&turn) = rest.first() else {
             break;
         };
-        if turn > 1 {
+        if turn > LINE {
             break;
         }
         counts = do_turn(
@@ -230,10 +235,7 @@ pub fn patch_steps(input: &[u8], out: &mut Printed)
     let numbers = input::behind_lists(input, 6);
     match line_text::job_numbered(input::byte_or_zero(numbers, 12)) {
         Some(job) => put_job(job, input, out),
-        None => {
-            out.clear();
-            out.push(b"no such job\n");
-        }
+        None => line_text::put_no_job(out),
     }
 }
 

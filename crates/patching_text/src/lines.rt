@@ -27,20 +27,16 @@ pub(crate) fn put_step(out: &mut Printed, answer: StepAnswer)
     }
 }
 
+// Prints a line's answer, with `accepted` before it unless the line is refused.
+#[tactic(auto, using(crate::proofs::TurnsLaws::accepted_is, crate::proofs::TurnsLaws::refused_is, std::proofs::lemmas::Grind::common_steps))]
 pub(crate) fn put_line(out: &mut Printed, answer: EmitAnswer)
     requires { length out.old + length (line_text answer) ≤ MOST }
     ensures { out.new ≡ out.old ++ line_text answer }
 {
-    match answer {
-        Ok(done) => {
-            out.push(b"accepted\n");
-            out.push_number_line(b"position", done.position as u64);
-        }
-        Err(refused) => {
-            out.push_refusal(refusal::numbers(refused.refusal));
-            out.push_number_line(b"position", refused.position as u64);
-        }
+    if answer.is_ok() {
+        out.push(b"accepted\n");
     }
+    line_text::lines::put_answer(out, answer);
 }
 
 fn put_state(out: &mut Printed, state: u32)

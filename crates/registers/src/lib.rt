@@ -87,6 +87,7 @@ pub trait Slot: Copy {
         ensures below { result < 32 };
 }
 
+// kept: an impl and a table for each enum; Rattle refuses `as u32` of a type parameter, and `From` for every `Slot`.
 impl Slot for RegisterSlot {
     ghost number = { register_number };
 

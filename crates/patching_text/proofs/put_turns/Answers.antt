@@ -24,14 +24,14 @@ no_turn s r e f = no_byte s (sym (ap (λ (o : Option (Bor ℕ)). option_copied o
 pub loop-preserved : goal.loop-preserved
 loop-preserved c =
     rw c.behind_turn-rest.ensures
-    (here_then c.loop.invariant (omega arith) (omega (arith, turn_is c.loop.rest.now c.first.result c.in-Some.field-0 c.first.ensures.value c.in-Some.is, c.if-turn-gt1.false)) _ _ c.do_turn-counts.ensures)
+    (here_then c.loop.invariant (omega arith) (omega (arith, turn_is c.loop.rest.now c.first.result c.in-Some.field-0 c.first.ensures.value c.in-Some.is, c.if-turn-gt-LINE.false)) _ _ c.do_turn-counts.ensures)
 
 pub returns-after-loop-clause-text : goal.returns-after-loop-clause-text
 returns-after-loop-clause-text c = here_full c.loop.invariant (omega arith)
 
-pub returns-then-turn-gt1-clause-text : goal.returns-then-turn-gt1-clause-text
-returns-then-turn-gt1-clause-text c =
-    here_over c.loop.invariant (omega (arith, turn_is c.loop.rest.now c.first.result c.in-Some.field-0 c.first.ensures.value c.in-Some.is, c.if-turn-gt1.true))
+pub returns-then-turn-gt-LINE-clause-text : goal.returns-then-turn-gt-LINE-clause-text
+returns-then-turn-gt-LINE-clause-text c =
+    here_over c.loop.invariant (omega (arith, turn_is c.loop.rest.now c.first.result c.in-Some.field-0 c.first.ensures.value c.in-Some.is, c.if-turn-gt-LINE.true))
 
 pub returns-in_default-clause-text : goal.returns-in_default-clause-text
 returns-in_default-clause-text c =
