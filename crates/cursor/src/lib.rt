@@ -23,6 +23,7 @@ pub fn start(list: &[u8], position: usize) -> Cursor
     requires { token_layout list.now ≡ None }
     ensures { (result ≡ cursor_at list.now (start_index (tokens list.now) position)) × Placed list.now result }
 {
+    // kept: `nth` on the records' places gives nothing past the end, where the answer is the count of all tokens
     let mut at = 0;
     for index in 0..position {
         if at >= list.len() {

@@ -153,10 +153,7 @@ fn check_room(
     }
     check_edge(numbers, line, n)?;
     let filled = counts.data_len as usize + 4 * n;
-    if filled > data.len() {
-        return Err(Refusal::NoSpace(line, 0));
-    }
-    if filled > emit_outcome::MOST_DATA {
+    if filled > data.len() || filled > emit_outcome::MOST_DATA {
         return Err(Refusal::NoSpace(line, 0));
     }
     if counts.pending as usize + size > pending.len() {
@@ -182,6 +179,7 @@ pub fn check_line(
         (lent_of «data».now pending.now breakpoints.now) (made_line read)) read result }
 {
     let line = read.line;
+    // kept: with `map_err` the match on `Unmade` would go into one more function, which needs a definition of its own for its contract
     match read.answer {
         Err(Unmade::Missed(miss)) => Err(miss_refusal(line, miss)),
         Err(Unmade::OutOfRange(fault)) => Err(fault_refusal(line, fault)),

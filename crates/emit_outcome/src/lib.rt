@@ -6,7 +6,7 @@ use pseudo_names::Pseudo;
 use refusal::Refusal;
 
 // The region number that means: no region is selected.
-pub const NO_REGION: u16 = 65535;
+pub const NO_REGION: u16 = breakpoints::NO_REGION;
 
 // The most bytes that a region's data can have.
 pub const MOST_DATA: usize = 65528;

@@ -20,12 +20,6 @@ use names::Named;
 use std::marker::Model;
 use use_adding::{Key, LabelIndex, Pendings};
 
-// The most pendings that a list can have: each takes at least 36 bytes.
-const MOST_PENDINGS: usize = 1820;
-
-// The kind of an index record.
-const USE: usize = 39;
-
 // What the check finds: where the index breaks its layout, and where a label repeats another's name.
 #[derive(Clone, Copy)]
 pub struct UsesChecked {
@@ -46,8 +40,8 @@ fn record_ok(index: &[u8], at: usize) -> bool
     }
     let count = record::half_at(index, at + 5);
     let end = record::next(index, at);
-    record::half_at(index, at + 2) == USE
-        && index[at + 4] <= 1
+    record::half_at(index, at + 2) == usize::from(use_adding::USE)
+        && index[at + 4] <= use_adding::KNOWN
         && end <= fill
         && count > 0
         && at + 11 + 2 * count <= end
@@ -78,11 +72,7 @@ fn source_of(pending: &[u8], at: usize, name: &[u8]) -> Option<u32>
     match label {
         AddressLabel::Constant(_) => None,
         AddressLabel::Label(l) => {
-            if record::same(address_label::name_of(pending, label), name) {
-                Some(l.location.source)
-            } else {
-                None
-            }
+            record::same(address_label::name_of(pending, label), name).then_some(l.location.source)
         }
     }
 }
@@ -195,11 +185,7 @@ impl<'a> Lists<'a> {
         if let Some(place) = breakpoints::filled(index, fill) {
             return Some(place);
         }
-        if self.is_index(&index[..fill]) {
-            None
-        } else {
-            Some(0)
-        }
+        (!self.is_index(&index[..fill])).then_some(0)
     }
 }
 
@@ -211,7 +197,7 @@ pub fn check_uses(index: &[u8], fill: usize, pending: &Pendings<'_>, labels: &[u
 {
     let mut order = [0u16; labels::MOST];
     let mut spare = [0u16; labels::MOST];
-    let mut places = [0u16; MOST_PENDINGS];
+    let mut places = [0u16; pending::MOST];
     let pending = pending.bytes();
     let n = name_index::fill(&Named::<0>::new(pending), &mut places);
     let lists = Lists {

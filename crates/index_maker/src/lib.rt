@@ -16,10 +16,7 @@ fn check_layouts(pending: &[u8], fill: usize, labels: &[u8], index: &[u8]) -> Re
 {
     refusal::check_layout(0, breakpoints::check_pending_buffer(pending, fill))?;
     refusal::check_layout(1, labels::first_bad_label(labels))?;
-    if index.len() > record::LIMIT {
-        return Err(Refusal::BadLayout(2, 65536));
-    }
-    Ok(())
+    refusal::check_layout(2, record::past_limit(index))
 }
 
 // Refusal 17, with a location of zeros.

@@ -17,14 +17,12 @@ ghost use Rattle.macro_tokens.specs.Places.{token_record, TokenIn, only, place_o
 ghost use Rattle.macro_tokens.specs.Arguments.{with_token, arguments_from, Takes};
 ghost use Rattle.macro_tokens.specs.Meant.{ActIs};
 
-use macros::{Macros, Names};
+use macros::{Macros, Names, PARAMETER};
 use record::Location;
 use written_out::Mode;
 
 // The kinds of tokens, as usize: half_at returns a record's kind as one.
 const COMMENT: usize = lexer::COMMENT as usize;
-
-const PARAMETER: usize = lexer::PARAMETER as usize;
 
 const SYMBOL: usize = lexer::SYMBOL as usize;
 

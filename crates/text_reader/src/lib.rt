@@ -73,10 +73,10 @@ pub fn read_text(text: &[u8], source: u32, tokens: &mut [u8]) -> Result<u32, Ref
     ensures { read_text text.now source tokens.old ≡ (record { answer = result; tokens = tokens.new }) }
 {
     if text.len() > record::LIMIT {
-        return Err(Refusal::BadLayout(0, 65536));
+        return Err(Refusal::BadLayout(0, record::LIMIT as u32));
     }
     if tokens.len() > record::LIMIT {
-        return Err(Refusal::BadLayout(1, 65536));
+        return Err(Refusal::BadLayout(1, record::LIMIT as u32));
     }
     pass(text, source, &mut *tokens, false)?;
     pass(text, source, tokens, true)

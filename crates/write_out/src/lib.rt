@@ -210,7 +210,7 @@ fn check(tokens: &[u8], macros: &[u8], room: usize) -> Result<(), Refusal>
     refusal::check_layout(0, lexer::first_bad_token(tokens))?;
     refusal::check_layout(1, macros::first_bad_macro(macros))?;
     if room > record::LIMIT {
-        return Err(Refusal::BadLayout(2, 65536));
+        return Err(Refusal::BadLayout(2, record::LIMIT as u32));
     }
     refusal::check_names(1, macro_lookup::first_repeat(&Macros { bytes: macros }))
 }

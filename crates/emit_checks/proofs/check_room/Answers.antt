@@ -8,7 +8,7 @@ use Rattle.emit_pairs.specs.Pairs.{pairs_of}
 use Rattle.emit_bytes.specs.Appended.{pendings_len}
 use Rattle.emit_checks.proofs.RoomLaws.{room_are}
 use Rattle.emit_checks.proofs.check_room.Goals as goal
-use Rattle.emit_checks.proofs.check_room.Goals.{After-size-size}
+use Rattle.emit_checks.proofs.check_room.Goals.{After-size-size, then-filled-data-via-then-filled-data, then-filled-data-via-else-filled-data+then-filled-gt-MOST_DATA}
 
 -- the number of words is the line's
 words : (c : After-size-size) → c.count_of-n.result ≡ length (pairs_of c.args.e)
@@ -25,13 +25,14 @@ returns-then-numbers-eq-NO_REGION c =
 
 pub returns-then-filled-data : goal.returns-then-filled-data
 returns-then-filled-data c =
-    sym (room_are _ _ _ _ _ (words (goal.at.returns-then-filled-data c).After-size-size) (waits (goal.at.returns-then-filled-data c).After-size-size)
-    (ne_eqb _ _ c.if-numbers-eq-NO_REGION.false) (sym c.in_ok-check_edge.ensures) (lt-leb _ _ c.if-filled-data.true) refl refl refl)
-
-pub returns-then-filled-gt-MOST_DATA : goal.returns-then-filled-gt-MOST_DATA
-returns-then-filled-gt-MOST_DATA c =
-    sym (room_are _ _ _ _ _ (words (goal.at.returns-then-filled-gt-MOST_DATA c).After-size-size) (waits (goal.at.returns-then-filled-gt-MOST_DATA c).After-size-size)
-    (ne_eqb _ _ c.if-numbers-eq-NO_REGION.false) (sym c.in_ok-check_edge.ensures) (le-leb _ _ c.if-filled-data.false) (lt-leb _ _ c.if-filled-gt-MOST_DATA.true) refl refl)
+    let p = (goal.at.returns-then-filled-data c).After-size-size in
+    elim c.then-filled-data.branch [
+      | then-filled-data-via-then-filled-data w ↦
+          sym (room_are _ _ _ _ _ (words p) (waits p) (ne_eqb _ _ c.if-numbers-eq-NO_REGION.false) (sym c.in_ok-check_edge.ensures) (lt-leb _ _ w.if-filled-data.true) refl refl refl)
+      | then-filled-data-via-else-filled-data+then-filled-gt-MOST_DATA w ↦
+          sym (room_are _ _ _ _ _ (words p) (waits p) (ne_eqb _ _ c.if-numbers-eq-NO_REGION.false) (sym c.in_ok-check_edge.ensures) (le-leb _ _ w.if-filled-data.false)
+          (lt-leb _ _ w.if-filled-gt-MOST_DATA.true) refl refl)
+    ]
 
 pub returns-then-counts-size : goal.returns-then-counts-size
 returns-then-counts-size c =

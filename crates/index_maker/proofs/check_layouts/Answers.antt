@@ -2,7 +2,7 @@ use Rattle.std.specs.Prelude.{◌≡◌, ℕ, List, Err, None}
 use Rattle.std.proofs.Common.{refl, sym, ap, ap₂, ◌∙◌, arith}
 use Rattle.std.proofs.lemmas.Result.{err_from_is_err_and}
 use Rattle.record.specs.Records.{within_limit}
-use Rattle.record.proofs.RecordsLaws.{limit_kept, limit_passed}
+use Rattle.record.proofs.RecordsLaws.{limit_bad}
 use Rattle.refusal.specs.Verdicts.{and_then, layout_verdict, Verdict}
 use Rattle.labels.proofs.LabelsLaws.{label_place_lem}
 use Rattle.breakpoints.specs.Breakpoints.{pending_buffer_layout}
@@ -41,14 +41,13 @@ returns-in_err-check_layout-2 c =
     ∙ sym (by_each a.fill a.pending.now a.labels.now a.index.now _ _ _ (ap (layout_verdict 0) (sym c.check_pending_buffer.ensures) ∙ sym c.in_ok-check_layout.ensures)
     (ap (layout_verdict 1) (sym c.first_bad_label.ensures) ∙ sym c.in_err-check_layout-2.ensures) refl)
 
-pub returns-then-index-gt-LIMIT : goal.returns-then-index-gt-LIMIT
-returns-then-index-gt-LIMIT c =
-    let a = c.args in
-    sym (by_each a.fill a.pending.now a.labels.now a.index.now _ _ _ (ap (layout_verdict 0) (sym c.check_pending_buffer.ensures) ∙ sym c.in_ok-check_layout.ensures)
-    (ap (layout_verdict 1) (sym c.first_bad_label.ensures) ∙ sym c.in_ok-check_layout-2.ensures) (ap (layout_verdict 2) (limit_passed _ _ c.if-index-gt-LIMIT.true)))
+pub check_layout-requires-3 : goal.check_layout-requires-3
+check_layout-requires-3 c p e =
+    omega (arith, limit_bad c.args.index.now None p (sym c.past_limit.ensures ∙ e) (λ none. let z : ◌≡◌ {A = ℕ} 0 1 = cc in absurd (omega arith)))
 
 pub returns : goal.returns
 returns c =
     let a = c.args in
-    sym (by_each a.fill a.pending.now a.labels.now a.index.now _ _ _ (ap (layout_verdict 0) (sym c.check_pending_buffer.ensures) ∙ sym c.in_ok-check_layout.ensures)
-    (ap (layout_verdict 1) (sym c.first_bad_label.ensures) ∙ sym c.in_ok-check_layout-2.ensures) (ap (layout_verdict 2) (limit_kept _ _ c.if-index-gt-LIMIT.false)))
+    c.check_layout-3.ensures
+    ∙ sym (by_each a.fill a.pending.now a.labels.now a.index.now _ _ _ (ap (layout_verdict 0) (sym c.check_pending_buffer.ensures) ∙ sym c.in_ok-check_layout.ensures)
+    (ap (layout_verdict 1) (sym c.first_bad_label.ensures) ∙ sym c.in_ok-check_layout-2.ensures) (ap (layout_verdict 2) (sym c.past_limit.ensures)))

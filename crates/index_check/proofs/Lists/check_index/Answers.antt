@@ -1,5 +1,6 @@
-use Rattle.std.specs.Prelude.{None}
-use Rattle.std.proofs.Common.{◌≤◌, length, sym, ◌∙◌, arith, length-take-le}
+use Rattle.std.specs.Bool.{then_some}
+use Rattle.std.specs.Prelude.{ℕ, Bool, true, false, not, None, Some, ◌≡◌}
+use Rattle.std.proofs.Common.{◌≤◌, length, refl, sym, ◌∙◌, arith, length-take-le}
 use Rattle.record.specs.Records.{limit}
 use Rattle.breakpoints.proofs.BreakpointsLaws.{filled_good, filled_bad}
 use Rattle.label_uses.specs.UseBytes.{index_layout}
@@ -23,14 +24,13 @@ is_index-requires c =
     let k = kept (goal.at.is_index-requires c).In_default in
     omega (arith, k.0, k.1, length-take-le c.args.fill c.args.index.now k.1)
 
-pub returns-then-is_index : goal.returns-then-is_index
-returns-then-is_index c =
-    let v = c.args.self.now in
-    let k = kept (goal.at.returns-then-is_index c).In_default in
-    sym (layout_by v.labels v.pending c.args.fill c.args.index.now k.0 k.1 (sym c.if-is_index.ensures))
+-- a place where the bytes are no index
+unless : (b : Bool) → then_some {T = ℕ} (not b) 0 ≡ elim b [ true ↦ None | false ↦ Some 0 ]
+unless true = refl
+unless false = refl
 
-pub returns-else-is_index : goal.returns-else-is_index
-returns-else-is_index c =
+pub returns : goal.returns
+returns c =
     let v = c.args.self.now in
-    let k = kept (goal.at.returns-else-is_index c).In_default in
-    sym (layout_by v.labels v.pending c.args.fill c.args.index.now k.0 k.1 (sym c.if-is_index.ensures))
+    let k = kept (goal.at.returns c).In_default in
+    c.then_some.ensures ∙ unless c.is_index.result ∙ sym (layout_by v.labels v.pending c.args.fill c.args.index.now k.0 k.1 (sym c.is_index.ensures))
