@@ -59,9 +59,9 @@ fn repeat_in(macros: &Macros<'_>, index: &[u16]) -> Option<usize>
 {
     let (&first, others) = index.split_first()?;
     let mut best: Option<usize> = None;
-    let mut low = record::widened(first);
+    let mut low = usize::from(first);
     for &other in others {
-        let p = record::widened(other);
+        let p = usize::from(other);
         if !same_name(
             macros::body_at(macros.bytes, p),
             macros::body_at(macros.bytes, low),

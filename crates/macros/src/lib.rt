@@ -22,7 +22,7 @@ pub fn behind_name(list: &[u8], at: usize) -> usize
     requires { at < length list.now }
     ensures { (result ≡ behind_name list.now at) × (at < result) × (result ≤ at + 256) }
 {
-    at + 1 + record::wide(list[at])
+    at + 1 + usize::from(list[at])
 }
 
 // Whether `at` holds the length byte of a name of 1 to 64 text bytes, and the name follows whole.
@@ -33,7 +33,7 @@ fn name_ok(list: &[u8], at: usize) -> bool
     if list.len() <= at {
         return false;
     }
-    let n = record::wide(list[at]);
+    let n = usize::from(list[at]);
     1 <= n && n <= 64 && at + 1 + n <= list.len() && record::all_text(&list[at + 1..at + 1 + n])
 }
 
@@ -133,7 +133,7 @@ fn macro_ok(list: &[u8]) -> bool
     if list.len() <= at {
         return false;
     }
-    let count = record::wide(list[at]);
+    let count = usize::from(list[at]);
     if count > MOST || !names_ok(list, count, at + 1) {
         return false;
     }
@@ -202,7 +202,7 @@ pub fn head_of(list: &[u8]) -> Head
     ensures { (result ≡ head_of list.now) × (result.body ≤ length list.now) }
 {
     let at = behind_name(list, 0);
-    let count = record::wide(list[at]);
+    let count = usize::from(list[at]);
     let names = Names {
         list,
         count,

@@ -12,7 +12,7 @@ use Rattle.macro_lookup.specs.Lookup.{own_name, Scanned}
 use Rattle.macro_lookup.proofs.LookupLaws.{macro_is, name_ok_lem}
 use Rattle.macro_lookup.proofs.RepeatLaws.{scan_start, low_listed, low_ok, here_ok, scan_other, scan_lower, scan_higher, scan_found, scan_none, none_listed}
 use Rattle.macro_lookup.proofs.repeat_in.Goals as goal
-use Rattle.macro_lookup.proofs.repeat_in.Goals.{After-widened-p, After-same_name, then-not-same_name, else-not-same_name+then-p-low, else-not-same_name+else-p-low}
+use Rattle.macro_lookup.proofs.repeat_in.Goals.{After-from-p, After-same_name, then-not-same_name, else-not-same_name+then-p-low, else-not-same_name+else-p-low}
 
 pub returns-in_err-first : goal.returns-in_err-first
 returns-in_err-first c =
@@ -24,14 +24,14 @@ loop-other-init c =
     let s = c.args.macros.now.bytes.now in
     let l = c.args.index.now in
     let f = c.in_ok-first.ensures.cases in
-    let low : c.widened-low.result ≡ get_or l 0 0 = c.widened-low.ensures ∙ sym (ap (λ (x : List ℕ). get_or x 0 0) f.0) in
+    let low : c.from-low.result ≡ get_or l 0 0 = c.from-low.ensures ∙ sym (ap (λ (x : List ℕ). get_or x 0 0) f.0) in
     record { scanned = subst (λ (p : ℕ). Scanned s l 1 p (length s)) (sym low) (scan_start s l c.args.macros.now.good c.requires (omega (arith, f.1))); within = tt }
 
 -- where the walk stands in the index
-there : (c : After-widened-p) → let i = c.loop-other.other-index + 1 in (i < length c.args.index.now) × (c.widened-p.result ≡ get_or c.args.index.now i 0)
+there : (c : After-from-p) → let i = c.loop-other.other-index + 1 in (i < length c.args.index.now) × (c.from-p.result ≡ get_or c.args.index.now i 0)
 there c =
     let f = c.in_ok-first.ensures.cases in
-    (omega (arith, f.1, c.loop-other-test.true), c.widened-p.ensures ∙ behind c.args.index.now _ c.in_ok-first.others.now c.loop-other.other-index f.0)
+    (omega (arith, f.1, c.loop-other-test.true), c.from-p.ensures ∙ behind c.args.index.now _ c.in_ok-first.others.now c.loop-other.other-index f.0)
   where
     behind : (l : List ℕ) (x : ℕ) (xs : List ℕ) (j : ℕ) → l ≡ x ∷ xs → get_or xs j 0 ≡ get_or l (j + 1) 0
     behind l x xs j e = rw (e, add-one j)
@@ -42,31 +42,31 @@ least_so None n p h = omega arith
 least_so (Some q) n p h = refl
 
 -- the two macros that are compared
-ok_here : (c : After-widened-p) → macro_at_ok c.args.macros.now.bytes.now c.widened-p.result ≡ true
+ok_here : (c : After-from-p) → macro_at_ok c.args.macros.now.bytes.now c.from-p.result ≡ true
 ok_here c =
     let l = c.loop-other in
     subst (λ (p : ℕ). macro_at_ok c.args.macros.now.bytes.now p ≡ true) (sym (there c).1) (here_ok c.args.macros.now.bytes.now c.args.index.now c.args.macros.now.good c.requires (l.other-index + 1) l.low _ l.invariant.scanned (there c).0)
 
-ok_low : (c : After-widened-p) → macro_at_ok c.args.macros.now.bytes.now c.loop-other.low ≡ true
+ok_low : (c : After-from-p) → macro_at_ok c.args.macros.now.bytes.now c.loop-other.low ≡ true
 ok_low c =
     let l = c.loop-other in
     low_ok c.args.macros.now.bytes.now c.args.index.now c.args.macros.now.good c.requires (l.other-index + 1) l.low _ l.invariant.scanned
 
 pub body_at-requires : goal.body_at-requires
-body_at-requires c = (macro_is _ _ (ok_here (goal.at.body_at-requires c).After-widened-p)).whole_at
+body_at-requires c = (macro_is _ _ (ok_here (goal.at.body_at-requires c).After-from-p)).whole_at
 
 pub body_at-requires-in-loop-other : goal.body_at-requires-in-loop-other
-body_at-requires-in-loop-other c = (macro_is _ _ (ok_low (goal.at.body_at-requires-in-loop-other c).After-widened-p)).whole_at
+body_at-requires-in-loop-other c = (macro_is _ _ (ok_low (goal.at.body_at-requires-in-loop-other c).After-from-p)).whole_at
 
 pub same_name-requires : goal.same_name-requires
 same_name-requires c =
-    let w = (goal.at.same_name-requires c).After-widened-p in
+    let w = (goal.at.same_name-requires c).After-from-p in
     let s = c.args.macros.now.bytes.now in
     let ok : (p : ℕ) (b : List ℕ) → macro_at_ok s p ≡ true → b ≡ body_at s p → name_ok b 0 ≡ true = λ p b h e. ap (λ (x : List ℕ). name_ok x 0) e ∙ name_ok_lem s p (macro_is s p h) in
-    (ok c.widened-p.result _ (ok_here w) c.body_at.ensures, ok c.loop-other.low _ (ok_low w) c.body_at-in-loop-other.ensures)
+    (ok c.from-p.result _ (ok_here w) c.body_at.ensures, ok c.loop-other.low _ (ok_low w) c.body_at-in-loop-other.ensures)
 
 -- what the test says
-tested : (c : After-same_name) → c.widened-p.result ≡ get_or c.args.index.now (c.loop-other.other-index + 1) 0
+tested : (c : After-same_name) → c.from-p.result ≡ get_or c.args.index.now (c.loop-other.other-index + 1) 0
     → c.same_name.result ≡ same_bytes (own_name c.args.macros.now.bytes.now (get_or c.args.index.now (c.loop-other.other-index + 1) 0)) (own_name c.args.macros.now.bytes.now c.loop-other.low)
 tested c e =
     c.same_name.ensures
@@ -80,7 +80,7 @@ loop-other-preserved c =
     let s = c.args.macros.now.bytes.now in
     let index = c.args.index.now in
     let g = goal.at.loop-other-preserved c in
-    let p = there g.After-widened-p in
+    let p = there g.After-from-p in
     let test = tested g.After-same_name p.1 in
     let scan = l.invariant.scanned in
     elim c.if-not-same_name.branch [

@@ -23,13 +23,13 @@ invariant_of-names c =
     let b = c.args.list.now in
     let p = parts_of b c.requires in
     let n = c.behind_name-at.ensures.0 in
-    record { ok = ap₂ (λ (m i : ℕ). all_ok b m (i + 1)) (c.wide-count.ensures.0 ∙ ap (byte_at b) n) n ∙ p.names_ok }
+    record { ok = ap₂ (λ (m i : ℕ). all_ok b m (i + 1)) (c.from-count.ensures ∙ ap (byte_at b) n) n ∙ p.names_ok }
 
 pub returns : goal.returns
 returns c =
     let b = c.args.list.now in
     let n = c.behind_name-at.ensures.0 in
-    let k = c.wide-count.ensures.0 ∙ ap (byte_at b) n in
+    let k = c.from-count.ensures ∙ ap (byte_at b) n in
     let e : c.behind-body.result ≡ behind_names (count_of b) b (behind_name b 0 + 1) =
     c.behind-body.ensures.0 ∙ ap₂ (λ (m i : ℕ). behind_names m b (i + 1)) k n in
     (cc, c.behind-body.ensures.1)

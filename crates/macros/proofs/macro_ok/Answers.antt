@@ -29,7 +29,7 @@ pub returns-then-count-gt-MOST : goal.returns-then-count-gt-MOST
 returns-then-count-gt-MOST c =
     let b = c.args.list.now in
     let n = c.behind_name-at.ensures.0 in
-    let k = c.wide-count.ensures.0 ∙ ap (byte_at b) n in
+    let k = c.from-count.ensures ∙ ap (byte_at b) n in
     let h₁ = sym c.if-not-name_ok.ensures in
     let h₂ : behind_name b 0 < length b = omega (arith, n) in
     elim c.then-count-gt-MOST.branch [
@@ -42,7 +42,7 @@ pub returns-then-not-differ : goal.returns-then-not-differ
 returns-then-not-differ c =
     let b = c.args.list.now in
     let n = c.behind_name-at.ensures.0 in
-    let k = c.wide-count.ensures.0 ∙ ap (byte_at b) n in
+    let k = c.from-count.ensures ∙ ap (byte_at b) n in
     let h₄ = sym (c.if-not-names_ok.ensures ∙ ap₂ (λ (m i : ℕ). all_ok b m (i + 1)) k n) in
     let h₅ = sym (c.if-not-differ.ensures ∙ ap₂ (λ (m i : ℕ). differ_from b m (i + 1)) k n) in
     sym (same_names b (sym c.if-not-name_ok.ensures) (omega (arith, n)) (omega (arith, k)) h₄ h₅)
@@ -51,7 +51,7 @@ pub returns-then-is_none : goal.returns-then-is_none
 returns-then-is_none c =
     let b = c.args.list.now in
     let n = c.behind_name-at.ensures.0 in
-    let k = c.wide-count.ensures.0 ∙ ap (byte_at b) n in
+    let k = c.from-count.ensures ∙ ap (byte_at b) n in
     let h₄ = sym (c.if-not-names_ok.ensures ∙ ap₂ (λ (m i : ℕ). all_ok b m (i + 1)) k n) in
     let h₅ = sym (c.if-not-differ.ensures ∙ ap₂ (λ (m i : ℕ). differ_from b m (i + 1)) k n) in
     let x = tokens_part b c.behind-end.result _ _ c.behind-end.ensures.0 k n in
@@ -64,7 +64,7 @@ pub returns-else-is_none : goal.returns-else-is_none
 returns-else-is_none c =
     let b = c.args.list.now in
     let n = c.behind_name-at.ensures.0 in
-    let k = c.wide-count.ensures.0 ∙ ap (byte_at b) n in
+    let k = c.from-count.ensures ∙ ap (byte_at b) n in
     let h₄ = sym (c.if-not-names_ok.ensures ∙ ap₂ (λ (m i : ℕ). all_ok b m (i + 1)) k n) in
     let h₅ = sym (c.if-not-differ.ensures ∙ ap₂ (λ (m i : ℕ). differ_from b m (i + 1)) k n) in
     let x = tokens_part b c.behind-end.result _ _ c.behind-end.ensures.0 k n in
