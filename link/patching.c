@@ -1,5 +1,5 @@
 /* Patches by steps through the library nazgwern, with lines between the steps: the scripts of
-   crates/patch_steps_cases/stdin, from standard input, each after its length (vectors/make_patching
+   the stored cases of patch_steps, from standard input, each after its length (vectors/make_patching
    says what a script is). Of each it prints what every call answers, and what is left at the end.
 
    A console does the same: it keeps the region list, the pendings, the breakpoints, the kept words

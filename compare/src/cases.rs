@@ -1,5 +1,5 @@
-//! The stored cases of the programs that run cases (vectors), answered anew: what a program has to
-//! print is held to the judge's answer, printed here.
+//! The stored cases of crates/cases (vectors/stored), answered anew: what has to be printed for a
+//! case is held to the judge's answer, printed here.
 
 use crate::answer::{hex, Answer};
 use crate::build_input::{BuildInput, BuildOutcome};
@@ -14,57 +14,91 @@ use std::fs::read;
 /// The jobs that `emit_line` knows, by their bytes.
 const JOBS: [Job; 3] = [Job::Commit, Job::Manual, Job::Release6];
 
-/// Compares all stored cases, from the repository's root; false where one differs.
+/// A stored case: the byte of its program, the program's input and what is to be printed.
+struct Stored {
+    program: u8,
+    input: Vec<u8>,
+    shown: String,
+}
+
+/// Compares the stored cases of four programs, from the repository's root; false where one differs.
 pub fn run() -> bool {
+    let stored = match stored() {
+        Ok(stored) => stored,
+        Err(fault) => {
+            println!("crates/cases: {fault}");
+            return false;
+        }
+    };
     let line = |case: &[u8]| line_text(case);
     let build = |case: &[u8]| build_text(Job::Commit, case);
     let manual = |case: &[u8]| build_text(Job::Manual, case);
 
-    // All are looked at, whatever the first says.
+    // All are looked at, whatever the first says. The bytes are those of crates/cases/src/main.rt.
     [
-        agreed("emit_line_cases", &line),
-        agreed("finish_cases", &build),
-        agreed("finish_manual_cases", &manual),
-        agreed("patch_steps_cases", &script_text),
+        agreed("emit_line", 0, &stored, &line),
+        agreed("finish", 1, &stored, &build),
+        agreed("finish_manual", 2, &stored, &manual),
+        agreed("patch_steps", 9, &stored, &script_text),
     ]
     .iter()
     .all(|agreed| *agreed)
 }
 
-/// Whether what a crate's program has to print is what `printed` gives for each case in turn.
-fn agreed(name: &str, printed: &dyn Fn(&[u8]) -> String) -> bool {
-    let [stdin, stdout] = ["stdin", "stdout"]
-        .map(|file| read(format!("crates/{name}/{file}")).map_err(|fault| fault.to_string()));
-    let (stdin, stdout) = match (stdin, stdout) {
-        (Ok(stdin), Ok(stdout)) => (stdin, stdout),
-        (Err(fault), _) | (_, Err(fault)) => {
-            println!("{name}: {fault}");
-            return false;
-        }
-    };
-    let mut rest = &stdin[..];
-    let mut shown = String::new();
+/// Whether what is to be printed for each case of a program is what `printed` gives for it.
+fn agreed(name: &str, program: u8, stored: &[Stored], printed: &dyn Fn(&[u8]) -> String) -> bool {
     let mut count = 0;
 
-    while !rest.is_empty() {
-        let case = taken_list(&mut rest);
-        let text = format!("case {count}\n{}", printed(&case));
+    for (number, case) in stored.iter().enumerate() {
+        if case.program != program {
+            continue;
+        }
+        let text = printed(&case.input);
 
-        if !stdout[shown.len().min(stdout.len())..].starts_with(text.as_bytes()) {
-            println!("{name}: case {count} differs; the judge has\n{text}");
+        if case.shown != text {
+            println!("{name}: case {number} differs; the judge has\n{text}");
             return false;
         }
-        shown += &text;
         count += 1;
-    }
-
-    if shown.len() < stdout.len() {
-        println!("{name}: more is stored than the {count} cases print");
-        return false;
     }
     println!("{name}: {count} cases, 0 differ");
 
-    true
+    count > 0
+}
+
+/// The cases of the stored files. What is to be printed for one ends where the next one's number
+/// stands in a line.
+fn stored() -> Result<Vec<Stored>, String> {
+    let [stdin, stdout] = ["stdin", "stdout"].map(|file| read(format!("crates/cases/{file}")));
+    let stdin = stdin.map_err(|fault| fault.to_string())?;
+    let stdout = stdout.map_err(|fault| fault.to_string())?;
+    let stdout = String::from_utf8(stdout).map_err(|fault| fault.to_string())?;
+    let mut rest = &stdin[..];
+    let mut shown = &stdout[..];
+    let mut cases = vec![];
+
+    while !rest.is_empty() {
+        let number = cases.len();
+        let case = taken_list(&mut rest);
+        let Some((program, input)) = case.split_first() else {
+            return Err(format!("case {number} is empty"));
+        };
+        // what follows begins with a newline, as it does where the next number follows
+        let Some(lines) = shown.strip_prefix(&format!("case {number}")) else {
+            return Err(format!("nothing is printed for case {number}"));
+        };
+        let end = lines.find(&format!("\ncase {}\n", number + 1));
+        let (text, behind) = lines.split_at(end.unwrap_or(lines.len() - 1) + 1);
+
+        cases.push(Stored {
+            program: *program,
+            input: input.to_vec(),
+            shown: text[1..].to_string(),
+        });
+        shown = behind;
+    }
+
+    Ok(cases)
 }
 
 /// The list that stands next, after its 4-byte count. "A missing count is 0, and a list cut short

@@ -1,4 +1,4 @@
-// What `find_label_cases` prints for a lookup (document 02, P13), from the bytes it reads to the text it prints.
+// What is printed for a lookup (document 02, P13), from an input's bytes to the text. Its stored cases are in crates/cases.
 #![tactic(auto)]
 
 ghost use Rattle.std.specs.Prelude.{◌≡◌, ◌++◌, ◌+◌, ◌≤◌, length};

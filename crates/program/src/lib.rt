@@ -21,25 +21,31 @@ pub fn run<P: Program>(program: &P) {
     put(program, &input[..count], &mut Printed::new());
 }
 
-// Prints, for each case of standard input, the case's number and then the program's text. A case is an input after its 4-byte count.
+// Reads one case of standard input after the other, and prints for each its number and then the program's text. A case is an input after
+// its 4-byte count, so only one case has to fit into `input::MOST` bytes, and not all of them.
 pub fn run_cases<P: Program>(program: &P) {
-    let mut input = [0u8; input::MOST];
-    let count = io::read_full(input::STDIN, &mut input);
-    put_cases(program, &input[..count]);
+    let mut space = [0u8; input::MOST];
+    let mut out = Printed::new();
+    for number in 0..u64::MAX {
+        let Some(case) = next_case(&mut space) else {
+            break;
+        };
+        put_head(number);
+        put(program, case, &mut out);
+    }
 }
 
-// Prints each case. A case takes at least four bytes, so there are never more cases than bytes.
-fn put_cases<P: Program>(program: &P, input: &[u8]) {
-    let mut out = Printed::new();
-    let mut rest = input;
-    for number in 0..input.len() {
-        if rest.len() < 4 {
-            break;
-        }
-        put_head(number as u64);
-        put(program, input::list_of(rest, 0), &mut out);
-        rest = input::behind_lists(rest, 1);
+// Reads the next case into `space`, and returns its bytes. There is none where a byte of its count is missing, and none with a count that
+// is more than `space` holds. A case that is cut off is the bytes that are there.
+fn next_case(space: &mut [u8]) -> Option<&[u8]> {
+    let mut head = [0u8; 4];
+    let known = io::read_full(input::STDIN, &mut head);
+    let size = u32::from_le_bytes(head) as usize;
+    if known < 4 || size > space.len() {
+        return None;
     }
+    let count = io::read_full(input::STDIN, &mut space[..size]);
+    Some(&space[..count])
 }
 
 fn put<P: Program>(program: &P, input: &[u8], out: &mut Printed) {

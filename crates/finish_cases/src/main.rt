@@ -1,8 +1,0 @@
-// What `finish` prints for each case of standard input (vectors/make_finish). A case is an input after its 4-byte count.
-#![tactic(auto)]
-
-use image_text::FinishText;
-
-fn main() {
-    program::run_cases(&FinishText);
-}
