@@ -28,7 +28,7 @@ texts =
     ∷ find_text
     ∷ []
 
--- a byte that names no program has an empty text, which no program prints
+-- a byte that names no program has an empty text
 abbrev pub no_text : List ℕ → List ℕ
 no_text s = []
 
