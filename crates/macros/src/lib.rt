@@ -2,7 +2,7 @@
 #![tactic(auto)]
 
 ghost use Rattle.std.proofs.Props.{props};
-ghost use Rattle.std.specs.Prelude.{◌≡◌, true, None, map, ◌+◌, ◌≤◌, ◌<◌, length};
+ghost use Rattle.std.specs.Prelude.{◌≡◌, true, None, MatchOption, map, ◌+◌, ◌≤◌, ◌<◌, length};
 ghost use Rattle.record.specs.Bytes.{all};
 ghost use Rattle.record.specs.Records.{whole};
 ghost use Rattle.lexer.specs.Tokens.{TokenIs, token_layout};
@@ -62,16 +62,18 @@ pub struct Names<'a> {
 }
 
 impl<'a> Names<'a> {
-    // Returns the name's index among these, or `count` if it is none of them.
-    pub fn index_of(&self, name: &[u8]) -> usize
-        ensures { result ≡ index_of name.now (map (name_at self.now.list.now) (name_places self.now.count self.now.list.now self.now.at)) }
+    // Returns the name's index among these, or None if it is none of them.
+    pub fn index_of(&self, name: &[u8]) -> Option<usize>
+        ensures { MatchOption result
+            (self.now.count ≤ index_of name.now (map (name_at self.now.list.now) (name_places self.now.count self.now.list.now self.now.at)))
+            (λ i. (i ≡ index_of name.now (map (name_at self.now.list.now) (name_places self.now.count self.now.list.now self.now.at))) × (i < self.now.count)) }
     {
         for (i, (each, _)) in (*self).enumerate() {
             if record::same(each, name) {
-                return i;
+                return Some(i);
             }
         }
-        self.count
+        None
     }
 
     // Returns the place after the last name.
@@ -91,7 +93,7 @@ impl<'a> Names<'a> {
         ensures { result ≡ different (map (name_at self.now.list.now) (name_places self.now.count self.now.list.now self.now.at)) }
     {
         for (name, rest) in *self {
-            if rest.index_of(name) < rest.count {
+            if rest.index_of(name).is_some() {
                 return false;
             }
         }
@@ -104,7 +106,9 @@ impl<'a> Names<'a> {
         ensures { result ≡ knows (map (name_at self.now.list.now) (name_places self.now.count self.now.list.now self.now.at)) (record_at body.now at) }
     {
         record::half_at(body, at + 2) != PARAMETER
-            || self.index_of(&body[at + 12..record::next(body, at)]) < self.count
+            || self
+                .index_of(&body[at + 12..record::next(body, at)])
+                .is_some()
     }
 
     // Whether each Parameter in `body` is one of these.

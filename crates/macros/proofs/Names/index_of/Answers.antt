@@ -8,7 +8,7 @@ returns-then-same c =
     let i = c.loop-i.invariant in
     let h = c.in-Some.ensures.steps in
     let z = index_first c.args.self.now.list.now c.loop-i.i-iterator.iter _ c.next.new.self.iter i.list h.0.1 c.args.name.now (sym c.if-same.ensures) in
-    omega (arith, i.left, z, h.1)
+    (omega (arith, i.left, z, h.1), omega (arith, i.few, h.0.1.more, h.1))
 
 pub loop-i-preserved : goal.loop-i-preserved
 loop-i-preserved c =
