@@ -1,5 +1,6 @@
 -- Laws of a walk over the macro list. Assumes nothing.
-use Rattle.std.specs.Prelude.{ℕ, ◌+◌, ◌-◌, ◌≤◌, ◌<◌, min, List, [], ◌∷◌, Bool, true, false, ◌&&◌, ◌≡◌, refl, length, take, leb, ltb, eqb, None}
+use Rattle.std.specs.Prelude.{ℕ, ◌+◌, ◌-◌, ◌≤◌, ◌<◌, min, List, [], ◌∷◌, Bool, true, false, ◌&&◌, ◌≡◌, refl, length, take, leb, ltb, eqb, None, Some, Option, IfSome, MatchOption}
+use Rattle.std.specs.Option.{unwrap_or}
 use Rattle.std.proofs.Common.{arith, sym, ap, subst, ◌∙◌, length-take, length-drop, length-take-le, get_or-take, leb-true, leb-false, le-leb, ltb-true, ltb-false}
 use Rattle.std.proofs.lemmas.Bool.{false≢true}
 use Rattle.std.proofs.Math.Bool.{and-eq-true_iff}
@@ -115,6 +116,7 @@ met_first s name limit left g e = record { at = 0; walked = walked_first s name 
 -- a turn that takes p
 pub record MetTurn (s name : List ℕ) (limit p : ℕ) (left : List ℕ) (k : ℕ) : Type 0 where
   pub stands : MacroIs s p
+  pub before : p < limit
   pub named : same_bytes (macro_at s p).name name ≡ true → Met s name limit left p
   pub other : same_bytes (macro_at s p).name name ≡ false → Met s name limit left k
 
@@ -134,6 +136,7 @@ met_turn s name limit p k ps left h m e = go (ltb m.at limit) refl
         subst (λ (x : ℕ). MetTurn s name limit x ps k) (sym a)
         (record {
           stands = here s name limit m.at k m.walked l h;
+          before = l;
           named = λ t. record { at = next s m.at; walked = walked_here s name limit m.at k m.walked l h t; left_is = q };
           other = λ t. record { at = next s m.at; walked = walked_next s name limit m.at k m.walked l h t; left_is = q };
         })
@@ -147,6 +150,12 @@ met_last s name limit k left h m e = go (ltb m.at limit) refl
         let y : ◌≡◌ {A = ℕ} 0 1 = cc in
         absurd (omega arith)
     go false f = walked_last s name limit m.at k m.walked (ltb-false m.at limit f)
+
+-- and what it found, if it met a macro with the name
+pub met_found : (s name : List ℕ) (limit : ℕ) (k : Option ℕ) → CalleeIs s name limit (unwrap_or k limit) → IfSome k (λ p. p < limit)
+    → MatchOption k (CalleeIs s name limit limit) (λ p. CalleeIs s name limit p × (p < limit))
+met_found s name end None c b = c
+met_found s name end (Some p) c b = (c, b)
 
 -- the name of the macro whose body is that part
 pub name_of : (s : List ℕ) (at e : ℕ) → e ≡ next s at → name_at (part s (at + 4) (e - (at + 4))) 0 ≡ (macro_at s at).name

@@ -1,7 +1,7 @@
 // Finds the macro that a name calls among the macros above a place in the macro list, and the first macro that repeats a name.
 #![tactic(auto)]
 
-ghost use Rattle.std.specs.Prelude.{◌≡◌, true, ◌≤◌, length};
+ghost use Rattle.std.specs.Prelude.{◌≡◌, true, MatchOption, ◌≤◌, ◌<◌, length};
 ghost use Rattle.record.specs.Bytes.{same_bytes};
 ghost use Rattle.record.specs.Records.{places};
 ghost use Rattle.name_index.specs.Index.{IndexOf};
@@ -27,16 +27,16 @@ fn is_named(list: &[u8], name: &[u8]) -> bool
     record::same(&list[1..end], name)
 }
 
-// Returns the place of the last macro before `limit` that has the name, or `limit`.
-pub fn callee(macros: &Macros<'_>, limit: usize, name: &[u8]) -> usize
+// Returns the place of the last macro before `limit` that has the name.
+pub fn callee(macros: &Macros<'_>, limit: usize, name: &[u8]) -> Option<usize>
     requires { limit ≤ length macros.now.bytes.now }
-    ensures { CalleeIs macros.now.bytes.now name.now limit result }
+    ensures { MatchOption result (CalleeIs macros.now.bytes.now name.now limit limit) (λ k. CalleeIs macros.now.bytes.now name.now limit k × (k < limit)) }
 {
     let macros = macros.bytes;
-    let mut found = limit;
+    let mut found: Option<usize> = None;
     for at in record::places(&macros[..limit]) {
         if is_named(macros::body_at(macros, at), name) {
-            found = at;
+            found = Some(at);
         }
     }
     found
@@ -77,13 +77,15 @@ fn repeat_in(macros: &Macros<'_>, index: &[u16]) -> Option<usize>
     best
 }
 
-// The same, with an index made in the first array; the other is scratch.
-fn repeat_by(macros: &Macros<'_>, index: &mut [u16], spare: &mut [u16]) -> Option<usize>
-    requires { (length (places macros.now.bytes.now) ≤ length index.old) × (length (places macros.now.bytes.now) ≤ length spare.old) }
+// The same for a list of at most `N` macros.
+fn repeat_by<const N: usize>(macros: &Macros<'_>) -> Option<usize>
+    requires { (N ≤ 65536) × (length (places macros.now.bytes.now) ≤ N) }
     ensures { result ≡ macro_repeat macros.now.bytes.now }
 {
+    let mut index = [0u16; N];
+    let mut spare = [0u16; N];
     let list: Named<'_, 0> = Named::new(macros.bytes);
-    let index = NameIndex::make(list, index, spare);
+    let index = NameIndex::make(list, &mut index, &mut spare);
     repeat_in(macros, index.order())
 }
 
@@ -92,11 +94,8 @@ pub fn first_repeat(macros: &Macros<'_>) -> Option<usize>
     ensures { result ≡ macro_repeat macros.now.bytes.now }
 {
     if macros.bytes.len() <= 7 * FEW {
-        let mut index = [0u16; FEW];
-        let mut spare = [0u16; FEW];
-        return repeat_by(macros, &mut index, &mut spare);
+        repeat_by::<FEW>(macros)
+    } else {
+        repeat_by::<MOST>(macros)
     }
-    let mut index = [0u16; MOST];
-    let mut spare = [0u16; MOST];
-    repeat_by(macros, &mut index, &mut spare)
 }

@@ -2,7 +2,7 @@
 #![tactic(auto)]
 
 ghost use Rattle.std.proofs.Props.{props};
-ghost use Rattle.std.specs.Prelude.{◌≡◌, None, ◌+◌, ◌*◌, ◌≤◌, length};
+ghost use Rattle.std.specs.Prelude.{◌≡◌, None, MatchOption, ◌+◌, ◌*◌, ◌≤◌, ◌<◌, length};
 ghost use Rattle.std.specs.Iterator.{YieldsFirst, item_count};
 ghost use Rattle.record.specs.Bytes.{location_at};
 ghost use Rattle.record.specs.Records.{kind_at, next, places_from, first_bad, limit};
@@ -145,9 +145,10 @@ pub fn token_at<'a>(source: &Source<'a>, place: usize) -> Token<'a>
     }
 }
 
-// Returns the macro before the limit that the token's text names, or the limit.
-fn callee_of(callable: &Callable<'_>, token: Token<'_>) -> usize
-    ensures { CalleeIs callable.now.source.macros.now (text_of token.entry.bytes.now 0) callable.now.limit result }
+// Returns the macro before the limit that the token's text names.
+fn callee_of(callable: &Callable<'_>, token: Token<'_>) -> Option<usize>
+    ensures { MatchOption result (CalleeIs callable.now.source.macros.now (text_of token.entry.bytes.now 0) callable.now.limit callable.now.limit)
+        (λ k. CalleeIs callable.now.source.macros.now (text_of token.entry.bytes.now 0) callable.now.limit k × (k < callable.now.limit)) }
 {
     let macros = Macros {
         bytes: callable.source.macros,
@@ -170,11 +171,9 @@ fn argument_at(reading: &Reading<'_>, at: usize) -> usize
         at: reading.body.names,
     };
     let next = record::next(reading.list, at);
-    let i = names.index_of(&reading.list[at + 12..next]);
-    if i < reading.body.count {
-        reading.body.args[i]
-    } else {
-        reading.body.base + at
+    match names.index_of(&reading.list[at + 12..next]) {
+        Some(i) => reading.body.args[i],
+        None => reading.body.base + at,
     }
 }
 
@@ -278,14 +277,10 @@ fn act_leading(
     match kind {
         NEW_LINE | COMMENT => Act::Write(Mode::Leading),
         SYMBOL if colon_at(&callable.source, reading, next) => Act::Write(Mode::Labelled),
-        SYMBOL => {
-            let k = callee_of(callable, token_at(&callable.source, place));
-            if k < callable.limit {
-                Act::Call(k)
-            } else {
-                Act::Write(Mode::Copied)
-            }
-        }
+        SYMBOL => callee_of(callable, token_at(&callable.source, place)).map_or(
+            Act::Write(Mode::Copied),
+            Act::Call,
+        ),
         _ => Act::Write(Mode::Copied),
     }
 }
