@@ -66,11 +66,22 @@ module _ (tokens macros : List ℕ) (room : ℕ) where
       by_room : (l : Option ℕ) → room_layout room ≡ l → stop_by tokens macros room ≡ and_then (layout_verdict 2 l) names
       by_room l e = by_macros None good' ∙ ap (λ (x : Option ℕ). and_then (layout_verdict 2 x) names) e
 
+      pub third_stops : (r : Refusal) → layout_verdict 2 (room_layout room) ≡ Err r → stop_by tokens macros room ≡ Err r
+      third_stops r e = by_macros None good' ∙ ap (λ (x : Verdict). and_then x names) e
+
+      pub names_left : room_layout room ≡ None → (r : Option ℕ) → macro_repeat macros ≡ r → stop_by tokens macros room ≡ name_verdict 1 r
+      names_left n r e = by_room None n ∙ ap (name_verdict 1) e
+
       pub stop_room : limit < room → stop_by tokens macros room ≡ Err (BadLayout 2 limit)
       stop_room h = by_room (Some limit) (rw (lt-leb room limit h, room_layout))
 
       pub stop_name : room ≤ limit → (r : Option ℕ) → macro_repeat macros ≡ r → stop_by tokens macros room ≡ name_verdict 1 r
       stop_name h r e = by_room None (rw (le-leb room limit h, room_layout)) ∙ ap (name_verdict 1) e
+
+-- the limit of a buffer is that of its length
+pub room_is : (out : List ℕ) → within_limit out None ≡ room_layout (length out)
+unfolding within_limit
+room_is out = refl
 
 -- two buffers that are both over the limit are stopped alike
 pub long_same : (tokens macros : List ℕ) (a b : ℕ) → limit < a → limit < b → stop_by tokens macros a ≡ stop_by tokens macros b

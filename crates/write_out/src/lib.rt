@@ -203,15 +203,13 @@ fn write_all(source: &Source<'_>, really: bool, out: &mut [u8]) -> Result<usize,
     write_body(&frame, really, out, 0)
 }
 
-// Checks for refusals 1 and 2; the buffer has `room` bytes.
-fn check(tokens: &[u8], macros: &[u8], room: usize) -> Result<(), Refusal>
-    ensures { result ≡ stop_by tokens.now macros.now room }
+// Checks for refusals 1 and 2.
+fn check(tokens: &[u8], macros: &[u8], out: &[u8]) -> Result<(), Refusal>
+    ensures { result ≡ stop_by tokens.now macros.now (length out.now) }
 {
     refusal::check_layout(0, lexer::first_bad_token(tokens))?;
     refusal::check_layout(1, macros::first_bad_macro(macros))?;
-    if room > record::LIMIT {
-        return Err(Refusal::BadLayout(2, record::LIMIT as u32));
-    }
+    refusal::check_layout(2, record::past_limit(out))?;
     refusal::check_names(1, macro_lookup::first_repeat(&Macros { bytes: macros }))
 }
 
@@ -219,7 +217,7 @@ fn check(tokens: &[u8], macros: &[u8], room: usize) -> Result<(), Refusal>
 pub fn write_out(tokens: &[u8], macros: &[u8], out: &mut [u8]) -> Result<u32, Refusal>
     ensures { write_out_outcome tokens.now macros.now out.old ≡ (record { answer = result; out = out.new }) }
 {
-    check(tokens, macros, out.len())?;
+    check(tokens, macros, &*out)?;
     let source = Source {
         text: tokens,
         macros,
