@@ -42,9 +42,8 @@ pub fn do_abs_instruction(job: Job, operands: Operands) -> EmitInstruction
     let temp = RegisterSlot::AssemblerTemporary;
     let xor_fields = RegisterFields { dest, source, temp };
     let sub_fields = RegisterFields {
-        dest,
         source: dest,
-        temp,
+        ..xor_fields
     };
     let shift = emit_words::abs_first_word(job, source);
     let xor = emit_words::register_word(Opcode::Func(38), xor_fields);
@@ -67,9 +66,9 @@ fn compare_word(how: Comparison, fields: RegisterFields) -> u32
     let op = set_opcode(how.unsigned);
     if how.greater_than {
         let exchanged = RegisterFields {
-            dest: fields.dest,
             source: fields.temp,
             temp: fields.source,
+            ..fields
         };
         emit_words::register_word(op, exchanged)
     } else {
