@@ -1,13 +1,18 @@
 -- Laws of what a line appends: one word or one record more, and the lengths. Assumes nothing.
 use Prim.Native.Nat.{ℕ, zero, suc, ◌+◌, ◌*◌, ◌≤◌, ◌<◌}
-use Rattle.std.proofs.Common.{not-suc-le-zero, add-one, arith, ◌∙◌, length-append, length-take-le, drop, drop-cons, drop_of_length-le}
+use Rattle.std.proofs.Common.{not-suc-le-zero, add-one, arith, ap₂, ◌∙◌, length-append, length-take, length-drop, length-take-le, drop, drop-cons, drop_of_length-le}
 use Rattle.std.specs.Prelude.{◌≡◌, refl, length, take, get_or, None, Option, Some}
+use Rattle.std.specs.List.{fold, sum_by}
 use Rattle.std.proofs.Math.Path.{sym, ap}
 use mathlib.Core.List.{List, [], ◌∷◌, ◌++◌, map, append_assoc, append-nil}
 use Rattle.record.specs.Stores.{le32_bytes}
+use Rattle.address_label.specs.LabelBytes.{name_bytes}
+use Rattle.address_label.specs.declared.AddressLabel.{AddressLabel}
+use Rattle.address_label.specs.declared.AddressLabel.TheVariants.{Constant, Label}
 use Rattle.pending.proofs.PendingBytesLaws.{pending_length}
 use Rattle.pending.specs.declared.Origin.{Origin}
 use Rattle.emit_pairs.specs.declared.InstructionPair.{InstructionPair}
+use Rattle.emit_pairs.specs.Pairs.{plain}
 use Rattle.emit_bytes.specs.Appended.{word_bytes, onward, pair_bytes, pendings_bytes, pair_len, pendings_len}
 use Rattle.pending.specs.declared.InstructionLabel.{InstructionLabel}
 
@@ -43,6 +48,15 @@ words_suc (p ∷ ps) (suc i) h = ap (λ (r : List ℕ). le32_bytes p.word ++ r) 
 pub words_next : (ps : List InstructionPair) (i : ℕ) → i < length ps
     → word_bytes (take (i + 1) ps) ≡ word_bytes (take i ps) ++ get_or (map word_of ps) i []
 words_next ps i h = rw add-one (words_suc ps i h)
+
+-- a list that has each pair's word at its place
+pub words_are : (ps : List InstructionPair) (words : List (List ℕ)) → length words ≡ length ps
+    → ((i : ℕ) → i < length ps → get_or words i [] ≡ word_of (get_or ps i (plain 0))) → words ≡ map word_of ps
+words_are [] [] l each = refl
+words_are [] (w ∷ ws) l each = absurd (omega arith)
+words_are (p ∷ ps) [] l each = absurd (omega arith)
+words_are (p ∷ ps) (w ∷ ws) l each =
+    ap₂ (λ (x : List ℕ) (xs : List (List ℕ)). x ∷ xs) (each 0 (omega arith)) (words_are ps ws (omega arith) (λ i h. each (suc i) (omega arith)))
 
 -- ---- pending records
 
@@ -103,6 +117,29 @@ module _ (tokens : List ℕ) (d : InstructionPair) (w : Option InstructionLabel)
   pub sizes_next : (ps : List InstructionPair) (i : ℕ) → i < length ps → (get_or ps i d).label ≡ w
       → pendings_len tokens (take (i + 1) ps) ≡ pendings_len tokens (take i ps) + pair_len tokens w
   sizes_next ps i h g = rw add-one (sizes_suc ps i h g)
+
+-- the records take the sum of their sizes
+sizes_fold : (tokens : List ℕ) (ps : List InstructionPair) (size : ℕ) → fold (λ (n : ℕ) (p : InstructionPair). n + pair_len tokens p.label) size ps ≡ size + pendings_len tokens ps
+unfolding pendings_len
+sizes_fold tokens [] size = omega arith
+sizes_fold tokens (p ∷ ps) size = omega (arith, sizes_fold tokens ps (size + pair_len tokens p.label))
+
+pub sizes_sum : (tokens : List ℕ) (ps : List InstructionPair) → sum_by (λ (p : InstructionPair). pair_len tokens p.label) ps ≡ pendings_len tokens ps
+sizes_sum tokens ps = omega (arith, sizes_fold tokens ps 0)
+
+-- each of them is at most 36 bytes longer than the token list
+name_most : (names : List ℕ) (label : AddressLabel) → length (name_bytes names label) ≤ length names
+name_most names (Constant value) = omega arith
+name_most names (Label name) = simp (length-take, length-drop) (omega arith)
+
+pair_most : (tokens : List ℕ) (waits : Option InstructionLabel) → pair_len tokens waits ≤ 36 + length tokens
+pair_most tokens None = omega arith
+pair_most tokens (Some waits) = omega (arith, name_most tokens waits.label)
+
+pub sizes_most : (tokens : List ℕ) (ps : List InstructionPair) → length tokens ≤ 65536 → pendings_len tokens ps ≤ 65572 * length ps
+unfolding pendings_len
+sizes_most tokens [] h = omega arith
+sizes_most tokens (p ∷ ps) h = omega (arith, pair_most tokens p.label, sizes_most tokens ps h)
 
 -- the first pairs' records take no more room than those of more pairs
 pub sizes_within : (tokens : List ℕ) (ps : List InstructionPair) (m n : ℕ) → m ≤ n → pendings_len tokens (take m ps) ≤ pendings_len tokens (take n ps)

@@ -14,13 +14,11 @@ use pending::{InstructionLabel, Origin};
 pub fn words_of(instructions: [InstructionPair; 5]) -> [[u8; 4]; 5]
     ensures { result ≡ map (λ (p : InstructionPair). le32_bytes p.word) instructions }
 {
-    [
-        instructions[0].word.to_le_bytes(),
-        instructions[1].word.to_le_bytes(),
-        instructions[2].word.to_le_bytes(),
-        instructions[3].word.to_le_bytes(),
-        instructions[4].word.to_le_bytes(),
-    ]
+    instructions.map(
+        |pair|
+            ensures { result ≡ le32_bytes pair.word }
+        { pair.word.to_le_bytes() },
+    )
 }
 
 // "the count is a second function's answer"
@@ -47,9 +45,8 @@ fn onward(origin: Origin) -> Origin
     ensures { result ≡ onward origin }
 {
     Origin {
-        region: origin.region,
         offset: origin.offset + 4,
-        location: origin.location,
+        ..origin
     }
 }
 
@@ -84,11 +81,11 @@ impl<'a> LinePendings<'a> {
     pub fn size(self) -> usize
         ensures { (result ≡ pendings_len self.entry.tokens.now (pairs_of self.entry.words)) × (result ≤ 327860) }
     {
-        let mut size = 0;
-        for pair in self.words.pairs() {
-            size += self.pair_size(pair.label);
-        }
-        size
+        self.words
+            .pairs()
+            .iter()
+            .map(|pair| self.pair_size(pair.label))
+            .sum()
     }
 
     // Writes the record of one word, if it waits for a label. Returns the place after it.
