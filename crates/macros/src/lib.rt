@@ -68,12 +68,8 @@ impl<'a> Names<'a> {
             (self.now.count ≤ index_of name.now (map (name_at self.now.list.now) (name_places self.now.count self.now.list.now self.now.at)))
             (λ i. (i ≡ index_of name.now (map (name_at self.now.list.now) (name_places self.now.count self.now.list.now self.now.at))) × (i < self.now.count)) }
     {
-        for (i, (each, _)) in (*self).enumerate() {
-            if record::same(each, name) {
-                return Some(i);
-            }
-        }
-        None
+        let mut names = *self;
+        names.position(|(each, _)| record::same(each, name))
     }
 
     // Returns the place after the last name.

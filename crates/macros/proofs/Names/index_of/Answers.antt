@@ -1,30 +1,21 @@
-use Rattle.std.proofs.Common.{sym, arith}
-use Rattle.macros.proofs.NamesLaws.{index_end}
-use Rattle.macros.proofs.WalkLaws.{list_on, index_first, index_behind}
+use Rattle.std.specs.Prelude.{Some, None, cond}
+use Rattle.std.proofs.Common.{◌<◌, ◌^◌, inl, ℕ, List, length, arith, ltb, ap₂, ◌∙◌, rules, tests}
+use Rattle.std.proofs.lemmas.Iterator.Search.{position_from_yields_List}
+use Rattle.record.specs.Bytes.{same_bytes}
+use Rattle.macros.proofs.NamesLaws.{found_below, index_place, names_length, names_few}
+use Rattle.macros.proofs.WalkLaws.{names_of, gives_names}
 use Rattle.macros.proofs.Names.index_of.Goals as goal
-
-pub returns-then-same : goal.returns-then-same
-returns-then-same c =
-    let i = c.loop-i.invariant in
-    let h = c.in-Some.ensures.steps in
-    let z = index_first c.args.self.now.list.now c.loop-i.i-iterator.iter _ c.next.new.self.iter i.list h.0.1 c.args.name.now (sym c.if-same.ensures) in
-    (omega (arith, i.left, z, h.1), omega (arith, i.few, h.0.1.more, h.1))
-
-pub loop-i-preserved : goal.loop-i-preserved
-loop-i-preserved c =
-    let b = c.args.self.now.list.now in
-    let i = c.loop-i.invariant in
-    let s = c.loop-i.i-iterator.iter in
-    let h = c.in-Some.ensures.steps in
-    let z = index_behind b s _ c.next.new.self.iter i.list h.0.1 c.args.name.now (sym c.if-same.ensures) in
-    record {
-      list = list_on b s _ c.next.new.self.iter i.list h.0.1;
-      few = omega (arith, i.few, h.0.1.more, h.2);
-      left = omega (arith, i.left, z, h.2);
-    }
 
 pub returns : goal.returns
 returns c =
-    let i = c.loop-i.invariant in
-    let n = c.in-None.ensures.steps.0.0 in
-    omega (arith, i.left, i.few, n, index_end c.args.self.now.list.now c.args.name.now c.loop-i.i-iterator.iter.count c.loop-i.i-iterator.iter.at n)
+    let s = c.args.self.now in
+    let name = c.args.name.now in
+    let first = position_from_yields_List (λ (m : List ℕ). same_bytes m name) _ _ c.position.result c.position.ensures.ran (gives_names s) (λ x b q k. search (rules, tests)) in
+    found_below c.position.result _ _
+    (first ∙ ap₂ (λ (i n : ℕ). cond (ltb i n) (Some i) None) (index_place name (names_of s)) (names_length s.list.now s.count s.at))
+
+pub position-requires-clause-fits : goal.position-requires-clause-fits
+position-requires-clause-fits c =
+    let s = c.args.self.now in
+    let long : length s.list.now < 2 ^ 64 = search rules in
+    inl (omega (arith, long, names_few s.list.now s.count s.at s.ok))
