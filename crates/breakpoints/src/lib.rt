@@ -14,9 +14,6 @@ const BREAKPOINT: u16 = 37;
 // The region number that means: no region is selected.
 pub const NO_REGION: u16 = 65535;
 
-// The most regions, so that a pending's region is 0 to 15.
-const MOST_REGIONS: usize = 16;
-
 // The pcs of a line's words: `count` of them, four apart.
 #[derive(Clone, Copy)]
 pub struct Pcs {
@@ -49,11 +46,11 @@ pub fn filled(buffer: &[u8], fill: usize) -> Option<usize>
     record::past_limit(buffer).or_else(|| (fill > buffer.len()).then_some(buffer.len()))
 }
 
-// Checks the first `fill` bytes as a list of pendings, and returns the first bad place.
+// Checks the first `fill` bytes as a list of pendings, and returns the first bad place. A pending's region is 0 to 15.
 pub fn check_pending_buffer(buffer: &[u8], fill: usize) -> Option<usize>
     ensures { result ≡ pending_buffer_layout fill buffer.now }
 {
-    filled(buffer, fill).or_else(|| pending::first_bad_pending(&buffer[..fill], MOST_REGIONS))
+    filled(buffer, fill).or_else(|| pending::first_bad_pending(&buffer[..fill], regions::MOST))
 }
 
 // Checks the first `fill` bytes as a list of breakpoints, and returns the first bad place.

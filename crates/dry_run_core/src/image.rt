@@ -13,7 +13,7 @@ use std::marker::Model;
 #[derive(Drop)]
 pub(crate) struct Placed<'a> {
     regions: Regions<'a>,
-    at: [usize; 16],
+    at: [usize; regions::MOST],
     count: usize,
 }
 
@@ -34,7 +34,7 @@ impl<'a> Placed<'a> {
     pub(crate) fn new(regions: Regions<'a>) -> Self
         ensures { result ≡ image_of regions.entry }
     {
-        let mut at = [0usize; 16];
+        let mut at = [0usize; regions::MOST];
         let mut count: usize = 0;
         for place in regions.places() {
             at[count] = place;

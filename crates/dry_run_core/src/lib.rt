@@ -5,7 +5,7 @@ ghost use Rattle.std.specs.Prelude.{◌≡◌, MatchResult};
 ghost use Rattle.reading.specs.Reading.{image_of};
 ghost use Rattle.dry_run_outcome.specs.DryRun.{can_start, started, dry_run_verdict, dry_run_outcome};
 
-use dry_run_outcome::{DryRun, Stopped};
+use dry_run_outcome::DryRun;
 use image::Placed;
 use machine::Machine;
 use refusal::Refusal;
@@ -27,10 +27,7 @@ pub fn dry_run(regions: &[u8], machine: Machine, allowance: u32) -> DryRun
             let ran = steps::run(&image, start(machine), allowance);
             DryRun {
                 machine: ran.machine,
-                answer: Ok(Stopped {
-                    reason: ran.reason,
-                    steps: ran.steps,
-                }),
+                answer: Ok(ran.stopped),
             }
         }
     }

@@ -5,7 +5,7 @@ ghost use Rattle.dry_run_outcome.specs.Run.{run};
 ghost use Rattle.dry_run_outcome.specs.Run.{ran_for};
 
 use crate::image::Placed;
-use dry_run_outcome::Ran;
+use dry_run_outcome::{Ran, Stopped};
 use machine::effects::Operands;
 use machine::{Effect, Machine, Reason, effects, words};
 
@@ -15,8 +15,7 @@ fn ran(machine: Machine, reason: Reason, steps: u32) -> Ran
 {
     Ran {
         machine,
-        reason,
-        steps,
+        stopped: Stopped { reason, steps },
     }
 }
 

@@ -65,12 +65,12 @@ module _ (regions : List ℕ) (m : Machine) (allowance : ℕ) where
         go (is_run g s o) =
             let r = run allowance (image_of regions) (started m) in
             let left : r.machine ≡ call.machine = sym (ap (λ (d : DryRun). d.machine) o) in
-            let same : ◌≡◌ {A = Stopped} (record { reason = r.reason; steps = r.steps }) (record { reason = reason; steps = steps }) = cc in
-            let why : r.reason ≡ reason = ap (λ (k : Stopped). k.reason) same in
-            let many : r.steps ≡ steps = ap (λ (k : Stopped). k.steps) same in record {
+            let same : ◌≡◌ {A = Stopped} (record { reason = r.stopped.reason; steps = r.stopped.steps }) (record { reason = reason; steps = steps }) = cc in
+            let why : r.stopped.reason ≡ reason = ap (λ (k : Stopped). k.reason) same in
+            let many : r.stopped.steps ≡ steps = ap (λ (k : Stopped). k.steps) same in record {
               good = g;
               starts = s;
-              ran = ap (λ (n : ℕ). ran_for n r.machine r.reason) many ∙ ap (λ (q : Reason). ran_for steps r.machine q) why ∙ ap (λ (k : Machine). ran_for steps k reason) left;
+              ran = ap (λ (n : ℕ). ran_for n r.machine r.stopped.reason) many ∙ ap (λ (q : Reason). ran_for steps r.machine q) why ∙ ap (λ (k : Machine). ran_for steps k reason) left;
             }
 
     -- "never above the allowance. The allowance is given as the reason exactly when steps equal it."
@@ -82,7 +82,7 @@ module _ (regions : List ℕ) (m : Machine) (allowance : ℕ) where
     call_stopping n =
         let r = call_runs in
         let e = r.ran in
-        let s = subst (StopsAt (image_of regions) (started m)) e (stopping allowance (image_of regions) (started m) (λ x. n (sym (ap (λ (k : Ran). k.reason) e) ∙ x))) in
+        let s = subst (StopsAt (image_of regions) (started m)) e (stopping allowance (image_of regions) (started m) (λ x. n (sym (ap (λ (k : Ran). k.stopped.reason) e) ∙ x))) in
         (outcome_run regions m steps r.good r.starts ∙ ap stopped_run s.reached, s.stops_there)
 
     -- "$zero always 0"

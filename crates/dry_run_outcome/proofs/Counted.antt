@@ -10,9 +10,9 @@ use Rattle.dry_run_outcome.specs.Run.{step, run}
 use Rattle.dry_run_outcome.proofs.RunLaws.{run_goes, run_stops, stops_otherwise}
 
 pub record Counted (n : ℕ) (r : Ran) : Type 0 where
-  pub within : r.steps ≤ n
-  pub all_used : r.reason ≡ Allowance → r.steps ≡ n
-  pub by_allowance : r.steps ≡ n → r.reason ≡ Allowance
+  pub within : r.stopped.steps ≤ n
+  pub all_used : r.stopped.reason ≡ Allowance → r.stopped.steps ≡ n
+  pub by_allowance : r.stopped.steps ≡ n → r.stopped.reason ≡ Allowance
 
 pub counted : (n : ℕ) (image : Image) (m : Machine) → Counted n (run n image m)
 unfolding run

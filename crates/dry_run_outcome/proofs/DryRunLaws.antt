@@ -1,5 +1,5 @@
 -- Laws of a whole dry run: refused for its list, refused for its pc, or run. Assumes nothing.
-use Rattle.std.specs.Prelude.{ℕ, List, true, false, ◌≡◌, None, Some}
+use Rattle.std.specs.Prelude.{ℕ, List, true, false, ◌≡◌, None, Ok, Some}
 use Rattle.refusal.specs.declared.Refusal.TheVariants.{BadLayout, BadStart}
 use Rattle.regions.specs.Regions.{region_layout}
 use Rattle.reading.specs.Reading.{image_of}
@@ -7,10 +7,10 @@ use Rattle.machine.specs.declared.Machine.{Machine}
 use Rattle.dry_run_outcome.specs.declared.Ran.{Ran}
 use Rattle.dry_run_outcome.specs.declared.DryRun.{DryRun}
 use Rattle.dry_run_outcome.specs.Run.{run}
-use Rattle.dry_run_outcome.specs.DryRun.{can_start, started, stopped, dry_run_outcome, refused_run}
+use Rattle.dry_run_outcome.specs.DryRun.{can_start, started, dry_run_outcome, refused_run}
 
 abbrev pub stopped_run : Ran → DryRun
-stopped_run r = record { machine = r.machine; answer = stopped r.reason r.steps }
+stopped_run r = record { machine = r.machine; answer = Ok r.stopped }
 
 module _ (regions : List ℕ) (m : Machine) (allowance : ℕ) where
   pub outcome_layout : (place : ℕ) → region_layout regions ≡ Some place → dry_run_outcome regions m allowance ≡ refused_run m (BadLayout 0 place)

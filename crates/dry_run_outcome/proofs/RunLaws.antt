@@ -14,10 +14,10 @@ use Rattle.dry_run_outcome.specs.Fetch.{fetch}
 use Rattle.dry_run_outcome.specs.Run.{step_fetched, step, ended, later, run, ran_for}
 
 pub later_later : (a b : ℕ) (r : Ran) → later a (later b r) ≡ later (a + b) r
-later_later a b r = ap (λ (n : ℕ). ran_for n r.machine r.reason) (sym (add_assoc a b r.steps))
+later_later a b r = ap (λ (n : ℕ). ran_for n r.machine r.stopped.reason) (sym (add_assoc a b r.stopped.steps))
 
 pub later_none : (r : Ran) → later 0 r ≡ r
-later_none r = ap (λ (n : ℕ). ran_for n r.machine r.reason) (zero-add r.steps)
+later_none r = ap (λ (n : ℕ). ran_for n r.machine r.stopped.reason) (zero-add r.stopped.steps)
 
 later_end : (n : ℕ) (m : Machine) (reason : Reason) → later n (ended m reason) ≡ ran_for n m reason
 later_end n m reason = ap (λ (k : ℕ). ran_for k m reason) (add-zero n)

@@ -11,17 +11,17 @@ use Rattle.dry_run_outcome.specs.Run.{step, ended, later, run}
 use Rattle.dry_run_outcome.proofs.RunLaws.{later_later, later_none, run_goes, run_stops, stops_otherwise}
 
 abbrev pub go_on_by : Reason → Ran → (Machine → Ran) → Ran
-go_on_by Allowance r k = later r.steps (k r.machine)
+go_on_by Allowance r k = later r.stopped.steps (k r.machine)
 go_on_by Pc r k = r
 go_on_by Word r k = r
 go_on_by Overflow r k = r
 
 -- a run goes on where another ended for want of allowance; its steps are counted on
 abbrev pub go_on : Ran → (Machine → Ran) → Ran
-go_on r k = go_on_by r.reason r k
+go_on r k = go_on_by r.stopped.reason r k
 
 later_go_on : (reason : Reason) (r : Ran) (k : Machine → Ran) → later 1 (go_on_by reason r k) ≡ go_on_by reason (later 1 r) k
-later_go_on Allowance r k = later_later 1 r.steps (k r.machine)
+later_go_on Allowance r k = later_later 1 r.stopped.steps (k r.machine)
 later_go_on Pc r k = refl
 later_go_on Word r k = refl
 later_go_on Overflow r k = refl
@@ -41,7 +41,7 @@ run_split (suc a) b image m = ap (λ (n : ℕ). run n image m) (suc-add a b) ∙
     go : (s : Step) → step image m ≡ s → ((x : Machine) → run (a + b) image x ≡ go_on (run a image x) (run b image))
         → run (suc (a + b)) image m ≡ go_on (run (suc a) image m) (run b image)
     go (goes x) e ih =
-        run_goes (a + b) image m x e ∙ ap (later 1) (ih x) ∙ later_go_on (run a image x).reason (run a image x) (run b image)
+        run_goes (a + b) image m x e ∙ ap (later 1) (ih x) ∙ later_go_on (run a image x).stopped.reason (run a image x) (run b image)
         ∙ sym (ap (λ (r : Ran). go_on r (run b image)) (run_goes a image m x e))
     go (stops reason) e ih =
         run_stops (a + b) image m reason e ∙ ended_go_on reason m (run b image) (stops_otherwise image m reason e)

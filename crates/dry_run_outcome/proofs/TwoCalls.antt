@@ -89,21 +89,21 @@ module _ (regions : List ℕ) (m : Machine) (a b : ℕ) where
     aligned = run_keeps Aligned word_aligned a (image_of regions) (started m) (eqb-true (m.pc % 4) 0 ((and-eq-true_iff (eqb (m.pc % 4) 0) (is_word (fetch (image_of regions) m.pc))).0 s).0)
 
     goes_on : (c : Bool) → can_start (image_of regions) r.machine.pc ≡ c
-        → stopped_run (later r.steps (run b (image_of regions) r.machine)) ≡ (record { machine = behind.machine; answer = counted_on r.steps b behind.answer })
+        → stopped_run (later r.stopped.steps (run b (image_of regions) r.machine)) ≡ (record { machine = behind.machine; answer = counted_on r.stopped.steps b behind.answer })
     goes_on true e =
         let o : behind ≡ stopped_run (run b (image_of regions) r.machine) =
         outcome_run regions r.machine b g e
         ∙ ap (λ (x : Machine). stopped_run (run b (image_of regions) x)) (started_same r.machine (run_zero a (image_of regions) (started m) (started_zero m)))
         in
-        ap (λ (d : DryRun). record { machine = d.machine; answer = counted_on r.steps b d.answer }) (sym o)
+        ap (λ (d : DryRun). record { machine = d.machine; answer = counted_on r.stopped.steps b d.answer }) (sym o)
     goes_on false e =
         let o = outcome_start regions r.machine b g e in
-        ap (λ (x : Ran). stopped_run (later r.steps x))
+        ap (λ (x : Ran). stopped_run (later r.stopped.steps x))
         (run_missing b (image_of regions) r.machine (missing (fetch (image_of regions) r.machine.pc) r.machine.pc aligned e))
-        ∙ ap (λ (n : ℕ). stopped_run (ran_for n r.machine (ends_for b))) (add-zero r.steps)
-        ∙ ap (λ (d : DryRun). record { machine = d.machine; answer = counted_on r.steps b d.answer }) (sym o)
+        ∙ ap (λ (n : ℕ). stopped_run (ran_for n r.machine (ends_for b))) (add-zero r.stopped.steps)
+        ∙ ap (λ (d : DryRun). record { machine = d.machine; answer = counted_on r.stopped.steps b d.answer }) (sym o)
 
-    by_reason : (reason : Reason) → stopped_run (go_on_by reason r (run b (image_of regions))) ≡ joined_by (stopped reason r.steps) b (stopped_run r) behind
+    by_reason : (reason : Reason) → stopped_run (go_on_by reason r (run b (image_of regions))) ≡ joined_by (stopped reason r.stopped.steps) b (stopped_run r) behind
     by_reason Allowance = goes_on (can_start (image_of regions) r.machine.pc) refl
     by_reason Pc = refl
     by_reason Word = refl
@@ -118,7 +118,7 @@ module _ (regions : List ℕ) (m : Machine) (a b : ℕ) where
       by_start : (g : region_layout regions ≡ None) → (c : Bool) → can_start (image_of regions) m.pc ≡ c → IsJoined first
       by_start g true e =
           subst IsJoined (sym (outcome_run regions m a g e))
-          (outcome_run regions m (a + b) g e ∙ ap stopped_run (run_split a b (image_of regions) (started m)) ∙ by_reason g e (r g e).reason)
+          (outcome_run regions m (a + b) g e ∙ ap stopped_run (run_split a b (image_of regions) (started m)) ∙ by_reason g e (r g e).stopped.reason)
       by_start g false e = subst IsJoined (sym (outcome_start regions m a g e)) (outcome_start regions m (a + b) g e)
 
       by_layout : (l : Option ℕ) → region_layout regions ≡ l → IsJoined first

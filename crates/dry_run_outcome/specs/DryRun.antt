@@ -44,7 +44,7 @@ stopped reason steps = Ok (record { reason = reason; steps = steps })
 
 -- "It returns state, reason and the number of steps taken"
 abbrev pub outcome_by : Verdict → Machine → Ran → DryRun
-outcome_by (Ok tt) m r = record { machine = r.machine; answer = stopped r.reason r.steps }
+outcome_by (Ok tt) m r = record { machine = r.machine; answer = Ok r.stopped }
 outcome_by (Err refusal) m r = record { machine = m; answer = Err refusal }
 
 unfoldable pub dry_run_outcome : (regions : List ℕ) → Machine → (allowance : ℕ) → DryRun

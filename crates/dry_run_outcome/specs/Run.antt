@@ -18,11 +18,11 @@ unfolding fetch step_word
 step image m = step_fetched (fetch image m.pc) m
 
 abbrev pub ended : Machine → Reason → Ran
-ended m reason = record { machine = m; reason = reason; steps = 0 }
+ended m reason = record { machine = m; stopped = record { reason = reason; steps = 0 } }
 
 -- the same run with n more steps counted, those taken before it began
 abbrev pub later : ℕ → Ran → Ran
-later n r = record { machine = r.machine; reason = r.reason; steps = n + r.steps }
+later n r = record { machine = r.machine; stopped = record { reason = r.stopped.reason; steps = n + r.stopped.steps } }
 
 -- "The run stops when the allowance is used up, on a pc without a whole word, on another word ..., or on signed overflow of add, addi or sub;
 -- they are looked at in that order and the stopping word changes nothing."
@@ -33,4 +33,4 @@ run (suc n) image m = elim (step image m) [ goes m' ↦ later 1 (run n image m')
 
 -- a run that ended after n steps
 abbrev pub ran_for : ℕ → Machine → Reason → Ran
-ran_for n m reason = record { machine = m; reason = reason; steps = n }
+ran_for n m reason = record { machine = m; stopped = record { reason = reason; steps = n } }

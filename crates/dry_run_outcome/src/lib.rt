@@ -4,19 +4,18 @@
 use machine::{Machine, Reason};
 use refusal::Refusal;
 
-// The state, the reason and the number of steps taken.
-#[derive(Clone, Copy)]
-pub struct Ran {
-    pub machine: Machine,
-    pub reason: Reason,
-    pub steps: u32,
-}
-
 // Why a run stopped, and after how many steps.
 #[derive(Clone, Copy)]
 pub struct Stopped {
     pub reason: Reason,
     pub steps: u32,
+}
+
+// The state that a run leaves, and how it stopped.
+#[derive(Clone, Copy)]
+pub struct Ran {
+    pub machine: Machine,
+    pub stopped: Stopped,
 }
 
 // A dry run's answer: how it stopped, or why it does not start.

@@ -1,9 +1,10 @@
 -- The lengths of an image's lines, and the lines of data and of regions one after the other. Assumes nothing.
-use Rattle.std.specs.Prelude.{◌≡◌, ℕ, ◌+◌, ◌<◌, ◌≤◌, min, List, [], ◌++◌, length, drop, refl}
+use Rattle.std.specs.Prelude.{◌≡◌, ℕ, ◌+◌, ◌<◌, ◌≤◌, min, List, [], ◌∷◌, ◌++◌, map, length, drop, refl}
 use Rattle.std.proofs.Common.{arith, ap, ◌∙◌, length-append}
 use mathlib.Core.List.{append-nil, flatten}
 use Rattle.field.specs.Wrap.{wrap32}
 use Rattle.record.specs.Bytes.{le32}
+use Rattle.record.specs.Records.{places}
 use Rattle.record.specs.Texts.{bytes_of}
 use Rattle.regions.specs.Regions.{region_count, region_place}
 use Rattle.reading.specs.Reading.{image_region, image_of}
@@ -63,3 +64,19 @@ regions_next s n h = rw (image_next s n h)
 pub regions_end : (s : List ℕ) (n : ℕ) → region_count s ≤ n → regions_text n (drop n (image_of s)) ≡ []
 unfolding regions_text
 regions_end s n h = rw (image_end s n h)
+
+-- the text of the regions at the places that are left, numbered from n on
+abbrev pub left_text : List ℕ → ℕ → List ℕ → List ℕ
+left_text s n ps = regions_text n (map (image_region s) ps)
+
+pub left_all : (s : List ℕ) → left_text s 0 (places s) ≡ regions_text 0 (image_of s)
+unfolding image_of
+left_all s = refl
+
+pub left_next : (s : List ℕ) (n p : ℕ) (ps : List ℕ) → left_text s n (p ∷ ps) ≡ region_text n (image_region s p) ++ left_text s (n + 1) ps
+unfolding regions_text
+left_next s n p ps = refl
+
+pub left_none : (s : List ℕ) (n : ℕ) → left_text s n [] ≡ []
+unfolding regions_text
+left_none s n = refl

@@ -3,51 +3,48 @@
 
 ghost use Rattle.std.specs.Prelude.{◌≡◌, ◌++◌, ◌+◌, ◌<◌, ◌≤◌, length};
 ghost use Rattle.jobs.specs.declared.Job.TheVariants.{Manual};
-ghost use Rattle.regions.specs.Regions.{region_count, region_place};
+ghost use Rattle.regions.specs.Regions.{region_count, region_place, region_at};
 ghost use Rattle.reading.specs.Reading.{image_region, image_of};
 ghost use Rattle.image_text.specs.Image.{data_lines, region_text, regions_text, image_text, finish_text_by, finish_text};
 
 use jobs::Job;
 use program::Program;
-use regions::Regions;
+use regions::{Region, Regions};
 use text::{MOST, Printed};
 
 mod lines;
 
 // Appends a line for each four bytes, and one for a shorter rest.
 fn put_data(out: &mut Printed, address: u32, data: &[u8])
-    requires { length out.old + length (data_lines address 0 «data».now) ≤ MOST }
+    requires data_len_bound { length «data».now ≤ 65536 }
+    requires data_in_bounds { length out.old + length (data_lines address 0 «data».now) ≤ MOST }
     ensures { out.new ≡ out.old ++ data_lines address 0 «data».now }
 {
-    let mut pc = address;
-    for bytes in data.chunks(4) {
-        lines::put_row(&mut *out, pc, bytes);
-        pc = pc.wrapping_add(4);
+    for (i, bytes) in data.chunks(4).enumerate() {
+        lines::put_row(&mut *out, address.wrapping_add(4 * i as u32), bytes);
     }
 }
 
 // Appends the region with this number.
-fn put_region(out: &mut Printed, regions: &Regions<'_>, number: usize)
+fn put_region(out: &mut Printed, regions: &Regions<'_>, number: usize, region: Region)
     requires number_bound { number < region_count regions.now }
+    requires region_value { region ≡ region_at regions.now (region_place regions.now number) }
     requires number_in_bounds { length out.old + length (region_text number (image_region regions.now (region_place regions.now number))) ≤ MOST }
     ensures { out.new ≡ out.old ++ region_text number (image_region regions.now (region_place regions.now number)) }
 {
     let list = regions.bytes();
-    let region = regions.region(number);
     let start = region.start;
     let end = start + region.size;
     lines::put_region_line(&mut *out, number as u64, region.address);
     put_data(out, region.address, &list[start..end]);
 }
 
-// kept: by number; each turn finds its region again, in a list of at most 16.
-#[tactic(auto, using(crate::proofs::ImageLaws::regions_next, crate::proofs::ImageLaws::regions_end, std::proofs::lemmas::Grind::common_steps))]
 fn put_regions(out: &mut Printed, regions: &Regions<'_>)
     requires { length out.old + length (regions_text 0 (image_of regions.now)) ≤ MOST }
     ensures { out.new ≡ out.old ++ regions_text 0 (image_of regions.now) }
 {
-    for number in 0..regions.count() {
-        put_region(&mut *out, regions, number);
+    for (number, at) in regions.places().enumerate() {
+        put_region(&mut *out, regions, number, regions.region_at(at));
     }
 }
 

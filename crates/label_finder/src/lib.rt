@@ -22,7 +22,6 @@ pub fn find_label(labels: &[u8], name: &[u8], source: u32) -> Result<Found, Refu
     check_layouts(labels, name)?;
     let mut order = [0u16; labels::MOST];
     let mut spare = [0u16; labels::MOST];
-    let index = labels::make_index(labels, &mut order, &mut spare);
-    refusal::check_names(0, index.first_repeat())?;
-    Ok(LabelTable::new(index).get(source, name))
+    let table = LabelTable::make(labels, &mut order, &mut spare)?;
+    Ok(table.get(source, name))
 }

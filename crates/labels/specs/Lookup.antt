@@ -1,9 +1,12 @@
 -- A lookup of labels through an ordered index (document 02, P13). Assumes nothing.
-use Rattle.std.specs.Prelude.{ℕ, ◌≤◌, List, ◌≡◌, true, false, length, get_or, ltb, None, Some}
+use Rattle.std.specs.Prelude.{ℕ, ◌≤◌, List, ◌≡◌, true, false, length, get_or, ltb, None, Some, Err, Result, MatchResult}
 use Rattle.names.specs.Owners.{for_all}
 use Rattle.name_index.specs.Index.{IndexOf, lookup_from, lookup, told}
+use Rattle.name_index.specs.Ordered.{Ordered}
 use Rattle.name_index.specs.declared.Looked.{Looked}
 use Rattle.name_index.specs.Told.{Told}
+use Rattle.refusal.specs.Verdicts.{name_verdict}
+use Rattle.refusal.specs.declared.Refusal.{Refusal}
 use Rattle.labels.specs.Labels.{label_layout, label_repeat}
 
 -- the most labels in a list: 65,536 bytes hold no more records of nine bytes
@@ -16,6 +19,10 @@ pub record Indexed (s index : List ℕ) : Type 0 where
   pub distinct : label_repeat s ≡ None
   pub ordered : IndexOf 4 s index
   pub few : length index ≤ most_labels
+
+-- the table of a list that keeps its layout, or refusal 2: "Two .. labels share a name"
+abbrev pub TableOf : (labels : List ℕ) → Result Ordered Refusal → Type 0
+TableOf labels made = MatchResult made (λ table. (table.list ≡ labels) × Indexed table.list table.order) (λ refusal. name_verdict 0 (label_repeat labels) ≡ Err refusal)
 
 -- a second lookup where the first finds nothing
 abbrev pub or_looked : Looked → Looked → Looked

@@ -3,14 +3,15 @@
 
 ghost use Rattle.std.specs.Prelude.{◌≡◌, ◌+◌, ◌≤◌, length, true, None};
 ghost use Rattle.std.specs.Option.{ForSome};
-ghost use Rattle.record.specs.Records.{limit};
+ghost use Rattle.record.specs.Records.{limit, places};
 ghost use Rattle.names.specs.Owners.{has_owned_name};
 ghost use Rattle.labels.specs.Labels.{label_kind, label_ok, label_layout, label_repeat, labelled, resolve};
-ghost use Rattle.labels.specs.Lookup.{most_labels, Indexed, looked_for_all, looked_up};
+ghost use Rattle.labels.specs.Lookup.{most_labels, Indexed, TableOf, looked_for_all, looked_up};
 ghost use Rattle.name_index.specs.Index.{IndexOf};
 
 use name_index::{Looked, NameIndex};
 use names::{Named, NamedRecord};
+use refusal::Refusal;
 use std::marker::Model;
 
 // An address, and how many names were compared to find it.
@@ -66,7 +67,7 @@ pub fn first_bad_label(labels: &[u8]) -> Option<usize>
 // Makes the index of a list of labels in `order`. `spare` is scratch.
 pub fn make_index<'a>(labels: &'a [u8], order: &'a mut [u16], spare: &mut [u16]) -> NameIndex<'a, 4>
     requires labels_value { label_layout labels.now ≡ None }
-    requires most_labels_in_bounds { (most_labels ≤ length order.old) × (most_labels ≤ length spare.old) }
+    requires places_in_bounds { (length (places labels.now) ≤ length order.old) × (length (places labels.now) ≤ length spare.old) }
     ensures { (result.list ≡ labels.now) × (length result.order ≤ most_labels) × IndexOf 4 result.list result.order }
 {
     NameIndex::make(Named::new(labels), order, spare)
@@ -97,6 +98,21 @@ impl<'a> LabelTable<'a> {
         // called for its contract: the order is an index of the list's names
         let _ = index.order();
         LabelTable { index }
+    }
+
+    // Makes the table of a list that keeps its layout, with its index in `order`, or refuses a name that is repeated. `spare` is scratch.
+    pub fn make(
+        labels: &'a [u8],
+        order: &'a mut [u16],
+        spare: &mut [u16],
+    ) -> Result<Self, Refusal>
+        requires labels_value { label_layout labels.now ≡ None }
+        requires places_in_bounds { (length (places labels.now) ≤ length order.old) × (length (places labels.now) ≤ length spare.old) }
+        ensures { TableOf labels.now result }
+    {
+        let index = make_index(labels, order, spare);
+        refusal::check_names(0, index.first_repeat())?;
+        Ok(LabelTable::new(index))
     }
 
     // Returns the list's bytes.

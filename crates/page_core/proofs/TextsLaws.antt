@@ -6,6 +6,7 @@ use mathlib.Core.List.{append-nil, append_assoc, flatten}
 use Rattle.io.specs.Digits.{last_digits}
 use Rattle.field.specs.Wrap.{wrap32}
 use Rattle.record.specs.Bytes.{le32}
+use Rattle.record.specs.Records.{places}
 use Rattle.regions.specs.Regions.{region_count, region_place}
 use Rattle.reading.specs.Reading.{ImageRegion, Image, image_region, image_of}
 use Rattle.reading.proofs.ImageLaws.{image_next, image_end}
@@ -71,6 +72,21 @@ regions_next label s n h = ap (image_text label n) (image_next s n h) ∙ image_
 pub regions_end : (label : ℕ → List ℕ) (s : List ℕ) (n : ℕ) → region_count s ≤ n → image_text label n (drop n (image_of s)) ≡ []
 unfolding image_text page_lines flatten
 regions_end label s n h = rw (image_end s n h)
+
+-- the text of the regions at the places that are left, numbered from n on
+abbrev pub left_text : (label : ℕ → List ℕ) → List ℕ → ℕ → List ℕ → List ℕ
+left_text label s n ps = image_text label n (map (image_region s) ps)
+
+pub places_all : (label : ℕ → List ℕ) (s : List ℕ) → left_text label s 0 (places s) ≡ image_text label 0 (image_of s)
+unfolding image_of
+places_all label s = refl
+
+pub places_next : (label : ℕ → List ℕ) (s : List ℕ) (n p : ℕ) (ps : List ℕ) → left_text label s n (p ∷ ps) ≡ region_text label n (image_region s p) ++ left_text label s (n + 1) ps
+places_next label s n p ps = image_cons label n (image_region s p) (map (image_region s) ps)
+
+pub places_none : (label : ℕ → List ℕ) (s : List ℕ) (n : ℕ) → left_text label s n [] ≡ []
+unfolding image_text page_lines flatten
+places_none label s n = refl
 
 pub page_is : (labels regions : List ℕ) → image_text (label_at labels) 0 (image_of regions) ≡ page_of labels regions
 unfolding page_of image_text

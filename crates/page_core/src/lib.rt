@@ -3,20 +3,18 @@
 
 ghost use Rattle.std.specs.Prelude.{◌≡◌, ◌+◌, ◌*◌, ◌<◌, ◌≤◌, length};
 ghost use Rattle.record.specs.Records.{places};
-ghost use Rattle.regions.specs.Regions.{region_count, region_place};
+ghost use Rattle.regions.specs.Regions.{region_count, region_place, region_at};
 ghost use Rattle.reading.specs.Reading.{image_region, image_of};
-ghost use Rattle.text.specs.Text.{Put, word_text};
-ghost use Rattle.page_outcome.specs.Page.{label_at, page_of, word_line};
+ghost use Rattle.text.specs.Text.{Put};
+ghost use Rattle.page_outcome.specs.Page.{label_at, page_of};
 ghost use Rattle.page_outcome.specs.Page.{line_count};
 ghost use Rattle.page_outcome.specs.Outcome.{layout_verdicts, page_outcome};
 ghost use Rattle.page_labels.specs.Slots.{Shows};
 ghost use Rattle.page_core.specs.Texts.{data_text, region_text};
 
 use labels::LabelTable;
-use name_index::NameIndex;
-use names::Named;
 use refusal::Refusal;
-use regions::Regions;
+use regions::{Region, Regions};
 
 // "the page buffer, alone allowed up to 1,195,959 bytes"
 pub const LIMIT: usize = 1_195_959;
@@ -24,18 +22,9 @@ pub const LIMIT: usize = 1_195_959;
 // Labels and regions of at most this many bytes together count as short. A label has at least nine bytes.
 const SHORT: usize = 2304;
 
-// Writes the line of a word, or of a last, incomplete word.
-#[tactic(auto, using(text::proofs::TextLaws::text_whole, text::proofs::TextLaws::text_part))]
-fn put_row(out: &mut [u8], at: usize, pc: u32, bytes: &[u8], name: &[u8]) -> usize
-    requires { (at + 73 ≤ length out.old) × (length bytes.now ≤ 4) }
-    ensures { Put out.old at (word_line pc (word_text bytes.now) name.now) out.new result }
-{
-    if bytes.len() == 4 {
-        page_lines::put_word(out, at, pc, record::word_at(bytes, 0), name)
-    } else {
-        page_lines::put_part(out, at, pc, bytes, name)
-    }
-}
+const SHORT_LABELS: usize = SHORT / 9;
+
+const SHORT_WORDS: usize = SHORT / 4;
 
 // Writes a line for each four bytes, and one for any bytes left over.
 // kept: `slots[i]`; a zip ends with either side, and the proof would also have to show that the slots last as long as the data.
@@ -56,7 +45,7 @@ fn put_data(
     for (i, bytes) in data.chunks(4).enumerate() {
         let pc = address.wrapping_add(4 * i as u32);
         let name = page_labels::name_in(labels, slots[i]);
-        end = put_row(&mut *out, end, pc, bytes, name);
+        end = page_lines::put_row(&mut *out, end, pc, bytes, name);
     }
     end
 }
@@ -68,16 +57,17 @@ fn put_region(
     labels: &LabelTable<'_>,
     regions: &Regions<'_>,
     number: usize,
+    region: Region,
     slots: &mut [u16],
 ) -> usize
     requires slots_in_bounds { length regions.now ≤ 4 * length slots.old }
     requires number_bound { number < region_count regions.now }
+    requires region_value { region ≡ region_at regions.now (region_place regions.now number) }
     requires number_in_bounds { at + length (region_text (label_at labels.now.list) number (image_region regions.now (region_place regions.now number))) ≤ length out.old }
     ensures { Put out.old at
         (region_text (label_at labels.now.list) number (image_region regions.now (region_place regions.now number))) out.new result }
 {
     let list = regions.bytes();
-    let region = regions.region(number);
     let address = region.address;
     let start = region.start;
     let size = region.size;
@@ -94,7 +84,6 @@ fn put_region(
 }
 
 // Writes all regions in turn.
-// kept: by number; each turn finds its region again, in a list of at most 16.
 fn put_page(
     out: &mut [u8],
     labels: &LabelTable<'_>,
@@ -106,8 +95,9 @@ fn put_page(
     ensures { Put out.old 0 (page_of labels.now.list regions.now) out.new result }
 {
     let mut end = 0;
-    for number in 0..regions.count() {
-        end = put_region(&mut *out, end, labels, regions, number, &mut *slots);
+    for (number, place) in regions.places().enumerate() {
+        let region = regions.region_at(place);
+        end = put_region(&mut *out, end, labels, regions, number, region, &mut *slots);
     }
     end
 }
@@ -137,26 +127,25 @@ fn check_layouts(labels: &[u8], regions: &[u8], page: &[u8]) -> Result<(), Refus
     Ok(())
 }
 
-// Lays out lists that have passed refusal 1, with the lent arrays as work space: the slots also serve while the index is made.
-fn lay_out_in(
+// Lays out lists that have passed refusal 1, of at most so many labels and words. The slots also serve while the index is made.
+fn lay_out_by<const LABELS: usize, const WORDS: usize>(
     labels: &[u8],
     regions: &[u8],
     page: &mut [u8],
-    order: &mut [u16],
-    slots: &mut [u16],
 ) -> Result<u32, Refusal>
     requires page_value { layout_verdicts labels.now regions.now (length page.old) ≡ Ok tt }
-    requires labels_in_bounds { (length (places labels.now) ≤ length order.old) × (length (places labels.now) ≤ length slots.old) × (length regions.now ≤ 4 * length slots.old) }
+    requires labels_in_bounds { (length (places labels.now) ≤ LABELS) × (length (places labels.now) ≤ WORDS) × (length regions.now ≤ 4 * WORDS) }
+    requires arrays_len_bound { (LABELS ≤ 65536) × (WORDS ≤ 65536) }
     ensures { page_outcome labels.now regions.now page.old ≡ (record { answer = result; page = page.new }) }
 {
+    let mut order = [0u16; LABELS];
+    let mut slots = [0u16; WORDS];
     let regions = Regions::new(regions);
-    let index = NameIndex::make(Named::new(labels), order, &mut *slots);
-    refusal::check_names(0, index.first_repeat())?;
+    let table = LabelTable::make(labels, &mut order, &mut slots)?;
     if page.len() < 73 * count_lines(&regions) {
         return Err(Refusal::NoPageSpace);
     }
-    let table = LabelTable::new(index);
-    Ok(put_page(page, &table, &regions, slots) as u32)
+    Ok(put_page(page, &table, &regions, &mut slots) as u32)
 }
 
 // Lays the image out and returns the page's length, or refuses and changes no byte. Short lists use small arrays.
@@ -165,11 +154,7 @@ pub fn lay_out(labels: &[u8], regions: &[u8], page: &mut [u8]) -> Result<u32, Re
 {
     check_layouts(labels, regions, &*page)?;
     if labels.len() + regions.len() <= SHORT {
-        let mut order = [0u16; SHORT / 9];
-        let mut slots = [0u16; SHORT / 4];
-        return lay_out_in(labels, regions, page, &mut order, &mut slots);
+        return lay_out_by::<SHORT_LABELS, SHORT_WORDS>(labels, regions, page);
     }
-    let mut order = [0u16; labels::MOST];
-    let mut slots = [0u16; page_labels::MOST_WORDS];
-    lay_out_in(labels, regions, page, &mut order, &mut slots)
+    lay_out_by::<{ labels::MOST }, { page_labels::MOST_WORDS }>(labels, regions, page)
 }

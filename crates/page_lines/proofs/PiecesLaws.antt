@@ -2,9 +2,10 @@
 use Rattle.std.specs.Prelude.{ℕ, zero, suc, ◌+◌, ◌-◌, ◌*◌, ◌/◌, ◌%◌, ◌≤◌, ◌<◌, List, [], ◌∷◌, ◌++◌, ◌≡◌, refl, length, take}
 use Rattle.std.proofs.Common.{mod-eq_of_lt, arith, append-nil, append_assoc, ap, ap₂, ◌∙◌, length-append, length-take, lt-ltb}
 use Rattle.io.specs.Digits.{hex_digit_ascii, last_digits}
+use Rattle.record.specs.Bytes.{le32}
 use Rattle.record.specs.Texts.{bytes_of}
-use Rattle.text.specs.Text.{hex_bytes}
-use Rattle.text.proofs.TextLaws.{hex_length, digits_length}
+use Rattle.text.specs.Text.{hex_bytes, word_text}
+use Rattle.text.proofs.TextLaws.{hex_length, digits_length, text_whole, text_part, text_length}
 use Rattle.page_outcome.specs.Page.{blanks, columns, line, cut, region_line, word_line}
 use Rattle.page_outcome.proofs.LinesLaws.{front_length, cut_whole, cut_long}
 use Rattle.page_lines.specs.Pieces.{end_of}
@@ -24,7 +25,7 @@ line_40 text h =
     let e : 72 - length text ≡ 32 = omega arith in
     ap (λ (n : ℕ). (text ++ blanks n) ++ bytes_of "\n") e ∙ append_assoc text (blanks 32) (bytes_of "\n")
 
-word_line_lem : (pc : ℕ) (word name : List ℕ) → length word ≤ 8 → word_line pc word name ≡ (last_digits 16 8 pc ++ bytes_of "  " ++ columns 8 word) ++ end_of name
+pub word_line_lem : (pc : ℕ) (word name : List ℕ) → length word ≤ 8 → word_line pc word name ≡ (last_digits 16 8 pc ++ bytes_of "  " ++ columns 8 word) ++ end_of name
 unfolding word_line
 word_line_lem pc word name h =
     let front = last_digits 16 8 pc ++ bytes_of "  " ++ columns 8 word in
@@ -43,6 +44,17 @@ part_line pc bytes name h =
     let k = hex_length bytes in
     word_line_lem pc (hex_bytes bytes) name (omega arith)
     ∙ ap (λ (n : ℕ). (last_digits 16 8 pc ++ bytes_of "  " ++ (hex_bytes bytes ++ blanks (8 - n))) ++ end_of name) k
+
+-- a word's columns, as they are put: a whole word fills them
+pub word_whole : (bytes : List ℕ) → length bytes ≡ 4 → columns 8 (word_text bytes) ≡ last_digits 16 8 (le32 bytes 0)
+unfolding blanks
+word_whole bytes h =
+    let z : 8 - length (word_text bytes) ≡ 0 = omega (arith, text_length bytes) in
+    ap₂ (λ (t : List ℕ) (n : ℕ). t ++ blanks n) (text_whole bytes h) z ∙ append-nil (last_digits 16 8 (le32 bytes 0))
+
+pub word_part : (bytes : List ℕ) → (length bytes ≡ 4 → ⊥) → columns 8 (word_text bytes) ≡ hex_bytes bytes ++ blanks (8 - 2 * length bytes)
+word_part bytes h =
+    ap₂ (λ (t : List ℕ) (n : ℕ). t ++ blanks (8 - n)) (text_part bytes h) (text_length bytes)
 
 -- ---- a label's columns
 pub label_long : (name : List ℕ) → 20 < length name → columns 20 (cut name) ≡ take 19 name ++ bytes_of "~"

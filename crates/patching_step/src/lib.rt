@@ -225,9 +225,7 @@ fn checked_step(
     check_layouts(labels, entry, counts, &*regions, pending, &*kept)?;
     let mut order = [0u16; labels::MOST];
     let mut spare = [0u16; labels::MOST];
-    let index = labels::make_index(labels, &mut order, &mut spare);
-    refusal::check_names(0, index.first_repeat())?;
-    let table = LabelTable::new(index);
+    let table = LabelTable::make(labels, &mut order, &mut spare)?;
     step_with(
         job, &table, entry, counts, regions, pending, kept, &mut spare,
     )

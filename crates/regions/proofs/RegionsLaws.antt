@@ -1,10 +1,11 @@
 -- Laws of regions: what a layout that is kept says of each region, that regions stand one after another, that a change within one region's data moves none, and where a layout breaks. Assumes nothing.
 use Rattle.std.specs.Prelude.{ℕ, zero, suc, ◌+◌, ◌≤◌, ◌<◌, List, [], ◌∷◌, Bool, true, false, ◌&&◌, ◌⊎◌, ◌≡◌, refl, length, get_or, leb, eqb, ltb, None, Some}
-use Rattle.std.proofs.Common.{add-one, arith, inl, inr, ⊎_elim, sym, ap, ◌∙◌, leb-true, ltb-true, ltb-false}
+use Rattle.std.proofs.Common.{add-one, arith, inl, inr, ⊎_elim, sym, ap, ◌∙◌, drop-cons, leb-true, ltb-true, ltb-false}
 use Rattle.std.proofs.Math.Bool.{and-eq-true_iff}
 use Rattle.record.specs.Bytes.{byte_at, le16}
 use Rattle.record.specs.Records.{body_len, kind_at, whole, next, places, places_from, first_bad, first_bad_of, limit, within_limit}
 use Rattle.record.proofs.RecordsLaws.{places_end, places_step, places_cut, places_all, places_cons, whole_is, good_at, of_good, of_place, limit_bad, limit_good, limit_kept, limit_passed}
+use Rattle.record.proofs.WalkLaws.{Turn}
 use Rattle.regions.specs.Regions.{region_ok, region_records, region_layout, region_count, region_place, region_at}
 
 -- ---- one region
@@ -147,6 +148,13 @@ region_good s g =
 
 pub region_place_ok : (s : List ℕ) (n : ℕ) → region_layout s ≡ None → n < region_count s → region_ok s (region_place s n) ≡ true
 region_place_ok s n g h = good_at (region_ok s) (places s) (region_good s g).1 n h
+
+-- the turn of a loop over the numbered places is at the place of that number, and a region stands there
+pub place_taken : (s : List ℕ) (n p : ℕ) (ps : List ℕ) → Turn s n p ps → p ≡ region_place s n
+place_taken s n p ps t = let e = drop-cons (places s) n 0 t.numbered in cc (t.left_are, e)
+
+pub region_taken : (s : List ℕ) (n p : ℕ) (ps : List ℕ) → region_layout s ≡ None → Turn s n p ps → region_ok s p ≡ true
+region_taken s n p ps g t = t.passes (region_ok s) (region_good s g).1
 
 -- the cases of the layout
 pub layout_long : (s : List ℕ) → limit < length s → region_layout s ≡ Some limit

@@ -1,7 +1,7 @@
 // The regions: a list of region records instead of the Rust's vector of regions.
 #![tactic(auto)]
 
-ghost use Rattle.std.specs.Prelude.{◌≡◌, ◌≤◌, ◌<◌, length};
+ghost use Rattle.std.specs.Prelude.{◌≡◌, ◌≤◌, ◌<◌, true, length};
 ghost use Rattle.record.specs.Records.{places};
 ghost use Rattle.record.specs.Left.{places_left};
 ghost use Rattle.regions.specs.Regions.{region_ok, region_layout, region_count, region_place, region_at};
@@ -12,7 +12,7 @@ use std::marker::Model;
 const REGION: usize = 35;
 
 // "1 to 16 regions"
-const MOST: usize = 16;
+pub const MOST: usize = 16;
 
 // A region's address, and where its data stands in the list.
 #[derive(Clone, Copy)]
@@ -68,13 +68,12 @@ impl<'a> Regions<'a> {
         record::places(self.bytes).count()
     }
 
-    // Returns the region with that number, counted from 0.
-    pub fn region(&self, number: usize) -> Region
-        requires { number < region_count self.now }
-        ensures { result ≡ region_at self.now (region_place self.now number) }
+    // Returns the region of the record at `at`.
+    pub fn region_at(&self, at: usize) -> Region
+        requires { region_ok self.now at ≡ true }
+        ensures { result ≡ region_at self.now at }
     {
         let list = self.bytes;
-        let at = self.places().nth(number).unwrap_or(0);
         let address = record::word_at(list, at + 4);
         let size = record::half_at(list, at) - 4;
         Region {
@@ -82,6 +81,15 @@ impl<'a> Regions<'a> {
             start: at + 8,
             size,
         }
+    }
+
+    // Returns the region with that number, counted from 0.
+    pub fn region(&self, number: usize) -> Region
+        requires { number < region_count self.now }
+        ensures { result ≡ region_at self.now (region_place self.now number) }
+    {
+        let at = self.places().nth(number).unwrap_or(0);
+        self.region_at(at)
     }
 }
 

@@ -1,9 +1,11 @@
-use Rattle.std.proofs.Common.{◌≡◌, ◌++◌, drop}
+use Rattle.std.proofs.Common.{◌≡◌, ◌++◌}
+use Rattle.record.specs.Left.{places_left}
 use Rattle.reading.specs.Reading.{image_of}
 use Rattle.image_text.specs.Image.{regions_text}
+use Rattle.image_text.proofs.ImageLaws.{left_text}
 use Rattle.image_text.proofs.put_regions.Given as goal
 
 -- behind the text so far stands that of the regions that are left
 abbrev pub invariant-loop-number : goal.invariant-loop-number
 invariant-loop-number l =
-    l.out ++ regions_text l.number (drop l.number (image_of l.regions)) ≡ l.initial.out ++ regions_text 0 (image_of l.regions)
+    l.out ++ left_text l.regions l.number-iterator.count (places_left l.number-iterator.iter) ≡ l.initial.out ++ regions_text 0 (image_of l.regions)

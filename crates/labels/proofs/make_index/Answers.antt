@@ -1,6 +1,6 @@
 use Rattle.std.proofs.Common.{◌∙◌, arith}
 use Rattle.labels.proofs.LabelsLaws.{labels_named, labels_within}
-use Rattle.labels.proofs.LookupLaws.{label_count, index_few}
+use Rattle.labels.proofs.LookupLaws.{index_few}
 use Rattle.labels.proofs.make_index.Goals as goal
 
 pub new-requires : goal.new-requires
@@ -8,7 +8,6 @@ new-requires c = (omega arith, labels_named _ c.requires.labels_value)
 
 pub make-requires : goal.make-requires
 make-requires c =
-    let n = label_count c.args.labels.now c.requires.labels_value in
     rw c.new.ensures (omega arith, (omega arith, (labels_within _ c.requires.labels_value, (omega arith, omega arith))))
 
 pub returns : goal.returns

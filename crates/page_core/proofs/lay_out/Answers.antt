@@ -11,13 +11,13 @@ returns-in_err-check_layouts c =
     let p = err_from_is_err_and c.from_residual.result c.from_residual.ensures.1 in
     rw (p.1, p.2) (layout_stops c.args.labels.now c.args.regions.now c.args.page.now _ (sym c.in_err-check_layouts.ensures))
 
-pub lay_out_in-requires-clause-labels_in_bounds : goal.lay_out_in-requires-clause-labels_in_bounds
-lay_out_in-requires-clause-labels_in_bounds c =
+pub lay_out_by-requires-clause-labels_in_bounds : goal.lay_out_by-requires-clause-labels_in_bounds
+lay_out_by-requires-clause-labels_in_bounds c =
     let n = labels_few c.args.labels.now (lists_good _ _ _ (sym c.in_ok-check_layouts.ensures)).0 in
     (omega arith, omega arith, omega arith)
 
-pub lay_out_in-requires-2-clause-labels_in_bounds : goal.lay_out_in-requires-2-clause-labels_in_bounds
-lay_out_in-requires-2-clause-labels_in_bounds c =
+pub lay_out_by-requires-2-clause-labels_in_bounds : goal.lay_out_by-requires-2-clause-labels_in_bounds
+lay_out_by-requires-2-clause-labels_in_bounds c =
     let g = lists_good _ _ _ (sym c.in_ok-check_layouts.ensures) in
     let n = labels_few c.args.labels.now g.0 in
     let w = labels_within c.args.labels.now g.0 in
