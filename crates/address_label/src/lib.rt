@@ -14,7 +14,7 @@ use record::Location;
 const ENTRY: usize = 38;
 
 // The forms: a constant's first byte, and a name's.
-const CONSTANT: u8 = 0;
+pub const CONSTANT: u8 = 0;
 
 const LABEL: u8 = 1;
 

@@ -117,11 +117,8 @@ impl<'a> Descriptor<'a> {
     fn alternative(self) -> Option<Opcode>
         ensures { result ≡ alternative_at self.entry.list.now self.entry.at }
     {
-        if self.list[self.at + 9] == 1 {
-            Some(opcode_from(self.list[self.at + 10], self.list[self.at + 11]))
-        } else {
-            None
-        }
+        let opcode = opcode_from(self.list[self.at + 10], self.list[self.at + 11]);
+        (self.list[self.at + 9] == 1).then_some(opcode)
     }
 
     // Returns the encoding, with the size, flag or alternative that it carries.
@@ -178,16 +175,13 @@ fn most_size(encoding: u8) -> u8
 fn most_flag(encoding: u8) -> u8
     ensures { result ≡ most_flag encoding }
 {
-    match encoding {
-        numbers::FP_MOVE | numbers::FP_CROSS_MOVE.. => 1,
-        _ => 0,
-    }
+    u8::from(matches!(encoding, numbers::FP_MOVE | numbers::FP_CROSS_MOVE..))
 }
 
 fn most_present(encoding: u8) -> u8
     ensures { result ≡ most_present encoding }
 {
-    if encoding == numbers::IMMEDIATE { 1 } else { 0 }
+    u8::from(encoding == numbers::IMMEDIATE)
 }
 
 // Returns the greatest value of a field of the alternative: `most` if there is an alternative, else 0.

@@ -1,1 +1,2 @@
 pub mod Made
+pub mod LineLists

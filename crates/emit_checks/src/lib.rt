@@ -7,6 +7,7 @@ ghost use Rattle.emit_outcome.specs.Checks.{layout_stop, list_stop, met_location
 ghost use Rattle.emit_outcome.specs.Room.{edge_stop, room_stop};
 ghost use Rattle.emit_outcome.specs.Emit.{fault_refusal, line_stop};
 ghost use Rattle.emit_pairs.specs.Pairs.{pairs_of};
+ghost use Rattle.emit_checks.specs.LineLists.{line_lists_stop};
 ghost use Rattle.emit_checks.specs.Made.{made_line, Filled, PassedBy, stopped_at};
 
 use descriptors::Descriptors;
@@ -33,6 +34,15 @@ pub fn at_position<T>(position: u32, given: Result<T, Refusal>) -> Result<T, Ref
     given.map_err(|refusal| RefusedLine { refusal, position })
 }
 
+// Refuses with 1 the first list that breaks its layout: the tokens, the mnemonic or the descriptors.
+pub fn check_line_lists(lists: Lists<'_>) -> Result<(), Refusal>
+    ensures { result ≡ line_lists_stop lists.entry.tokens.now lists.entry.mnemonic.now lists.entry.descriptors.now }
+{
+    refusal::check_layout(0, lexer::first_bad_token(lists.tokens))?;
+    refusal::check_layout(1, descriptors::first_bad_mnemonic(lists.mnemonic))?;
+    refusal::check_layout(2, descriptors::first_bad_descriptor(lists.descriptors))
+}
+
 // Refuses with 1 the first list or buffer that breaks its layout.
 pub fn check_layouts(
     lists: Lists<'_>,
@@ -45,9 +55,7 @@ pub fn check_layouts(
     ensures { result ≡ layout_stop lists.entry.tokens.now lists.entry.mnemonic.now lists.entry.descriptors.now
         (lent_of «data».now pending.now breakpoints.now) region counts }
 {
-    refusal::check_layout(0, lexer::first_bad_token(lists.tokens))?;
-    refusal::check_layout(1, descriptors::first_bad_mnemonic(lists.mnemonic))?;
-    refusal::check_layout(2, descriptors::first_bad_descriptor(lists.descriptors))?;
+    check_line_lists(lists)?;
     let bytes = counts.data_len as usize;
     refusal::check_layout(3, breakpoints::check_data_buffer(data, bytes, region))?;
     let kept = counts.pending as usize;

@@ -228,11 +228,8 @@ fn third_given(encoding: Encoding, operands: Operands) -> bool
 fn kept_range(job: Job, third: bool, op: Opcode) -> Result<(), Fault>
     ensures { result ≡ kept_range job third op }
 {
-    if jobs::is_dropped(job, third, op) {
-        Err(Fault::Dropped)
-    } else {
-        Ok(())
-    }
+    let dropped = jobs::is_dropped(job, third, op);
+    (!dropped).then_some(()).ok_or(Fault::Dropped)
 }
 
 // Refusal 9: checks the immediate, if the encoding has one.

@@ -150,11 +150,8 @@ pub fn is_immediate(constant: u64) -> bool
 pub fn immediate_range(alt: Option<Opcode>, constant: u64) -> Result<(), Fault>
     ensures { result ≡ immediate_range alt constant }
 {
-    if alt.is_some() || is_immediate(constant) {
-        Ok(())
-    } else {
-        Err(Fault::Immediate)
-    }
+    let within = alt.is_some() || is_immediate(constant);
+    within.then_some(()).ok_or(Fault::Immediate)
 }
 
 // Returns one word. Out of range, loads the constant into $at for the alternative's word; without an alternative returns no word.

@@ -85,7 +85,7 @@ fn count_names(pending: &[u8], places: &[u16]) -> usize
 {
     let mut n: usize = 0;
     for &place in places {
-        if pending[record::widened(place) + 19] != 0 {
+        if pending[usize::from(place) + 19] != address_label::CONSTANT {
             n += 1;
         }
     }
@@ -138,7 +138,7 @@ impl<'a> Lists<'a> {
             if n >= places.len() {
                 return false;
             }
-            let place = record::widened(places[n]);
+            let place = usize::from(places[n]);
             let Some(source) = source_of(self.pending, place, key.name()) else {
                 return false;
             };

@@ -90,10 +90,7 @@ pub fn name_location(label: AddressLabel) -> Location
     ensures { result ≡ name_location label }
 {
     match label {
-        AddressLabel::Constant(_) => Location {
-            source: 0,
-            index: 0,
-        },
+        AddressLabel::Constant(_) => refusal::zero_location(),
         AddressLabel::Label(name) => name.location,
     }
 }

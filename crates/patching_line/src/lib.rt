@@ -65,9 +65,7 @@ fn check_layouts(
     ensures { let g = given_by line.entry in
         LayoutsAre g.token_list g.mnemonic g.descriptors g.region regions.now pending.now breakpoints.now counts result }
 {
-    refusal::check_layout(0, lexer::first_bad_token(line.lists.tokens))?;
-    refusal::check_layout(1, descriptors::first_bad_mnemonic(line.lists.mnemonic))?;
-    refusal::check_layout(2, descriptors::first_bad_descriptor(line.lists.descriptors))?;
+    emit_checks::check_line_lists(line.lists)?;
     let fill = counts.regions as usize;
     refusal::check_layout(3, check_listed(regions, fill, line.region))?;
     let count = Regions::new(&regions[..fill]).count();

@@ -3,7 +3,7 @@
 
 ghost use Rattle.std.specs.Prelude.{◌≡◌, ◌<◌, ◌^◌};
 ghost use Rattle.std.specs.Option.{ForSome};
-ghost use Rattle.refusal.specs.Numbers.{numbered};
+ghost use Rattle.refusal.specs.Numbers.{zero_location, numbered};
 ghost use Rattle.refusal.specs.Split.{is_negative, size};
 ghost use Rattle.refusal.specs.Verdicts.{layout_verdict, name_verdict};
 
@@ -67,13 +67,20 @@ pub struct Numbered {
     pub b: u32,
 }
 
+// Returns the location of what has none: zeros.
+pub fn zero_location() -> Location
+    ensures { result ≡ zero_location }
+{
+    Location {
+        source: 0,
+        index: 0,
+    }
+}
+
 pub fn numbers(refusal: Refusal) -> Numbered
     ensures { result ≡ numbered refusal }
 {
-    let zero = Location {
-        source: 0,
-        index: 0,
-    };
+    let zero = zero_location();
     let (number, location, a, b) = match refusal {
         Refusal::BadLayout(a, b) => (1, zero, i64::from(a), b),
         Refusal::DuplicateName(a, b) => (2, zero, i64::from(a), b),

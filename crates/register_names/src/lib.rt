@@ -53,9 +53,7 @@ impl RegisterNames {
         requires { place < 96 }
         ensures { result ≡ key_of (get_or names place []) }
     {
-        let at = 4 * place;
-        let table = &self.table;
-        u32::from_le_bytes([table[at], table[at + 1], table[at + 2], table[at + 3]])
+        record::word_at(&self.table, 4 * place)
     }
 
     // Returns the name's place in the table.
@@ -94,10 +92,5 @@ fn byte_or_blank(name: &[u8], i: usize) -> u8
 fn key_of(name: &[u8]) -> u32
     ensures { result ≡ key_of name.now }
 {
-    u32::from_le_bytes([
-        byte_or_blank(name, 0),
-        byte_or_blank(name, 1),
-        byte_or_blank(name, 2),
-        byte_or_blank(name, 3),
-    ])
+    u32::from_le_bytes(std::array::from_fn(|i| byte_or_blank(name, i)))
 }

@@ -143,9 +143,7 @@ fn register_at(tables: &Tables, place: &Place<'_>) -> Piece
 fn is_hexadecimal(place: &Place<'_>) -> bool
     ensures { result ≡ starts_hexadecimal place.now.text.now place.now.at }
 {
-    place.text[place.at] == b'0'
-        && place.at + 1 < place.text.len()
-        && place.text[place.at + 1] == b'x'
+    place.text[place.at..].starts_with(b"0x")
 }
 
 fn hexadecimal_at(place: &Place<'_>) -> Piece

@@ -7,14 +7,13 @@ ghost use Rattle.record.specs.Bytes.{le16, part};
 ghost use Rattle.record.specs.Records.{places, first_bad, limit};
 ghost use Rattle.record.specs.Stores.{append};
 ghost use Rattle.names.specs.Owners.{first_owned};
-ghost use Rattle.name_order.specs.Order.{then_by, numbers};
 ghost use Rattle.std.specs.Ordering.{is_eq};
 ghost use Rattle.name_index.specs.Index.{IndexOf};
 ghost use Rattle.labels.specs.Labels.{label_layout, label_repeat};
 ghost use Rattle.labels.specs.Lookup.{most_labels};
 ghost use Rattle.pending.specs.Pendings.{label_of, pending_ok};
 ghost use Rattle.pending.specs.Pendings.{PendingIs};
-ghost use Rattle.label_uses.specs.Uses.{use_order, one_use, key_for, kept_of, is_known, known_order};
+ghost use Rattle.label_uses.specs.Uses.{use_order, one_use, key_for, kept_of};
 ghost use Rattle.label_uses.specs.UseBytes.{use_bytes};
 ghost use Rattle.label_uses.specs.ReadUse.{key_with, key_read, owner_place};
 ghost use Rattle.use_adding.specs.Adding.{AnIndex, AnIndexWithRoom, FindsIn, UseAt, AddsTo, SizeWith, grown_at};
@@ -193,19 +192,12 @@ pub fn key_of<'a, L: Labels>(labels: &L, source: u32, name: &'a [u8]) -> Key<'a>
     Key::new(name, standing_of(labels, source, name))
 }
 
-// Whether two standings are equal in the order of the uses.
-fn same(a: Standing, b: Standing) -> bool
-    ensures { result ≡ is_eq (then_by (known_order (is_known a) (is_known b)) (numbers (kept_of a) (kept_of b))) }
-{
-    a == b
-}
-
 // Whether the key's name, used in this source, stands for what the key says.
 #[tactic(auto, using(label_uses::proofs::UseOrderLaws::standings_decide))]
 pub fn stands<L: Labels>(labels: &L, source: u32, key: &Key<'_>) -> bool
     ensures { result ≡ is_eq (use_order key.now (key_for (L.list labels.now) source key.now.name)) }
 {
-    same(key.standing, standing_of(labels, source, key.name))
+    key.standing == standing_of(labels, source, key.name)
 }
 
 // Returns the name in the record at `at`.

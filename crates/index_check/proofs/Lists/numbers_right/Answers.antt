@@ -66,7 +66,7 @@ source_of-requires c =
     let i = c.self.invariant in
     let pending = c.self.inside.pending.now in
     let ps = c.self.inside.places.now in
-    rw c.widened-place.ensures (pending_is 16 pending (get_or ps c.half_at-n.result 0)
+    rw c.from-place.ensures (pending_is 16 pending (get_or ps c.half_at-n.result 0)
     (good_at (pending_ok 16 pending) ps (subst (λ ps. first_bad (pending_ok 16 pending) ps ≡ None) (sym i.places_are) i.kept) c.half_at-n.result c.if-n-places.false))
 
 pub returns-in_default : goal.returns-in_default
@@ -75,8 +75,8 @@ returns-in_default c =
     let v = a.self.now in
     let l = c.loop-i in
     let k = (goal.at.returns-in_default c).After-half_at-n in
-    wrong k (not_named v.labels v.pending c.self.inside.places.now (are k) a.index.now (a.at + 7 + 2 * l.i) l.least c.half_at-n.result c.widened-place.result c.half_at-n.ensures.0 c.widened-place.ensures c.key_at-key.result
-    (sym (c.in_default.ensures ∙ source_is k c.name.result.now c.widened-place.result c.name.ensures)))
+    wrong k (not_named v.labels v.pending c.self.inside.places.now (are k) a.index.now (a.at + 7 + 2 * l.i) l.least c.half_at-n.result c.from-place.result c.half_at-n.ensures.0 c.from-place.ensures c.key_at-key.result
+    (sym (c.in_default.ensures ∙ source_is k c.name.result.now c.from-place.result c.name.ensures)))
 
 pub returns-then-not-still_stands : goal.returns-then-not-still_stands
 returns-then-not-still_stands c =
@@ -84,8 +84,8 @@ returns-then-not-still_stands c =
     let v = a.self.now in
     let l = c.loop-i in
     let k = (goal.at.returns-then-not-still_stands c).After-half_at-n in
-    wrong k (not_standing v.labels v.pending c.self.inside.places.now (are k) a.index.now (a.at + 7 + 2 * l.i) l.least c.half_at-n.result c.widened-place.result c.half_at-n.ensures.0 c.widened-place.ensures c.key_at-key.result c.in-Some.source
-    (sym (c.in-Some.ensures ∙ source_is k c.name.result.now c.widened-place.result c.name.ensures)) c.if-not-still_stands.ensures)
+    wrong k (not_standing v.labels v.pending c.self.inside.places.now (are k) a.index.now (a.at + 7 + 2 * l.i) l.least c.half_at-n.result c.from-place.result c.half_at-n.ensures.0 c.from-place.ensures c.key_at-key.result c.in-Some.source
+    (sym (c.in-Some.ensures ∙ source_is k c.name.result.now c.from-place.result c.name.ensures)) c.if-not-still_stands.ensures)
 
 pub still_stands-requires : goal.still_stands-requires
 still_stands-requires c = stands_some c.args.self.now.labels c.key_at-key.result.name c.key_at-key.result c.loop-i.last c.loop-i.invariant.held
@@ -103,8 +103,8 @@ loop-i-preserved c =
     let source = c.in-Some.source in
     let n = c.half_at-n.result in
     let next = counting_next v.labels v.pending a.index.now a.at key left from l.least (is_some l.last) (unwrap_or l.last 0) l.invariant n source (omega (arith, c.loop-i-test.true)) c.half_at-n.ensures.0
-    (right_one v.labels v.pending c.self.inside.places.now (are at) a.index.now from l.least n c.widened-place.result c.half_at-n.ensures.0 c.widened-place.ensures key source c.if-n-least.false c.if-n-places.false
-    (sym (c.in-Some.ensures ∙ source_is at c.name.result.now c.widened-place.result c.name.ensures)) k)
+    (right_one v.labels v.pending c.self.inside.places.now (are at) a.index.now from l.least n c.from-place.result c.half_at-n.ensures.0 c.from-place.ensures key source c.if-n-least.false c.if-n-places.false
+    (sym (c.in-Some.ensures ∙ source_is at c.name.result.now c.from-place.result c.name.ensures)) k)
     k in
     let e : left - 1 ≡ c.half_at-count.result - (l.i + 1) = omega arith in
     let f : from + 2 ≡ a.at + 7 + 2 * (l.i + 1) = omega arith in
