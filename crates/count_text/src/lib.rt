@@ -23,7 +23,7 @@ pub fn count_forms<const N: usize>(input: &[u8], out: &mut Text<N>)
             out.push_number_line(b"lui", counts.lui);
             out.push_number_line(b"both", counts.both);
         }
-        Err(refusal) => out.push_refusal(refusal::numbers(refusal)),
+        Err(refusal) => out.push_refusal(refusal),
     }
 }
 

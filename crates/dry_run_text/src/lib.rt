@@ -45,7 +45,7 @@ pub fn dry_run(input: &[u8], out: &mut Printed)
     out.clear();
     match run.answer {
         Ok(Stopped { reason, steps }) => put_run(out, reason, steps, run.machine),
-        Err(refusal) => out.push_refusal(refusal::numbers(refusal)),
+        Err(refusal) => out.push_refusal(refusal),
     }
 }
 

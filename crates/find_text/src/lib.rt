@@ -41,7 +41,7 @@ pub fn find_label<const N: usize>(input: &[u8], out: &mut Text<N>)
     out.clear();
     match label_finder::find_label(input::list_of(input, 0), input::list_of(input, 1), source) {
         Ok(found) => put_found(out, found),
-        Err(refusal) => out.push_refusal(refusal::numbers(refusal)),
+        Err(refusal) => out.push_refusal(refusal),
     }
 }
 

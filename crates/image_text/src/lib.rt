@@ -72,7 +72,7 @@ fn put_input(job: Job, input: &[u8], out: &mut Printed)
     out.clear();
     match binary_builder::build_for(job, labels, entry, &mut *regions, pending) {
         Ok(address) => put_image(out, address, &Regions::new(&*regions)),
-        Err(refusal) => out.push_refusal(refusal::numbers(refusal)),
+        Err(refusal) => out.push_refusal(refusal),
     }
 }
 

@@ -32,7 +32,7 @@ pub fn make_index(input: &[u8], out: &mut Printed)
     out.clear();
     match index_maker::make_index(pending, fill, labels, &mut *index) {
         Ok(count) => put_made(out, count, &*index),
-        Err(refusal) => out.push_refusal(refusal::numbers(refusal)),
+        Err(refusal) => out.push_refusal(refusal),
     }
 }
 

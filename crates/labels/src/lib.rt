@@ -101,11 +101,7 @@ impl<'a> LabelTable<'a> {
     }
 
     // Makes the table of a list that keeps its layout, with its index in `order`, or refuses a name that is repeated. `spare` is scratch.
-    pub fn make(
-        labels: &'a [u8],
-        order: &'a mut [u16],
-        spare: &mut [u16],
-    ) -> Result<Self, Refusal>
+    pub fn make(labels: &'a [u8], order: &'a mut [u16], spare: &mut [u16]) -> Result<Self, Refusal>
         requires labels_value { label_layout labels.now ≡ None }
         requires places_in_bounds { (length (places labels.now) ≤ length order.old) × (length (places labels.now) ≤ length spare.old) }
         ensures { TableOf labels.now result }

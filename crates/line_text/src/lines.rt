@@ -17,7 +17,7 @@ pub fn put_answer<const N: usize>(out: &mut Text<N>, answer: EmitAnswer)
     match answer {
         Ok(done) => out.push_number_line(b"position", done.position as u64),
         Err(refused) => {
-            out.push_refusal(refusal::numbers(refused.refusal));
+            out.push_refusal(refused.refusal);
             out.push_number_line(b"position", refused.position as u64);
         }
     }

@@ -47,13 +47,18 @@ fn put_state(state: &mut [u8], counts: PatchCounts)
     linked_answer::store_words(state, &words[..]);
 }
 
-// Returns the six words of a step's answer: a is 0 if it patched a pending, 1 if none was left. A refusal has neither a count nor an entry.
+// What a step's answer says in a: that it patched a pending, or that none was left.
+const PATCHED: u32 = 0;
+
+const ENDED: u32 = 1;
+
+// Returns the six words of a step's answer. A refusal has neither a count nor an entry.
 fn step_words(answer: StepAnswer) -> [u32; 6]
     ensures { result ≡ step_words answer }
 {
     match answer {
-        Ok(Progress::Patched(patches)) => linked_answer::done_words(0, patches),
-        Ok(Progress::Ended(entry)) => linked_answer::done_words(1, entry),
+        Ok(Progress::Patched(patches)) => linked_answer::done_words(PATCHED, patches),
+        Ok(Progress::Ended(entry)) => linked_answer::done_words(ENDED, entry),
         Err(refusal) => linked_answer::refusal_words(refusal, 0),
     }
 }

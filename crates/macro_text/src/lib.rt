@@ -22,7 +22,7 @@ pub fn expand(input: &[u8], out: &mut Printed)
     out.clear();
     match write_out::write_out(tokens, macros, &mut *written) {
         Ok(fill) => token_text::put_tokens(out, &written[..fill as usize]),
-        Err(refusal) => out.push_refusal(refusal::numbers(refusal)),
+        Err(refusal) => out.push_refusal(refusal),
     }
 }
 

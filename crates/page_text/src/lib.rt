@@ -34,7 +34,7 @@ pub fn page(input: &[u8], out: &mut Printed)
     out.clear();
     match page_core::lay_out(labels, regions, &mut *page) {
         Ok(length) => out.push(&page[..length as usize]),
-        Err(refusal) => out.push_refusal(refusal::numbers(refusal)),
+        Err(refusal) => out.push_refusal(refusal),
     }
 }
 

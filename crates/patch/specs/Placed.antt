@@ -1,11 +1,10 @@
 -- A patch's destination from the place of its label, so that the label is looked up only once (document 02, P13). Assumes nothing.
 use Rattle.std.specs.Prelude.{ℕ, ◌+◌, true, false, List, ◌==◌, ◌≤◌, length, ◌≢◌, None, Option, Some}
-use Rattle.field.specs.Wrap.{wrap32}
 use Rattle.record.specs.Bytes.{le32, part}
 use Rattle.labels.specs.Labels.{labelled}
 use Rattle.address_label.specs.declared.AddressLabel.{AddressLabel}
 use Rattle.address_label.specs.declared.AddressLabel.TheVariants.{Constant, Label}
-use Rattle.patch.specs.Patches.{plus_offset}
+use Rattle.patch.specs.Patches.{given_destination}
 
 -- stands for no label: in a list of 65,536 bytes no whole record begins there
 abbrev pub no_place : ℕ
@@ -24,8 +23,7 @@ abbrev pub address_at : List ℕ → ℕ → Option ℕ
 address_at labels place = elim (place == no_place) [ true ↦ None | false ↦ Some (le32 labels (place + 4)) ]
 
 unfoldable pub placed_destination : List ℕ → AddressLabel → (place : ℕ) → Option ℕ
-placed_destination labels (Constant value) place = Some (wrap32 value)
-placed_destination labels (Label name) place = plus_offset (address_at labels place) name.offset
+placed_destination labels label place = given_destination label (address_at labels place)
 
 -- the place is `no_place`, or a label of at least nine bytes fits there
 abbrev pub Placed : List ℕ → ℕ → Type 0

@@ -4,7 +4,7 @@
 ghost use Rattle.std.specs.Prelude.{◌≡◌, ◌+◌, ◌^◌, ◌<◌, ◌≤◌, ◌&&◌, length, nat_le};
 ghost use Rattle.labels.specs.Labels.{table_of};
 ghost use Rattle.jobs.specs.Jobs.{most_back, most_ahead};
-ghost use Rattle.patch.specs.Patches.{destination, given_destination, name_end, in_range, patched_word, name_location, address_or, patch_stop, write_word};
+ghost use Rattle.patch.specs.Patches.{destination, given_destination, name_end, after, in_range, patched_word, name_location, address_or, patch_stop, write_word};
 ghost use Rattle.patch.specs.Placed.{label_place, address_at, placed_destination};
 ghost use Rattle.patch.specs.Placed.{Placed};
 
@@ -39,9 +39,7 @@ pub fn get_address(label: AddressLabel, list: &[u8], labels: &LabelTable<'_>) ->
     let address = match label {
         AddressLabel::Constant(_) => None,
         AddressLabel::Label(name) => {
-            let at = name.name_at;
-            let end = at + name.name_len;
-            let found = labels.get(name.location.source, &list[at..end]);
+            let found = labels.get(name.location.source, address_label::name_of(list, label));
             found.address
         }
     };
@@ -57,9 +55,7 @@ pub fn label_place(label: AddressLabel, list: &[u8], labels: &LabelTable<'_>) ->
     match label {
         AddressLabel::Constant(_) => NO_PLACE,
         AddressLabel::Label(name) => {
-            let at = name.name_at;
-            let end = at + name.name_len;
-            let found = labels.find(name.location.source, &list[at..end]);
+            let found = labels.find(name.location.source, address_label::name_of(list, label));
             found.map_or(NO_PLACE, |place| place as u16)
         }
     }
@@ -105,12 +101,22 @@ struct Span {
     destination: u32,
 }
 
-// Whether a branch or a jump at pc reaches the destination.
+impl Span {
+    // Returns "pc plus 4".
+    fn after(self) -> u32
+        ensures { result ≡ after self.pc }
+    {
+        self.pc.wrapping_add(4)
+    }
+}
+
+// Whether a branch or a jump reaches its destination.
 #[tactic(auto, unfolding(crate::specs::Patches::in_range, crate::specs::Patches::branch_in_range, crate::specs::Patches::jump_in_range))]
-fn in_range(job: Job, kind: InstructionLabelKind, pc: u32, destination: u32) -> bool
-    ensures { result ≡ in_range job kind pc destination }
+fn in_range(job: Job, kind: InstructionLabelKind, span: Span) -> bool
+    ensures { result ≡ in_range job kind span.pc span.destination }
 {
-    let after = pc.wrapping_add(4);
+    let destination = span.destination;
+    let after = span.after();
     match kind {
         InstructionLabelKind::Branch => branch_in_range(job, after / 4, destination / 4),
         InstructionLabelKind::Jump => destination / 0x1000_0000 == after / 0x1000_0000,
@@ -132,7 +138,7 @@ fn add_label(instruction: u32, kind: InstructionLabelKind, span: Span) -> u32
     ensures { result ≡ patched_word kind span.pc span.destination instruction }
 {
     let destination = span.destination;
-    let after = span.pc.wrapping_add(4);
+    let after = span.after();
     match kind {
         InstructionLabelKind::Branch => {
             instruction / 0x1_0000 * 0x1_0000
@@ -161,7 +167,7 @@ pub fn check_pending(
     }
     let pc = region.address.wrapping_add(patch.offset);
     let destination = address.ok_or(Refusal::UnknownLabel(name_location(patch.label)))?;
-    if !in_range(job, patch.kind, pc, destination) {
+    if !in_range(job, patch.kind, Span { pc, destination }) {
         return Err(Refusal::JumpOutOfRange(patch.location, destination, pc));
     }
     Ok(())

@@ -35,7 +35,7 @@ fn is_listed(regions: &Regions<'_>, region: u16) -> bool
     if region == emit_outcome::NO_REGION {
         return true;
     }
-    (region as usize) < regions.count()
+    usize::from(region) < regions.count()
 }
 
 // Returns where the first `fill` bytes break the layout of a region list, or None. If the selected region is not listed, that is 0.
@@ -45,13 +45,10 @@ fn check_listed(buffer: &[u8], fill: usize, region: u16) -> Option<usize>
     if !breakpoints::region_number_ok(region) {
         return Some(0);
     }
-    patching_checks::check_regions(buffer, fill).or_else(|| {
-        if is_listed(&Regions::new(&buffer[..fill]), region) {
-            None
-        } else {
-            Some(0)
-        }
-    })
+    patching_checks::check_regions(buffer, fill).or_else(|| (!is_listed(
+        &Regions::new(&buffer[..fill]),
+        region,
+    )).then_some(0))
 }
 
 // Refusal 1: the first list that breaks its layout.
@@ -94,8 +91,8 @@ fn is_late(counts: PatchCounts, regions: &[u8], pending: &[u8], region: u16) -> 
     let list = &pending[..filled];
     binary_builder::order_patches(list, &mut order, &mut spare);
     let last = counts.patches as usize - 1;
-    let patch = pending::read_pending(list, record::widened(order[last]));
-    (region as usize) < patch.region
+    let patch = pending::read_pending(list, usize::from(order[last]));
+    usize::from(region) < patch.region
 }
 
 // Returns the line's answer with no region selected: always a refusal, 10 at the latest. Nothing changes.
@@ -209,8 +206,7 @@ fn grow(regions: &mut [u8], counts: PatchCounts, found: Region, filled: FillCoun
         regions: counts.regions + (filled.data_len - found.size as u32),
         pending: filled.pending,
         breakpoints: filled.breakpoints,
-        patches: counts.patches,
-        state: counts.state,
+        ..counts
     }
 }
 
@@ -228,7 +224,7 @@ fn emit_listed(
         result.answer result.counts regions.new pending.new breakpoints.new }
 {
     let fill = counts.regions as usize;
-    let found = Regions::new(&regions[..fill]).region(line.region as usize);
+    let found = Regions::new(&regions[..fill]).region(usize::from(line.region));
     let out = emit_found(line, counts, &mut *regions, pending, breakpoints, found);
     let answer = out.answer;
     let filled = out.counts;
@@ -310,11 +306,9 @@ pub fn patch_line(
         position,
         region,
     };
-    match checked_line(line, counts, regions, pending, breakpoints) {
-        Ok(lined) => lined,
-        Err(refusal) => Lined {
-            answer: Err(RefusedLine { refusal, position }),
-            counts,
-        },
-    }
+    let made = checked_line(line, counts, regions, pending, breakpoints);
+    made.unwrap_or_else(|refusal| Lined {
+        answer: Err(RefusedLine { refusal, position }),
+        counts,
+    })
 }

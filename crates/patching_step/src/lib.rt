@@ -45,7 +45,7 @@ fn put_back(regions: &mut [u8], fill: usize, pending: &[u8], order: &[u16], kept
 {
     let words = kept[..4 * order.len()].rchunks(4);
     for (&at, bytes) in order.iter().rev().zip(words) {
-        put_back_one(&mut *regions, fill, pending, record::widened(at), bytes);
+        put_back_one(&mut *regions, fill, pending, usize::from(at), bytes);
     }
 }
 
@@ -54,11 +54,9 @@ fn now_at(counts: PatchCounts, patches: u32, state: u32) -> PatchCounts
     ensures { result ≡ now_at counts patches state }
 {
     PatchCounts {
-        regions: counts.regions,
-        pending: counts.pending,
-        breakpoints: counts.breakpoints,
         patches,
         state,
+        ..counts
     }
 }
 
@@ -82,7 +80,7 @@ fn patch_next(
     let filled = counts.pending as usize;
     let done = counts.patches as usize;
     let list = &pending[..filled];
-    let patch = pending::read_pending(list, record::widened(order[done]));
+    let patch = pending::read_pending(list, usize::from(order[done]));
     let region = Regions::new(&regions[..fill]).region(patch.region);
     let label = patch.label;
     let address = patch::get_address(label, list, setup.labels);
@@ -244,11 +242,9 @@ pub fn patch_step(
     ensures { StepIs job (table_of labels.now) entry.now regions.old pending.now kept.old counts
         result.answer result.counts regions.new kept.new }
 {
-    match checked_step(job, labels, entry, counts, regions, pending, kept) {
-        Ok(stepped) => stepped,
-        Err(refusal) => Stepped {
-            answer: Err(refusal),
-            counts,
-        },
-    }
+    let made = checked_step(job, labels, entry, counts, regions, pending, kept);
+    made.unwrap_or_else(|refusal| Stepped {
+        answer: Err(refusal),
+        counts,
+    })
 }

@@ -23,7 +23,7 @@ pub(crate) fn put_step(out: &mut Printed, answer: StepAnswer)
     match answer {
         Ok(Progress::Patched(count)) => out.push_number_line(b"patched", count as u64),
         Ok(Progress::Ended(address)) => put_ended(out, address),
-        Err(refusal) => out.push_refusal(refusal::numbers(refusal)),
+        Err(refusal) => out.push_refusal(refusal),
     }
 }
 

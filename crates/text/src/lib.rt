@@ -3,10 +3,11 @@
 
 ghost use Rattle.std.specs.Prelude.{◌≡◌, [], ◌∷◌, ◌++◌, ◌+◌, ◌^◌, ◌≤◌, ◌<◌, length};
 ghost use Rattle.io.specs.Digits.{last_digits};
+ghost use Rattle.refusal.specs.Numbers.{numbered};
 ghost use Rattle.text.specs.Text.{decimal, field, last_field, signed_field, hex_bytes, word_text, location_fields, refused_line};
 
 use record::Location;
-use refusal::Numbered;
+use refusal::Refusal;
 use std::marker::Model;
 
 mod lent;
@@ -175,10 +176,11 @@ impl<const N: usize> Text<N> {
 
     // Appends the line of a refusal: "refused" and number, source, index, a, b.
     #[tactic(auto, using(crate::proofs::TextLaws::refused_length), unfolding(crate::specs::Text::refused_line))]
-    pub fn push_refusal(&mut self, n: Numbered)
-        requires { length self.old + length (refused_line n) ≤ N }
-        ensures { self.new ≡ self.old ++ refused_line n }
+    pub fn push_refusal(&mut self, refusal: Refusal)
+        requires { length self.old + length (refused_line (numbered refusal)) ≤ N }
+        ensures { self.new ≡ self.old ++ refused_line (numbered refusal) }
     {
+        let n = refusal::numbers(refusal);
         self.push(b"refused");
         self.push_field(n.number as u64);
         self.push_location(n.location);

@@ -39,7 +39,7 @@ pub fn read_text(input: &[u8], out: &mut Printed)
     out.clear();
     match text_reader::read_text(text_of(input), source, &mut *tokens) {
         Ok(fill) => put_tokens(out, &tokens[..fill as usize]),
-        Err(refusal) => out.push_refusal(refusal::numbers(refusal)),
+        Err(refusal) => out.push_refusal(refusal),
     }
 }
 

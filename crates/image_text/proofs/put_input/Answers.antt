@@ -35,5 +35,5 @@ returns-in-Ok c =
 
 pub returns-in-Err : goal.returns-in-Err
 returns-in-Err c =
-    rw (c.push_refusal.ensures, c.clear.ensures, c.numbers.ensures)
+    rw (c.push_refusal.ensures, c.clear.ensures)
     (ap (λ (r : Result ℕ Refusal). outcome_text r c.build_for.new.regions) (sym c.in-Err.is) ∙ printed (goal.at.returns-in-Err c).After-build_for)

@@ -51,4 +51,4 @@ pub returns-in-Ok : goal.returns-in-Ok
 returns-in-Ok c = rw (c.push.ensures, c.clear.ensures) (sym (ap outcome_text c.in-Ok.ensures) ∙ printed (goal.at.returns-in-Ok c).After-lay_out)
 
 pub returns-in-Err : goal.returns-in-Err
-returns-in-Err c = rw (c.push_refusal.ensures, c.clear.ensures, c.numbers.ensures) (sym (ap outcome_text c.in-Err.ensures) ∙ printed (goal.at.returns-in-Err c).After-lay_out)
+returns-in-Err c = rw (c.push_refusal.ensures, c.clear.ensures) (sym (ap outcome_text c.in-Err.ensures) ∙ printed (goal.at.returns-in-Err c).After-lay_out)

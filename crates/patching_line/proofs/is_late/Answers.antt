@@ -16,11 +16,11 @@ pub read_pending-patch-requires : goal.read_pending-patch-requires
 read_pending-patch-requires c =
     let a = c.args in
     let o = c.order_patches-last in
-    rw c.widened.ensures (last_pending a.regions.now a.pending.now a.counts a.region c.requires (omega arith) o.result o.new.order o.ensures)
+    rw c.from.ensures (last_pending a.regions.now a.pending.now a.counts a.region c.requires (omega arith) o.result o.new.order o.ensures)
 
 pub returns : goal.returns
 returns c =
     let a = c.args in
     let o = c.order_patches-last in
     late_by a.regions.now a.pending.now a.counts a.region c.requires (omega arith) o.result o.new.order o.ensures c.if-counts-ne-RUNNING.false _
-    (c.read_pending-patch.ensures ∙ ap (pending_at (filled_pendings a.pending.now a.counts)) c.widened.ensures)
+    (c.read_pending-patch.ensures ∙ ap (pending_at (filled_pendings a.pending.now a.counts)) c.from.ensures)

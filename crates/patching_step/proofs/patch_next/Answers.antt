@@ -34,15 +34,15 @@ passed job labels {regions} {pending} {kept} {order} {counts} {at} {q} {g} {addr
     (omega (arith, w, length-take-le counts.regions regions f.within), f.within, omega (arith, s), omega (arith, s))
 
 pub read_pending-patch-requires : goal.read_pending-patch-requires
-read_pending-patch-requires c = rw c.widened.ensures (patch_at _ _ _ _ c.requires.lists _ c.requires.in_order.0 _ c.requires.in_order.1).pending_is
+read_pending-patch-requires c = rw c.from.ensures (patch_at _ _ _ _ c.requires.lists _ c.requires.in_order.0 _ c.requires.in_order.1).pending_is
 
 pub region-region-requires : goal.region-region-requires
 region-region-requires c =
-    rw (c.new.ensures, c.read_pending-patch.ensures, c.widened.ensures) (patch_at _ _ _ _ c.requires.lists _ c.requires.in_order.0 _ c.requires.in_order.1).region_is
+    rw (c.new.ensures, c.read_pending-patch.ensures, c.from.ensures) (patch_at _ _ _ _ c.requires.lists _ c.requires.in_order.0 _ c.requires.in_order.1).region_is
 
 pub get_address-address-requires : goal.get_address-address-requires
 get_address-address-requires c =
-    rw (c.read_pending-patch.ensures, c.widened.ensures) (pending_name _ _ (patch_at _ _ _ _ c.requires.lists _ c.requires.in_order.0 _ c.requires.in_order.1).pending_is)
+    rw (c.read_pending-patch.ensures, c.from.ensures) (pending_name _ _ (patch_at _ _ _ _ c.requires.lists _ c.requires.in_order.0 _ c.requires.in_order.1).pending_is)
 
 pub put_back-requires : goal.put_back-requires
 put_back-requires c =
@@ -52,7 +52,7 @@ pub overflow_add-slot : goal.overflow_add-slot
 overflow_add-slot c =
     omega (
       arith,
-      passed c.args.setup.job (table_of c.args.setup.labels.now.list) c.requires.lists c.requires.in_order.0 c.requires.in_order.1 c.widened.ensures c.read_pending-patch.ensures (rw c.new.ensures at c.region-region.ensures)
+      passed c.args.setup.job (table_of c.args.setup.labels.now.list) c.requires.lists c.requires.in_order.0 c.requires.in_order.1 c.from.ensures c.read_pending-patch.ensures (rw c.new.ensures at c.region-region.ensures)
           c.get_address-address.ensures c.check_pending.ensures c.in-Ok.is,
     )
 
@@ -60,13 +60,13 @@ pub overflow_add-slot-in-Ok : goal.overflow_add-slot-in-Ok
 overflow_add-slot-in-Ok c =
     omega (
       arith,
-      passed c.args.setup.job (table_of c.args.setup.labels.now.list) c.requires.lists c.requires.in_order.0 c.requires.in_order.1 c.widened.ensures c.read_pending-patch.ensures (rw c.new.ensures at c.region-region.ensures)
+      passed c.args.setup.job (table_of c.args.setup.labels.now.list) c.requires.lists c.requires.in_order.0 c.requires.in_order.1 c.from.ensures c.read_pending-patch.ensures (rw c.new.ensures at c.region-region.ensures)
           c.get_address-address.ensures c.check_pending.ensures c.in-Ok.is,
     )
 
 pub slice_bounds-put_all-end : goal.slice_bounds-put_all-end
 slice_bounds-put_all-end c =
-    let p = passed c.args.setup.job (table_of c.args.setup.labels.now.list) c.requires.lists c.requires.in_order.0 c.requires.in_order.1 c.widened.ensures c.read_pending-patch.ensures (rw c.new.ensures at c.region-region.ensures)
+    let p = passed c.args.setup.job (table_of c.args.setup.labels.now.list) c.requires.lists c.requires.in_order.0 c.requires.in_order.1 c.from.ensures c.read_pending-patch.ensures (rw c.new.ensures at c.region-region.ensures)
     c.get_address-address.ensures c.check_pending.ensures c.in-Ok.is in
     search rules
 
@@ -74,7 +74,7 @@ pub put_all-requires : goal.put_all-requires
 put_all-requires c =
     omega (
       arith,
-      passed c.args.setup.job (table_of c.args.setup.labels.now.list) c.requires.lists c.requires.in_order.0 c.requires.in_order.1 c.widened.ensures c.read_pending-patch.ensures (rw c.new.ensures at c.region-region.ensures)
+      passed c.args.setup.job (table_of c.args.setup.labels.now.list) c.requires.lists c.requires.in_order.0 c.requires.in_order.1 c.from.ensures c.read_pending-patch.ensures (rw c.new.ensures at c.region-region.ensures)
           c.get_address-address.ensures c.check_pending.ensures c.in-Ok.is,
       length-take {A = ℕ},
     )
@@ -83,7 +83,7 @@ pub write_pending-requires : goal.write_pending-requires
 write_pending-requires c =
     omega (
       arith,
-      passed c.args.setup.job (table_of c.args.setup.labels.now.list) c.requires.lists c.requires.in_order.0 c.requires.in_order.1 c.widened.ensures c.read_pending-patch.ensures (rw c.new.ensures at c.region-region.ensures)
+      passed c.args.setup.job (table_of c.args.setup.labels.now.list) c.requires.lists c.requires.in_order.0 c.requires.in_order.1 c.from.ensures c.read_pending-patch.ensures (rw c.new.ensures at c.region-region.ensures)
           c.get_address-address.ensures c.check_pending.ensures c.in-Ok.is,
     )
 
@@ -91,7 +91,7 @@ pub overflow_add-result : goal.overflow_add-result
 overflow_add-result c =
     omega (
       arith,
-      passed c.args.setup.job (table_of c.args.setup.labels.now.list) c.requires.lists c.requires.in_order.0 c.requires.in_order.1 c.widened.ensures c.read_pending-patch.ensures (rw c.new.ensures at c.region-region.ensures)
+      passed c.args.setup.job (table_of c.args.setup.labels.now.list) c.requires.lists c.requires.in_order.0 c.requires.in_order.1 c.from.ensures c.read_pending-patch.ensures (rw c.new.ensures at c.region-region.ensures)
           c.get_address-address.ensures c.check_pending.ensures c.in-Ok.is,
     )
 
@@ -99,14 +99,14 @@ pub overflow_add-counts : goal.overflow_add-counts
 overflow_add-counts c =
     omega (
       arith,
-      passed c.args.setup.job (table_of c.args.setup.labels.now.list) c.requires.lists c.requires.in_order.0 c.requires.in_order.1 c.widened.ensures c.read_pending-patch.ensures (rw c.new.ensures at c.region-region.ensures)
+      passed c.args.setup.job (table_of c.args.setup.labels.now.list) c.requires.lists c.requires.in_order.0 c.requires.in_order.1 c.from.ensures c.read_pending-patch.ensures (rw c.new.ensures at c.region-region.ensures)
           c.get_address-address.ensures c.check_pending.ensures c.in-Ok.is,
     )
 
 pub returns-in-Err : goal.returns-in-Err
 returns-in-Err c =
     let a = c.args in
-    let read = c.read_pending-patch.ensures ∙ ap (pending_at (filled_pendings a.pending.now a.counts)) c.widened.ensures in
+    let read = c.read_pending-patch.ensures ∙ ap (pending_at (filled_pendings a.pending.now a.counts)) c.from.ensures in
     next_stops a.setup.job (table_of a.setup.labels.now.list) a.regions.now a.pending.now a.kept.now a.counts (get_or a.order.now a.counts.patches 0) c.read_pending-patch.result
     c.region-region.result c.get_address-address.result read (rw c.new.ensures at c.region-region.ensures) c.get_address-address.ensures a.order.now c.requires.in_order.0 _
     c.check_pending.result c.check_pending.ensures c.in-Err.is _ c.put_back.ensures _ c.now_at.ensures
@@ -114,7 +114,7 @@ returns-in-Err c =
 pub returns-in-Ok : goal.returns-in-Ok
 returns-in-Ok c =
     let a = c.args in
-    let read = c.read_pending-patch.ensures ∙ ap (pending_at (filled_pendings a.pending.now a.counts)) c.widened.ensures in
+    let read = c.read_pending-patch.ensures ∙ ap (pending_at (filled_pendings a.pending.now a.counts)) c.from.ensures in
     let i = c.region-region.result.start + c.read_pending-patch.result.offset in
     next_passes a.setup.job (table_of a.setup.labels.now.list) a.regions.now a.pending.now a.kept.now a.counts (get_or a.order.now a.counts.patches 0) c.read_pending-patch.result
     c.region-region.result c.get_address-address.result read (rw c.new.ensures at c.region-region.ensures) c.get_address-address.ensures c.check_pending.result c.check_pending.ensures

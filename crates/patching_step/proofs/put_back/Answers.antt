@@ -43,7 +43,7 @@ put_back_one-requires c =
     let k = (goal.at.put_back_one-requires c).In-Some in
     let t = last k in
     let u = undoing k in
-    (turn_filled _ _ _ _ _ _ _ _ u c.requires.1, rw (c.widened.ensures, t.place_is) (turn_patch _ _ _ _ _ _ _ _ u c.requires.1), t.four)
+    (turn_filled _ _ _ _ _ _ _ _ u c.requires.1, rw (c.from.ensures, t.place_is) (turn_patch _ _ _ _ _ _ _ _ u c.requires.1), t.four)
 
 pub loop-at-preserved : goal.loop-at-preserved
 loop-at-preserved c =
@@ -52,7 +52,7 @@ loop-at-preserved c =
     let k = (goal.at.loop-at-preserved c).In-Some in
     let t = last k in
     let b = c.put_back_one.ensures
-    ∙ ap₂ (λ (at : ℕ) (bytes : List ℕ). back_at (take a.fill l.regions) a.pending.now bytes at l.regions) (c.widened.ensures ∙ t.place_is) t.bytes_are in
+    ∙ ap₂ (λ (at : ℕ) (bytes : List ℕ). back_at (take a.fill l.regions) a.pending.now bytes at l.regions) (c.from.ensures ∙ t.place_is) t.bytes_are in
     record {
       four = c.in-Some.ensures.steps.1.0 ∙ l.invariant.four;
       places_left = t.places_left;
