@@ -1,4 +1,4 @@
--- A job by the manual whose line or build has none of the listed points does what the commit does. Assumes nothing.
+-- A job by the manual does what the commit does with every line and build that has none of the listed points. Assumes nothing.
 use Rattle.std.specs.Prelude.{ℕ, ◌+◌, ◌/◌, ◌≤◌, ◌≡◌, refl, ◌⊎◌, true, false, List, ◌++◌, [], Err, Ok}
 use Rattle.std.proofs.Common.{arith, sym, ap, subst, ◌∙◌, inl, inr, ⊎_elim, le-leb}
 use Rattle.instructions.specs.declared.Opcode.{Opcode}
@@ -109,7 +109,7 @@ read_same : (e : Encoding) (op : Opcode) (a : Answer (AskedAll (encoding_wants e
 read_same e op (Got x) h = encoding_same e op x h
 read_same e op (Missed m) h = tt
 
--- every pseudo-instruction but abs has the commit's words
+-- Every pseudo-instruction has the commit's words, except abs.
 same_or_abs : (p : Pseudo) → ((x : AskedAll (pseudo_wants p)) → pseudo_pairs Manual p x ≡ pseudo_pairs Commit p x) ⊎ (p ≡ Abs)
 same_or_abs Nop = inl (λ x. refl)
 same_or_abs Abs = inr refl
@@ -129,7 +129,7 @@ same_or_abs B = inl (λ x. refl)
 same_or_abs Subi = inl (λ x. refl)
 same_or_abs Subiu = inl (λ x. refl)
 
--- abs has three words without labels in either job, so the same room stops it
+-- Both jobs have three words without labels for abs, so lack of room stops both alike.
 abs_same : (c : Call) → IsRefused (call_line c (pseudo_line Commit Abs (tokens c.token_list) (start_of c))).answer
     → call_line c (pseudo_line Manual Abs (tokens c.token_list) (start_of c)) ≡ call_line c (pseudo_line Commit Abs (tokens c.token_list) (start_of c))
 unfolding pseudo_line line_outcome room_stop
@@ -151,7 +151,7 @@ abs_same c h = go (read_operands (pseudo_wants Abs) (tokens c.token_list) (start
     go (Got x) h = stopped x (room_stop c.token_list (mnemonic_location c.mnemonic) c.numbers c.lent (pseudo_pairs Commit Abs x)) h
     go (Missed m) h = refl
 
--- what the commit answers where the lists have no fault
+-- If the lists have no fault, the line decides what the commit answers.
 commit_line : (c : Call) → list_stop c.token_list c.mnemonic c.descriptors c.lent c.numbers.place.region c.numbers.counts ≡ Ok tt
     → emit_outcome Commit c ≡ line_or_unknown c (call_made Commit c)
 unfolding emit_outcome
@@ -200,7 +200,7 @@ build_as_commit labels regions pending unlisted =
     let q = pending_at pending p in
     range_same q.kind (pc_of (region_for regions q) q) dest (λ k. unlisted p dest m k e))
 
--- builds that meet the tender's premises have no listed point
+-- A build that meets the tender's premises has none of the listed points.
 pub premises_as_commit : (labels : LabelTable) (entry regions pending : List ℕ) → Premises Commit labels entry regions pending
     → build_outcome Manual labels entry regions pending ≡ build_outcome Commit labels entry regions pending
 premises_as_commit labels entry regions pending pr =

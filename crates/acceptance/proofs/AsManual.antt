@@ -1,4 +1,4 @@
--- A line for a Release 6 board is the manual's but for the two listed points, and its build is the manual one. Assumes nothing.
+-- A line for a Release 6 board is the manual's, except at the two listed points. Its build is the manual one. Assumes nothing.
 use Rattle.std.specs.Prelude.{ℕ, ◌%◌, ◌≡◌, refl, Bool, true, false, List, leb, eqb, Err, None, Ok, Option, Some}
 use Rattle.std.proofs.Common.{sym, ap, ap₂, ◌∙◌, eqb-true}
 use Rattle.instructions.specs.declared.Opcode.{Opcode}
@@ -47,17 +47,17 @@ use Rattle.acceptance.proofs.AsCommit.{sll31}
 use Rattle.acceptance.proofs.SameOutcome.{meaning_outcome, SameRead, SameMeaning, pseudo_same, line_same, build_same}
 use Rattle.acceptance.specs.Changed.{is_listed27, dropped_or, UnchangedRead, UnchangedMeaning, UnchangedCall, TableCall}
 
--- ---- what a Release 6 job takes: 19 and 20 as in a manual job, then 27, then 9
+-- ---- the order of refusals in a Release 6 job: 19 and 20 as in a manual job, then 27, then 9
 
 abbrev dropping : Bool → Range
 dropping d = elim d [ true ↦ Err Dropped | false ↦ Ok tt ]
 
--- with neither 19 nor 20 nor 9 beside it
+-- If none of 19, 20 and 9 is due, 27 alone decides.
 alone : (d : Bool) → range_then (dropping d) (Ok tt) ≡ dropped_or d (Ok tt)
 alone true = refl
 alone false = refl
 
--- a test of 19 or 20 goes first
+-- 19 and 20 are tested before 27.
 first_then : (fault : Fault) → ((d : Bool) → dropped_or d (Err fault) ≡ Err fault) → (b d : Bool)
     → range_then (within_or fault b) (range_then (dropping d) (Ok tt)) ≡ dropped_or d (range_then (within_or fault b) (Ok tt))
 first_then fault stays true d = alone d
@@ -69,7 +69,7 @@ shift_then = first_then ShiftAmount (λ d. refl)
 code_then : (b d : Bool) → range_then (within_or ConditionCode b) (range_then (dropping d) (Ok tt)) ≡ dropped_or d (range_then (within_or ConditionCode b) (Ok tt))
 code_then = first_then ConditionCode (λ d. refl)
 
--- 9 goes last
+-- 9 is tested after 27.
 then_immediate : (alt : Option Opcode) (c : ℕ) (d : Bool) → range_then (dropping d) (immediate_range alt c) ≡ dropped_or d (immediate_range alt c)
 then_immediate (Some alt) c true = refl
 then_immediate (Some alt) c false = refl
@@ -104,7 +104,7 @@ range_as_manual (FPCond fmt) op x = code_then (leb x.0 7) (is_function 18 op)
 range_as_manual (FPCrossMove flag) op x = alone (is_function 18 op)
 range_as_manual (FPBranch flag) op x = code_then (leb x.0 7) (is_function 18 op)
 
--- ---- the words: but for function 8 under Source the manual's
+-- ---- the words: the manual's, except for function 8 under Source
 
 source_by : (op : Opcode) {b : Bool} → is_function 8 op ≡ b → source_opcode Release6 op ≡ elim b [ true ↦ Func 9 | false ↦ op ]
 source_by op e = ap (λ (b : Bool). elim b [ true ↦ Func 9 | false ↦ op ]) e
@@ -157,7 +157,7 @@ meaning_same c Neither h = tt
 pub line_as_manual : (c : Call) → UnchangedCall c → emit_outcome Release6 c ≡ emit_outcome Manual c
 line_as_manual c h = line_same Release6 Manual c (meaning_same c (meaning c.descriptors (mnemonic_name c.mnemonic)) h)
 
--- ---- a line of the table, its lists without fault
+-- ---- a line of the descriptor table, whose lists have no fault
 
 table_outcome : (job : Job) (c : Call) (p : ℕ) → TableCall c p
     → let i = instruction_at c.descriptors p in
@@ -165,7 +165,7 @@ table_outcome : (job : Job) (c : Call) (p : ℕ) → TableCall c p
 unfolding emit_outcome table_line
 table_outcome job c p h = ap (list_outcome job c) h.lists_pass ∙ ap (meaning_outcome job c) h.found
 
--- a number that its job does not take refuses it, at the position behind its operands
+-- If the job does not take what was read, the line is refused at the position behind its operands.
 pub outside_line : (job : Job) (c : Call) (p : ℕ) → TableCall c p
     → let i = instruction_at c.descriptors p in
     let read = read_operands (encoding_wants i.encoding) (tokens c.token_list) (start_of c) in
@@ -204,7 +204,7 @@ jr_line c p h s f =
     ∙ ap (λ (e : Encoding). call_line c (encoding_line Release6 e i.opcode (tokens c.token_list) (start_of c))) s
     ∙ ap (call_line c) (jr_same i.opcode (tokens c.token_list) (start_of c) f)
 
--- 27, where neither 19 nor 20 is due
+-- Refusal 27, if neither 19 nor 20 is due.
 pub dropped_line : (c : Call) (p : ℕ) → TableCall c p
     → let i = instruction_at c.descriptors p in
     let read = read_operands (encoding_wants i.encoding) (tokens c.token_list) (start_of c) in

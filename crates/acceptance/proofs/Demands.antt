@@ -1,5 +1,5 @@
--- The tender's three demands, and the third of what emit calls leave, as statements about the definitions of an emit call (`emit_outcome`) and of a build (`build_outcome`), which the
--- entries' contracts equate with what they do (`EmittedIs`, `BuildIs`). Assumes nothing.
+-- The tender's three demands, and the third for what emit calls leave. They are stated of the definitions of an emit call (`emit_outcome`) and of a build
+-- (`build_outcome`). The entries' contracts say that the entries do just this (`EmittedIs`, `BuildIs`). Assumes nothing.
 use Rattle.std.specs.Prelude.{ℕ, ◌<◌, ◌≡◌, List, length, Err, Ok, Some}
 use Rattle.std.proofs.Common.{ap}
 use Rattle.jobs.specs.declared.Job.{Job}
@@ -65,14 +65,14 @@ pub record Demand3 : Type 0 where
       → Premises job (table_of labels₁) entry regions pending → Premises job (table_of labels₂) entry regions pending → (SameUsed (table_of labels₁) (table_of labels₂) entry pending → ⊥)
       → image_of (build_outcome job (table_of labels₁) entry regions pending).regions ≡ image_of (build_outcome job (table_of labels₂) entry regions pending).regions
       → (build_outcome job (table_of labels₁) entry regions pending).answer ≡ (build_outcome job (table_of labels₂) entry regions pending).answer → ⊥
-  -- with labels for all files alone a pair is document 01's, whatever the sources of its names
+  -- If all labels are for all files, patches read back whatever the sources of their names are.
   pub straight_back : (job : Job) (labels entry regions pending : List ℕ) → WithoutOwners labels → StraightPremises job (table_of labels) entry regions pending
       → readings (image_of (build_outcome job (table_of labels) entry regions pending).regions) pending ≡ destinations (table_of labels) pending
   pub constants : (c t : ℕ) (g : Registers) → t < 32 → length g ≡ 32 → Loads c t g
   pub lines : (job : Job) (c : Call) (position : ℕ) (loaded : LoadForm) → (emit_outcome job c).answer ≡ done_at position loaded → (l : LoadedConstant) → call_loads c ≡ Some l → ConstantAppended job c l
 
--- 3 again, of what emit calls leave: lines accepted one after the other on empty buffers, of any jobs, in any regions in any order. The premises on
--- patches hold of themselves, and what is still asked a loft sees in its text and in its regions' addresses.
+-- Demand 3 again, for what emit calls leave: lines of any jobs, accepted one after the other on empty buffers, in any regions and in any order.
+-- The premises on patches then hold by themselves. What is still asked, a loft sees in its text and in its regions' addresses.
 abbrev pub Demand3OfLines : Type 0
 Demand3OfLines = (lines : List RoutineLine) (start : Buffers) → AllEmpty start → Each OfBytes lines → AllAccepted lines start → RoutineReads lines start
 

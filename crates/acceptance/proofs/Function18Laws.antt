@@ -1,4 +1,4 @@
--- Every word of opcode 0 and function 18 in an accepted line of a Release 6 job is one of those listed in Function18.antt: by the format of each word.
+-- If an accepted line of a Release 6 job has a word of opcode 0 and function 18, the line is listed in Function18.antt. The format of each word shows it.
 -- Assumes nothing.
 use Rattle.std.specs.Prelude.{ℕ, ◌%◌, ◌≡◌, refl, Bool, true, false, ◌||◌, ◌⊎◌, eqb, Err, None, Ok, Some, Option}
 use Rattle.std.proofs.Common.{arith, sym, ap, ◌∙◌, inl, inr}
@@ -65,7 +65,7 @@ low_in (float_cond opcode fmt ft fs cc function) = function
 low_in (float_cross opcode sub rt fs below) = below
 low_in (float_branch opcode sub cc tf offset) = offset
 
--- a format that a word of opcode 0 and function 18 has only where S is so
+-- A word of this format has opcode 0 and function 18 only if S holds.
 abbrev Only : Type 0 → Format → Type 0
 Only S f = opcode_in f ≡ 0 → low_in f % 64 ≡ 18 → S
 
@@ -278,7 +278,7 @@ own_each (encoded e op) ts i x r h =
     encoding_each e op x b.1 b.0
 own_each (pseudo p) ts i x r h = pseudo_each p x
 
--- an accepted line with such a word is a listed one
+-- If an accepted line has such a word, it is a listed one.
 pub all_listed : (o : Operation) (ts : List Token) (i w : ℕ) → (line_of Release6 o ts i).answer ≡ Made → Memᴰ w (words_of (line_of Release6 o ts i).pairs) → IsMflo w
     → HeldBy o (read_operands (wants_of o) ts i).answer
 all_listed o ts i w made m is =

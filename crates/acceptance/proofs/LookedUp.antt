@@ -1,5 +1,5 @@
--- What a lookup of a label gives, by computation: its place, and how many names were compared. The list has a `loop` for all files, at 0, one
--- of file 1, at 12, one of file 2, at 28, and `main`, at 44. In the index the one for all goes behind the owners'. Assumes nothing.
+-- What a lookup of a label gives, by computation: its place, and how many names were compared. The list has a `loop` for all files at 0, one of
+-- file 1 at 12, one of file 2 at 28, and `main` at 44. In the index the `loop` for all files comes after those of the files. Assumes nothing.
 use Rattle.std.specs.Prelude.{ℕ, List, [], ◌∷◌, ◌≡◌, refl, None, Some}
 use Rattle.record.specs.Bytes.{same_bytes}
 use Rattle.name_order.specs.Order.{order}
@@ -11,14 +11,14 @@ abbrev index : List ℕ
 index = 12 ∷ 28 ∷ 0 ∷ 44 ∷ []
 
 pub record LookedUp : Type 0 where
-  -- for file 1: its own, the third that is compared; for file 2 the second
+  -- File 1 finds its own `loop` with the third comparison, file 2 with the second.
   pub own : looked_up labels₁ index 1 loop ≡ record { named = Some 12; compared = 3; end = 0 }
   pub other_own : looked_up labels₁ index 2 loop ≡ record { named = Some 28; compared = 2; end = 1 }
-  -- for file 3: two are compared, and then the one where the search has ended, which is the one for all
+  -- For file 3 two are compared. Then the one at which the search ended is compared, and it is the one for all files.
   pub ended_there : looked_up labels₁ index 3 loop ≡ record { named = Some 0; compared = 3; end = 2 }
-  -- for file 0 the search ends, after three comparisons, at file 1's, whose name is not compared, and one more finds the one for all
+  -- For file 0 the search ends after three comparisons at file 1's `loop`, whose name is not compared. One more comparison finds the one for all.
   pub searched_again : looked_up labels₁ index 0 loop ≡ record { named = Some 0; compared = 4; end = 2 }
-  -- the name "a": three, and three again
+  -- The name "a" is not in the list: three comparisons, and three again.
   pub nowhere : looked_up labels₁ index 1 (97 ∷ []) ≡ record { named = None; compared = 6; end = 0 }
 
 pub looked_up_lem : LookedUp

@@ -91,10 +91,10 @@ pub record ManualRows : Type 0 where
   -- bc1t 4294967296,x and bc1t 4294967303,x: "tested on the full 64-bit operand"
   pub code_of_0 : LineRefuses Manual (line «bc1t» (float_descriptor 5 8 20 0 1 «bc1t») (integer 4294967296 ++ comma ++ symbol (120 ∷ []))) 20 (pos 0) 0 3
   pub code_of_7 : LineRefuses Manual (line «bc1t» (float_descriptor 5 8 20 0 1 «bc1t») (integer 4294967303 ++ comma ++ symbol (120 ∷ []))) 20 (pos 0) 0 3
-  -- 19 and 20 of mnemonics at another location
+  -- 19 and 20, for mnemonics at another location
   pub sll_there : LineRefusesAt location5_7 Manual (at5_7 «sll» (line «sll» (descriptor 1 0 5 «sll») (register 8 ++ comma ++ register 9 ++ comma ++ integer 32))) 19 (pos 0) 0 5
   pub code_there : LineRefusesAt location5_7 Manual (at5_7 «bc1t» (line «bc1t» (float_descriptor 5 8 20 0 1 «bc1t») (integer 8 ++ comma ++ symbol (120 ∷ [])))) 20 (pos 0) 0 3
-  -- bc1t 8: the label is missed first, refusal 4
+  -- bc1t 8: the missing label is noticed first, refusal 4
   pub code_alone : LineRefuses Manual (line «bc1t» (float_descriptor 5 8 20 0 1 «bc1t») (integer 8)) 4 (pos 0) 0 1
   -- b, pc 00400000 to 00420000
   pub b_forward : build_outcome Manual (table_of []) [] (region 0x00400000 0x10000000) (patch 0 0x00420000) ≡ builds (region 0x00400000 0x10007fff)
@@ -123,7 +123,7 @@ pub record Release6Rows : Type 0 where
   -- Func 18 under FPMove with code 8: 20 goes before 27; under Immediate with 32768: 27 goes before 9
   pub code_first : LineRefuses Release6 (line «mflo» (descriptor 1 18 17 «mflo») (fp_register 0 ++ comma ++ fp_register 2 ++ comma ++ integer 8)) 20 (pos 0) 0 5
   pub immediate_last : LineRefuses Release6 (line «mflo» (descriptor 1 18 7 «mflo») (register 8 ++ comma ++ register 9 ++ comma ++ integer 32768)) 27 (pos 0) 0 5
-  -- accepted, and yet with opcode 0 and function 18: an alternative Func 18, and a constant that lands there under Immediate, LoadImmediate, Offset and FPOffset
+  -- accepted, although the word has opcode 0 and function 18: by an alternative Func 18, or by a constant under Immediate, LoadImmediate, Offset and FPOffset
   pub alternative_used : emit_outcome Release6 (line «addi» (either_descriptor 0 8 1 18 «addi») (register 8 ++ comma ++ register 9 ++ comma ++ integer 32768)) ≡ emits 5 Ori (0x34018000 ∷ 0x01214012 ∷ [])
   pub immediate_lands : emit_outcome Release6 (line «jr» (descriptor 1 8 7 «jr») (register 8 ++ comma ++ register 9 ++ comma ++ integer 18)) ≡ emits 5 Unloaded (0x01280012 ∷ [])
   pub load_immediate_lands : emit_outcome Release6 (line «jr» (descriptor 1 8 8 «jr») (register 8 ++ comma ++ integer 18)) ≡ emits 3 Unloaded (0x00080012 ∷ [])

@@ -1,4 +1,4 @@
--- Two sorts of job that make the same of a line, or of each branch of a build, have the same outcome. Assumes nothing.
+-- If two kinds of job make the same of a line, or of each branch of a build, they have the same outcome. Assumes nothing.
 use Rattle.std.specs.Prelude.{ℕ, ◌+◌, ◌≡◌, leb, Err, None, Ok, Option, Some}
 use Rattle.std.proofs.Math.Path.{refl, ap, ap₂}
 use Rattle.std.proofs.Math.Bool.{true, false}
@@ -60,7 +60,7 @@ module _ (j k : Job) where
       go (Got x) s = rw (s.0, s.1)
       go (Missed m) s = refl
 
-  -- a job changes one pseudo-instruction at most
+  -- Jobs differ in one pseudo-instruction at most: abs.
   pub pseudo_same : (p : Pseudo) → (p ≡ Abs → (rt : ℕ) → abs_first_word j rt ≡ abs_first_word k rt) → (x : AskedAll (pseudo_wants p)) → pseudo_pairs j p x ≡ pseudo_pairs k p x
   pseudo_same Nop h x = refl
   pseudo_same Abs h x = rw (h refl (register_number x.1))
@@ -105,7 +105,7 @@ module _ (j k : Job) where
   meaning_same c (Builtin p) h = ap (call_line c) (builtin_same p (tokens c.token_list) (start_of c) h)
   meaning_same c Neither h = refl
 
-  -- where the lists have no fault the line decides
+  -- If the lists have no fault, the line decides.
   pub line_by_lem : (c : Call)
       → (list_stop c.token_list c.mnemonic c.descriptors c.lent c.numbers.place.region c.numbers.counts ≡ Ok tt
       → line_or_unknown c (call_made j c) ≡ line_or_unknown c (call_made k c))

@@ -1,4 +1,4 @@
--- 19 and 20 in a job by the manual: a line has them exactly by its shift amount and its condition code; else the commit's range stays.
+-- Refusals 19 and 20 in a job by the manual: they are due exactly by the shift amount and the condition code. Otherwise the commit's range decides.
 -- Assumes nothing.
 use Rattle.std.specs.Prelude.{ℕ, ◌<◌, ◌≡◌, refl, Bool, true, false, leb, ◌++◌, Err, Ok, Option, None, Some}
 use Rattle.std.proofs.Common.{ap, ◌∙◌, arith}
@@ -41,7 +41,7 @@ use Rattle.acceptance.specs.Changed.{TableCall}
 use Rattle.acceptance.proofs.AsManual.{outside_line}
 use Rattle.acceptance.specs.Tested.{shift_amount, condition_code, shift_or, code_or}
 
--- a number outside decides, whichever it is
+-- A single test passes, or it gives its fault.
 tested : (fault : Fault) (b : Bool) → range_then (within_or fault b) (Ok tt) ≡ (elim b [ true ↦ Ok tt | false ↦ Err fault ])
 tested fault true = refl
 tested fault false = refl

@@ -1,4 +1,4 @@
--- Two files, one `loop` (document 02, P6): in a label list without repeats each label is what the names of its own file stand for. Assumes nothing.
+-- Two files, one `loop` (document 02, P6): if no label repeats, a name resolves to the label of its own file. Assumes nothing.
 use Rattle.std.specs.Prelude.{ℕ, ◌+◌, List, ◌≡◌, refl, None, Option, Some}
 use Rattle.std.proofs.Common.{arith, ◌∙◌}
 use Rattle.std.proofs.Math.Path.{ap}
@@ -20,7 +20,7 @@ module _ (s : List ℕ) (distinct : label_repeat s ≡ None) where
       let f : first_owned 4 s (owner_of 4 s p) (owned_name 4 s p) ≡ Some p = is_at_lem (first_where (same_owned 4 s p) (places s)) p (all_first (same_owned 4 s) (places s) (places s) distinct p m) in
       ap (λ (n : Option ℕ). address_of s (or_else n (first_owned 4 s for_all (owned_name 4 s p)))) f
 
-  -- two labels of one name: a name of either's file stands for that file's
+  -- Two labels share a name: in each of the two files, it resolves to that file's label.
   pub two_owners : (p q : ℕ) → In p (places s) → In q (places s) → owned_name 4 s p ≡ owned_name 4 s q
       → (resolve s (owner_of 4 s p) (owned_name 4 s p) ≡ Some (le32 s (p + 4))) × (resolve s (owner_of 4 s q) (owned_name 4 s p) ≡ Some (le32 s (q + 4)))
   two_owners p q m n e = (own_label p m, ap (resolve s (owner_of 4 s q)) e ∙ own_label q n)

@@ -1,4 +1,4 @@
--- What the test of a constant or a name, and what stands there, are for each form byte. Assumes nothing.
+-- For each form byte: what the test of a constant or a name asks, and what is read there. Assumes nothing.
 use Rattle.std.specs.Prelude.{ℕ, ◌+◌, ◌-◌, ◌≤◌, eqb, List, Bool, true, false, ◌≡◌, refl}
 use Rattle.std.proofs.Common.{arith}
 use Rattle.address_label.specs.declared.NamedLabel.{NamedLabel}

@@ -1,4 +1,4 @@
--- What an entry's test says, in facts, and what a list of entries that keeps its layout holds. Assumes nothing.
+-- What an entry's test says, fact by fact, and what holds of a list of entries that keeps its layout. Assumes nothing.
 use Rattle.std.specs.Prelude.{ℕ, ◌+◌, ◌≤◌, ◌<◌, List, true, ◌&&◌, ◌≡◌, length, leb, eqb, None, Some}
 use Rattle.std.proofs.Math.Bool.{and-eq-true_iff}
 use Rattle.std.proofs.Common.{ap, ◌∙◌, leb-true}
@@ -24,7 +24,7 @@ entry_is s at e =
     let r = whole_is s at w.0 in
     record { whole_at = w.0; head = r.0; body = r.1; least = leb-true 17 n l.1 }
 
--- the layout within the limit is that of at most one record, and past the limit it is broken there
+-- Within the limit, the layout is that of at most one record. A longer list breaks the layout at the limit.
 pub entry_kept : (s : List ℕ) → length s ≤ limit → entry_layout s ≡ first_bad_of 1 (entry_ok s) (places_from s 0)
 unfolding entry_layout
 entry_kept s h = limit_kept s (first_bad_of 1 (entry_ok s) (places s)) h ∙ ap (first_bad_of 1 (entry_ok s)) (places_all s)

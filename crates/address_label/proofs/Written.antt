@@ -17,7 +17,7 @@ pub fits_length : (names : List ℕ) (label : AddressLabel) → LabelFits names 
 fits_length names (Constant value) h = omega arith
 fits_length names (Label name) h = h.most
 
--- the label as it is read where it was written: its name, if it has one, stands at `at`
+-- The label as it reads where it was written. If it has a name, the name is at `at`.
 abbrev pub label_as_read : (names : List ℕ) → (at : ℕ) → AddressLabel → AddressLabel
 label_as_read names at (Constant value) = Constant value
 label_as_read names at (Label name) =

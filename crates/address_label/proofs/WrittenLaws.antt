@@ -15,7 +15,7 @@ use Rattle.address_label.specs.declared.AddressLabel.TheVariants.{Constant, Labe
 pub both : {a b : Bool} → a ≡ true → b ≡ true → (a && b) ≡ true
 both {a} {b} p q = (and-eq-true_iff a b).1 (p, q)
 
--- the test and the label by what they read
+-- The test, and the label, from the fields that they read.
 abbrev test_of : (form source index : ℕ) (name : List ℕ) (i e : ℕ) → Bool
 test_of form source index name i e =
     elim (eqb form 0) [

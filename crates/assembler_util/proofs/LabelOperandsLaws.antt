@@ -1,4 +1,4 @@
--- Laws of the label readers: what each reads, by what it meets. Assumes nothing.
+-- Laws of the label readers: what each reads, depending on the tokens that it meets. Assumes nothing.
 use Rattle.std.specs.Prelude.{ℕ, true, false, List, ◌≡◌, Option, Some}
 use Rattle.std.proofs.Math.Path.{ap}
 use Rattle.std.proofs.Common.{◌∙◌, eq-eqb, ne_eqb}

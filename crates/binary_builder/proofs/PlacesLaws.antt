@@ -1,4 +1,4 @@
--- A place that a layout names is at most the limit, and the layouts of the four lists one after the other. Assumes nothing.
+-- A layout names a place that is at most the limit. And the layouts of the four lists, one after the other. Assumes nothing.
 use Rattle.std.specs.Prelude.{ℕ, ◌≤◌, List, ◌≡◌, Ok, Option, Some}
 use Rattle.record.specs.Records.{places, first_bad_of, limit}
 use Rattle.record.proofs.RecordsLaws.{of_place, limit_bad, first_limit}

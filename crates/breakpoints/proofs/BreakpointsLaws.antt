@@ -1,4 +1,4 @@
--- What a breakpoint's test says, in facts, and the laws of the filled part of a buffer. Assumes nothing.
+-- What a breakpoint's test says, fact by fact, and laws of the filled part of a buffer. Assumes nothing.
 use Rattle.std.specs.Prelude.{ℕ, ◌+◌, ◌%◌, ◌≤◌, ◌<◌, List, Bool, ◌&&◌, ◌≡◌, refl, length, take, leb, eqb, None, Option, Some}
 use Rattle.std.proofs.Math.Bool.{true, false, and-eq-true_iff}
 use Rattle.std.proofs.Common.{sym, ◌∙◌, arith, leb-true, leb-false, le-leb, eq-eqb, ne_eqb}
@@ -27,7 +27,7 @@ breakpoint_is s at e =
     let l = (and-eq-true_iff kind (leb 12 n)).0 m.0 in
     record { whole_at = w.0; head = r.0; body = r.1; least = leb-true 12 n l.1; most = leb-true n 28 m.1 }
 
--- ---- the filled part of a buffer: its layout, that the count is over the length, or that the buffer is over the limit
+-- ---- the filled part of a buffer: its layout, or the count is over the length, or the buffer is over the limit
 module _ (fill : ℕ) (s : List ℕ) where
   pub filled_kept : (l : Option ℕ) → length s ≤ limit → fill ≤ length s → filled_layout fill s l ≡ l
   unfolding filled_layout
@@ -41,7 +41,7 @@ module _ (fill : ℕ) (s : List ℕ) where
   unfolding filled_layout
   filled_passed l h = limit_passed s (elim (leb fill (length s)) [ true ↦ l | false ↦ Some (length s) ]) h
 
-  -- either the count and the length are kept, or no layout of the filled part counts
+  -- Either the length and the count pass, or the layout of the filled part does not matter.
   data Filled : Type 0 where
     kept : length s ≤ limit → fill ≤ length s → Filled
     refused : (p : ℕ) → ((l : Option ℕ) → filled_layout fill s l ≡ Some p) → Filled
@@ -61,7 +61,7 @@ module _ (fill : ℕ) (s : List ℕ) where
       go (kept h f) = (h, f, sym (filled_kept l h f) ∙ g)
       go (refused p r) = let b = r l in let z : ◌≡◌ {A = ℕ} 0 1 = cc in absurd (omega arith)
 
-  -- where the length or the count is refused, the place is the same for every layout
+  -- If the length or the count is refused, the place is the same for every layout.
   pub filled_bad : (l : Option ℕ) (p : ℕ) → filled_layout fill s None ≡ Some p → filled_layout fill s l ≡ Some p
   filled_bad l p b = go which
     where
@@ -69,7 +69,7 @@ module _ (fill : ℕ) (s : List ℕ) where
       go (kept h f) = cc (filled_kept None h f)
       go (refused q r) = cc (r None, r l)
 
-  -- a layout that counts where neither is refused
+  -- The layout decides only if neither the length nor the count is refused.
   pub filled_or : (l given answer : Option ℕ) → given ≡ filled_layout fill s None → (given ≡ None → answer ≡ l) → ((p : ℕ) → given ≡ Some p → answer ≡ Some p)
       → answer ≡ filled_layout fill s l
   filled_or l None answer e good bad = let g = filled_good None (sym e) in good refl ∙ sym (filled_kept l g.0 g.1)
@@ -99,7 +99,7 @@ module _ (fill : ℕ) (s : List ℕ) where
       go true e = let f = filled_good None (sym (data_layout region e) ∙ g) in (e, f.0, f.1)
       go false e = let r = data_refused region e in let z : ◌≡◌ {A = ℕ} 0 1 = cc in absurd (omega arith)
 
--- the numbers that pass, and those that do not
+-- which region numbers pass, and which do not
 pub number_region : (n : ℕ) → n ≤ 15 → region_number_ok n ≡ true
 number_region n h = rw (le-leb n 15 h, region_number_ok)
 

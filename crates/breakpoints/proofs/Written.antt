@@ -1,5 +1,5 @@
--- A breakpoint that is written behind a list of breakpoints: the list keeps its layout, location and pcs read back as what was written,
--- and the others read as before (document 01, 'Pending 36, breakpoint 37'). Assumes nothing.
+-- A breakpoint is written behind a list of breakpoints. The list keeps its layout. The new location and pcs read back as written, and the other
+-- breakpoints read as before (document 01, 'Pending 36, breakpoint 37'). Assumes nothing.
 use Rattle.std.specs.Prelude.{ℕ, ◌+◌, ◌≤◌, ◌≡◌, refl, length, take, replicate, None}
 use Rattle.std.proofs.Common.{arith, sym, subst, length-take-le}
 use mathlib.Core.List.{List, [], ◌∷◌, ◌++◌, Memᴰ}
@@ -13,13 +13,13 @@ use Rattle.breakpoints.proofs.BreakpointsLaws.{breakpoint_is}
 use Rattle.breakpoints.specs.BreakpointBytes.{pcs_bytes, pcs_from, breakpoint_bytes, BreakpointFits}
 use Rattle.breakpoints.proofs.WrittenLaws.{breakpoint_local, breakpoint_location_before, breakpoint_pcs_before, breakpoint_passes, breakpoint_ends, breakpoint_location_behind, breakpoint_pcs_behind}
 
--- a buffer whose first `fill` bytes are breakpoints, what is to be written behind them, and room for it
+-- A buffer whose first `fill` bytes are breakpoints, and a breakpoint that fits its fields. There is room for it behind them.
 pub record Writable (buffer : List ℕ) (fill : ℕ) (location : Location) (pc n : ℕ) : Type 0 where
   pub kept : first_bad (breakpoint_ok (take fill buffer)) (places (take fill buffer)) ≡ None
   pub room : fill + length (breakpoint_bytes location pc n) ≤ length buffer
   pub fits : BreakpointFits location pc n
 
--- the list then, as it was and as it is
+-- The list before and after the write.
 pub record Written (old new : List ℕ) (fill : ℕ) (location : Location) (pc n : ℕ) : Type 0 where
   pub keeps : first_bad (breakpoint_ok new) (places new) ≡ None
   pub places_are : places new ≡ places old ++ fill ∷ []

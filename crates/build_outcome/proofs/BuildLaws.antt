@@ -1,4 +1,4 @@
--- Laws of a build's checks: what an accepted build has passed, and that what passes them all is accepted. Assumes nothing.
+-- Laws of a build's checks: an accepted build has passed them all, and a build that passes them all is accepted. Assumes nothing.
 use Rattle.std.specs.Prelude.{ℕ, zero, suc, ◌+◌, ◌<◌, ◌≤◌, ◌⊎◌, Bool, true, false, ◌≡◌, refl, eqb, Err, None, Ok}
 use Rattle.std.proofs.Common.{arith, inl, inr, sym, ap, ◌∙◌, eq-eqb, ne_eqb, eqb-true}
 use mathlib.Core.List.Memᴰ
@@ -15,11 +15,11 @@ use Rattle.address_label.specs.Entries.{entry_layout, entry_of}
 use Rattle.pending.specs.Pendings.{region_of, pending_layout}
 use Rattle.build_outcome.specs.Build.{keep, order_from, patch_order, patch_verdict, entry_verdict, layout_verdicts, build_verdict, entry_address, patched_regions, build_outcome}
 
--- two checks pass where each does
+-- Two checks pass if each of them passes.
 pub then_pass : (a b : Verdict) → a ≡ Ok tt → b ≡ Ok tt → and_then a b ≡ Ok tt
 then_pass a b e f = ap (λ (v : Verdict). and_then v b) e ∙ f
 
--- every element passes where the whole list does
+-- If the whole list passes, every element passes.
 pub each_pass : (check : ℕ → Verdict) (ps : List ℕ) → first_stop check ps ≡ Ok tt → (p : ℕ) → Memᴰ p ps → check p ≡ Ok tt
 unfolding first_stop
 each_pass check [] e p m = elim m [ ]
@@ -30,7 +30,7 @@ each_pass check (q ∷ ps) e p m = go (both_pass (check q) (first_stop check ps)
     go h (inl s) ih = ap check s ∙ h.0
     go h (inr t) ih = ih h.1 p t
 
--- and the whole list does where every element does
+-- If every element passes, the whole list passes.
 pub all_pass : (check : ℕ → Verdict) (ps : List ℕ) → ((p : ℕ) → Memᴰ p ps → check p ≡ Ok tt) → first_stop check ps ≡ Ok tt
 unfolding first_stop
 all_pass check [] a = refl
@@ -61,7 +61,7 @@ keep_mem pending r p (q ∷ ps) e m = go (eqb (region_of pending q) r) refl (Mem
         absurd (omega arith)
     go false f (inr t) ih = rw (f, keep) (ih t)
 
--- a pending of one of the n regions from r on is in their order
+-- The order of the n regions from r on contains every pending of these regions.
 order_mem : (n : ℕ) (pending : List ℕ) (r p : ℕ) → r ≤ region_of pending p → region_of pending p < r + n → Memᴰ p (places pending) → Memᴰ p (order_from n pending r)
 unfolding order_from
 order_mem zero pending r p h k m = absurd (omega arith)
@@ -107,7 +107,7 @@ accepted_is job labels entry regions pending e =
       patches_pass = b₃.1;
     }
 
--- and what passes all of these is accepted
+-- A build that passes all of these is accepted.
 pub is_accepted : (job : Job) (labels : Table) (entry regions pending : List ℕ) → Accepted job labels entry regions pending → build_verdict job labels entry regions pending ≡ Ok tt
 unfolding build_verdict layout_verdicts
 is_accepted job labels entry regions pending a =

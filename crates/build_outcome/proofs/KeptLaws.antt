@@ -1,4 +1,4 @@
--- What patches leave of the region list: its length, its records' places and heads, and each region's address. Assumes nothing.
+-- What patches do not change in the region list: its length, its records' places and heads, and each region's address. Assumes nothing.
 use Rattle.std.specs.Prelude.{ℕ, ◌+◌, ◌-◌, ◌<◌, ◌≤◌, List, Bool, true, false, ◌⊎◌, ◌≡◌, refl, length, ltb, None}
 use Rattle.std.proofs.Common.{arith, inl, inr, sym, ap, ◌∙◌, ltb-true, ltb-false}
 use Rattle.record.specs.Bytes.{byte_at, le32}
@@ -15,7 +15,7 @@ pub record InData (regions : List ℕ) (r i : ℕ) : Type 0 where
   pub to : i + 4 ≤ next regions (region_place regions r)
   pub within : i + 4 ≤ length regions
 
--- those at an offset within a region's data do
+-- Four bytes at an offset within a region's data lie in that data.
 pub in_data : (regions : List ℕ) (r o : ℕ) → region_layout regions ≡ None → r < region_count regions → o + 4 ≤ (region_at regions (region_place regions r)).size
     → InData regions r ((region_at regions (region_place regions r)).start + o)
 in_data regions r o g n h =
@@ -51,7 +51,7 @@ module _ (regions d : List ℕ) (k : Kept regions d) where
       let p = region_place regions r in
       omega (arith, k.heads r h p (omega arith) (omega arith), k.heads r h (p + 1) (omega arith) (omega arith))
 
-  -- the region of a number is the same
+  -- The region with a given number reads as at entry.
   pub region_same : (r : ℕ) → r < region_count regions → region_at d (region_place d r) ≡ region_at regions (region_place regions r)
   region_same r h =
       let p = region_place regions r in
@@ -66,7 +66,7 @@ module _ (regions d : List ℕ) (k : Kept regions d) where
       let b = body_same r h in
       rw k.places_same (cc (a, b))
 
-  -- a word stored in a region's data
+  -- Storing a word in a region's data keeps all this true.
   pub kept_put : (r i w : ℕ) → InData regions r i → Kept regions (append d i (le32_bytes w))
   kept_put r i w a =
       let s = k.places_same in
@@ -84,7 +84,7 @@ module _ (regions d : List ℕ) (k : Kept regions d) where
         heads = λ q h j x y. byte_out d i w room j (outside q h j x y) ∙ k.heads q h j x y;
       }
     where
-      -- a head stands before the data of its own region and of those after it, and after the data of those before it
+      -- A head stands before the data of its own region and of later ones, and behind the data of earlier ones.
       outside : (q : ℕ) → q < region_count regions → (j : ℕ) → region_place regions q ≤ j → j < region_place regions q + 8 → (j < i) ⊎ (i + 4 ≤ j)
       outside q h j x y = go (ltb q r) refl (ltb r q) refl
         where

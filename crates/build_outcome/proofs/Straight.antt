@@ -1,5 +1,5 @@
--- "With kind 34 alone, answers equal the commit's" (document 02, P6): a label list without owners has the outcome, answer and every byte, of
--- the definition before that request, which resolves a name whatever its source. Assumes nothing.
+-- "With kind 34 alone, answers equal the commit's" (document 02, P6): without owners in the label list, the outcome is the one defined before that
+-- request, in answer and in every byte. That definition ignores the source of a name. Assumes nothing.
 use Rattle.std.specs.Prelude.{◌≡◌, List, ℕ}
 use Rattle.std.proofs.Common.{ap}
 use Rattle.jobs.specs.declared.Job.{Job}

@@ -1,4 +1,4 @@
--- A letter or a digit is a byte that a text may have, and no blank. Assumes nothing.
+-- A letter or a digit is a byte that a text may have, and it is no blank. Assumes nothing.
 use Rattle.std.specs.Prelude.{ℕ, ◌≤◌, Bool, true, false, List, [], ◌∷◌, ◌⊎◌, ◌≡◌, refl, leb}
 use Prim.Native.Char.{Char, code}
 use Rattle.std.proofs.Common.{arith, inl, inr, ⊎_elim, sym, ap, ◌∙◌, leb-true, eqb-true}
@@ -35,12 +35,12 @@ no_mark b (m ∷ ms) = go (is m.character b) (no_mark b ms)
     go true ih = refl
     go false ih = ih
 
--- the test passed, or a later class is meant
+-- Either this test passed, or a later test gave the class.
 passed : (t : Bool) (k later : Class) → is_word (or_else t k later) ≡ true → (t ≡ true) ⊎ (is_word later ≡ true)
 passed true k later e = inl refl
 passed false k later e = inr e
 
--- the class in front is none
+-- If this test's class is neither letter nor digit, a later test gave the class.
 later_is : (t : Bool) (k later : Class) → is_word k ≡ false → is_word (or_else t k later) ≡ true → is_word later ≡ true
 later_is true k later f e = absurd (false≢true (sym f ∙ e))
 later_is false k later f e = e
@@ -57,7 +57,7 @@ word_range b e =
     ⊎_elim (λ d. let h = letter_range b d in (omega arith, omega arith)) (λ m. absurd (false≢true (sym (no_mark b marks) ∙ m))) (passed (is_letter b) Letter (mark_in b marks) l))
     (passed (is_digit b) Digit letter w)
 
--- what the class of digits is for
+-- A byte of class Digit is one of the digits 0 to 9.
 pub digit_class : (b : ℕ) → class_of b ≡ Digit → (48 ≤ b) × (b ≤ 57)
 unfolding class_of
 digit_class b e = digit_range b (go (is_blank b) refl (is "\n" b) refl (is_digit b) refl (is_letter b) refl)

@@ -1,4 +1,4 @@
--- A class is the one whose letter it has. Assumes nothing.
+-- Each class has a letter of its own, which gives the class back. Assumes nothing.
 use Rattle.std.specs.Prelude.{ℕ, true, false, List, [], ◌∷◌, ◌≡◌, refl, eqb}
 use Rattle.std.proofs.Common.{sym, ap, ◌∙◌, ne_eqb}
 use Rattle.byte_class.specs.declared.Class.{Class}
@@ -8,12 +8,12 @@ use Rattle.byte_class.specs.declared.Mark.TheVariants.{Comment, Directive, Param
 use Rattle.byte_class.specs.Class.{is_word, is_blank_class}
 use Rattle.byte_class.specs.Letters.{letter_of}
 
--- the class of that letter among these
+-- the first of these classes that has this letter, or else Nothing
 unfoldable pub among : ℕ → List Class → Class
 among n [] = Nothing
 among n (k ∷ ks) = elim (eqb n (letter_of k)) [ true ↦ k | false ↦ among n ks ]
 
--- those of the arms of `class_of`, the last first
+-- the classes in the arms of `class_of`, the last arm first
 abbrev pub classes : List Class
 classes =
     Mark RightBrace ∷ Mark LeftBrace ∷ Mark Colon ∷ Mark Comma ∷ Mark Minus ∷ Mark Plus ∷ Mark StringLiteral ∷ Mark Register ∷ Mark Parameter ∷ Mark Directive
@@ -46,11 +46,11 @@ back Letter = refl
 back (Mark m) = mark_back m
 back Nothing = refl
 
--- classes of one letter are one
+-- Classes with the same letter are the same.
 pub same_letter : (met k : Class) (n : ℕ) → n ≡ letter_of k → n ≡ letter_of met → met ≡ k
 same_letter met k n e f = sym (back met) ∙ ap of_letter (sym f ∙ e) ∙ back k
 
--- a letter that is none of these classes', as the last arm of a `match` knows it
+-- The letter belongs to none of these classes, as in the last arm of a `match`.
 abbrev pub NoneOf : ℕ → List Class → Type 0
 NoneOf n [] = Unit {0}
 NoneOf n (k ∷ ks) = NoneOf n ks × (n ≡ letter_of k → ⊥)
@@ -64,7 +64,7 @@ pub none_met : (k : Class) (n : ℕ) → n ≡ letter_of k → NoneOf n classes 
 unfolding of_letter
 none_met k n e h = sym (none_of n classes h) ∙ ap of_letter e ∙ back k
 
--- no letter of a letter or a digit is met
+-- If the letter is neither Digit's nor Letter's, its class is neither digit nor letter.
 pub no_word : (k : Class) (n : ℕ) → n ≡ letter_of k → NoneOf n (Digit ∷ Letter ∷ []) → false ≡ is_word k
 no_word Blank n e h = refl
 no_word Newline n e h = refl
@@ -73,7 +73,7 @@ no_word Letter n e h = absurd (h.0.1 e)
 no_word (Mark m) n e h = refl
 no_word Nothing n e h = refl
 
--- no letter of a blank is met
+-- If the letter is not Blank's, its class is no blank.
 pub no_blank : (k : Class) (n : ℕ) → n ≡ letter_of k → NoneOf n (Blank ∷ []) → false ≡ is_blank_class k
 no_blank Blank n e h = absurd (h.1 e)
 no_blank Newline n e h = refl

@@ -1,4 +1,4 @@
--- The length of such a line. Assumes nothing.
+-- The length of a line of bytes. Assumes nothing.
 use Rattle.std.specs.Prelude.{ℕ, ◌+◌, ◌*◌, ◌≡◌, List, ◌++◌, length}
 use Rattle.std.proofs.Common.{arith, length-append}
 use Rattle.record.specs.Texts.{bytes_of}

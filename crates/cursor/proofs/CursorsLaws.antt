@@ -23,7 +23,7 @@ map_at f [] i p t h = absurd (omega arith)
 map_at f (q ∷ ps) zero p t h = refl
 map_at f (q ∷ ps) (suc i) p t h = map_at f ps i p t (omega arith)
 
--- the byte place of an index: that of its record, and the list's end past the last
+-- The byte place of an index: its record's place, or the list's end if the index is past the last record.
 abbrev pub place : List ℕ → ℕ → ℕ
 place s i = get_or (places s) i (length s)
 
@@ -31,7 +31,7 @@ token_at_place : (s : List ℕ) (i : ℕ) → i < length (tokens s) → get_or (
 unfolding tokens
 token_at_place s i h = map_at (token_at s) (places s) i (length s) no_token (omega (arith, tokens_length s))
 
--- the places from `at` on: the first is `at`, also at the list's end
+-- The first of the places from `at` on is `at`, even at the list's end.
 first_from : (s : List ℕ) (at : ℕ) → at ≤ length s → get_or (places_from s at) 0 (length s) ≡ at
 first_from s at h = go (ltb at (length s)) refl (whole s at) refl
   where
@@ -47,7 +47,7 @@ some_from s i at h = go (ltb at (length s)) refl
     go true b = ltb-true at (length s) b
     go false b = absurd (omega (arith, rw (places_end s at (ltb-false at (length s) b)) at h))
 
--- in a list of tokens each stands before the list's end, and the next place is where it ends
+-- In a list of tokens, each token stands before the list's end and ends where the next place is.
 each_from : (s : List ℕ) (i at : ℕ) → layout_from (token_ok s) s at ≡ None → i < length (places_from s at)
     → let p = get_or (places_from s at) i (length s) in (p < length s) × TokenIs s p × (get_or (places_from s at) (suc i) (length s) ≡ next s p)
 each_from s zero at g h =
@@ -67,7 +67,7 @@ module _ (s : List ℕ) (good : token_layout s ≡ None) where
       let k : i < length (places s) = omega (arith, tokens_length s) in
       rw (← e) at (each_from s i 0 (rw e at (token_good s good).1) (rw e at k))
 
-  -- a record has its head, so no more of them stand before a place than bytes
+  -- Each record takes bytes, so an index is never above its byte place.
   pub place_least : (i : ℕ) → i ≤ length (tokens s) → i ≤ place s i
   place_least zero h = omega arith
   place_least (suc i) h = omega (arith, place_least i (omega arith), (place_each i (omega arith)).2)
@@ -131,7 +131,7 @@ placed_is s c i p e = (cursor_is s c i p e, p)
 pub placed_first : (s : List ℕ) → token_layout s ≡ None → Placed s (record { index = 0; at = 0 })
 placed_first s g = record { layout_good = g; index_within = omega arith; place_is = sym (place_first s) }
 
--- what a cursor before the list's end stands at, and the cursor behind that
+-- What stands at a cursor that is not at the list's end, and the cursor behind it.
 pub record Stands (s : List ℕ) (c : Cursor) : Type 0 where
   pub within : c.index < length (tokens s)
   pub least : c.index ≤ c.at

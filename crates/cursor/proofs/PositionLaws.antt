@@ -6,11 +6,11 @@ use Rattle.cursor.specs.Cursors.{cursor_at}
 use Rattle.cursor.specs.Reads.{Placed, CursorIn}
 use Rattle.cursor.proofs.CursorsLaws.{cursor_eta}
 
--- by the list and the index, which are a cursor's value
+-- The position that the list and the index give. These two are a cursor's value.
 abbrev pub position_of : CursorIn → Cursor
 position_of cursor = cursor_at cursor.list cursor.index
 
--- it is the index and the byte place that the cursor keeps
+-- It is the index and the byte place that the cursor keeps.
 pub position_kept : (tokens : List ℕ) (index at : ℕ) → Placed tokens (record { index = index; at = at })
     → position_of (record { list = tokens; index = index }) ≡ (record { index = index; at = at })
 position_kept tokens index at p = sym (cursor_eta tokens (record { index = index; at = at }) p)

@@ -1,4 +1,4 @@
--- A law of readings: one by the position that the cursor then has. Assumes nothing.
+-- A reading, stated by the position at which it leaves the cursor. Assumes nothing.
 use Rattle.std.specs.Prelude.{◌≡◌}
 use Rattle.std.proofs.Common.{subst}
 use Rattle.cursor.specs.declared.Cursor.{Cursor}

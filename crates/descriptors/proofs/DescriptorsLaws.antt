@@ -1,4 +1,4 @@
--- What a descriptor's test says, in facts, what a list of descriptors that keeps its layout holds, and a number past a list. Assumes nothing.
+-- What a descriptor's test says, fact by fact, what holds of a list of descriptors that keeps its layout, and a number past a list. Assumes nothing.
 use Rattle.std.specs.Prelude.{ℕ, ◌+◌, ◌≤◌, ◌<◌, List, true, ◌&&◌, not, ◌≡◌, length, leb, eqb, None, Some}
 use Rattle.std.proofs.Common.{arith, ◌∙◌, leb-true, eqb-true}
 use Rattle.std.proofs.Math.Bool.{and-eq-true_iff}
@@ -40,7 +40,7 @@ descriptor_is s at e =
       shared = ap (λ (m : ℕ). not (eqb m 41)) (eqb-true (kind_at s at) 33 k.0);
     }
 
--- the layout within the limit is that of the records, and past the limit it is broken there
+-- Within the limit, the layout is that of the records. A longer list breaks the layout at the limit.
 module _ (s : List ℕ) where
   pub descriptor_kept : length s ≤ limit → descriptor_layout s ≡ layout_from (descriptor_ok s) s 0
   unfolding descriptor_layout
@@ -54,7 +54,7 @@ module _ (s : List ℕ) where
   unfolding descriptor_layout
   descriptors_good g = (limit_good s (first_bad (descriptor_ok s) (places s)) g).1
 
-  -- each descriptor has thirteen bytes at least
+  -- Each descriptor has at least thirteen bytes.
   pub descriptors_few : descriptor_layout s ≡ None → (length s ≤ limit) × (length (places s) ≤ 5041)
   unfolding descriptor_layout
   descriptors_few g =
@@ -62,7 +62,7 @@ module _ (s : List ℕ) where
       let n = count_at_least 13 s (descriptor_ok s) (λ p e. let d = descriptor_is s p e in (d.whole_at, omega (arith, d.least))) (descriptors_good g) in
       (h, omega arith)
 
-  -- each record has a name and none an owner, and the one that is found is a descriptor
+  -- Each record has a name and no owner. The record that is found is a descriptor.
   pub descriptors_named : descriptor_layout s ≡ None → first_bad (has_owned_name 8 s) (places s) ≡ None
   descriptors_named g = all_named (descriptor_ok s) (has_owned_name 8 s) named (places s) (descriptors_good g)
     where

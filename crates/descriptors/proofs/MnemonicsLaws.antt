@@ -1,4 +1,4 @@
--- What a mnemonic's test says, in facts, what a list of one mnemonic holds, and its name byte by byte. Assumes nothing.
+-- What a mnemonic's test says, fact by fact, what holds of a list of one mnemonic, and its name byte by byte. Assumes nothing.
 use Rattle.std.specs.Prelude.{ℕ, zero, suc, ◌+◌, ◌≤◌, ◌<◌, List, [], ◌∷◌, ◌++◌, map, Bool, ◌&&◌, ◌≡◌, length, take, set, replicate, leb, eqb, None, Some}
 use Rattle.std.proofs.Common.{add-one, arith, sym, ap₂, ◌∙◌, take-suc, take-suc-set, get_or-set_other, leb-true, leb-false}
 use Rattle.std.specs.Char.{to_ascii_lowercase}
@@ -31,7 +31,7 @@ mnemonic_is s at e =
     record { whole_at = w.0; head = r.0; body = r.1; least = leb-true 8 n ((and-eq-true_iff kind (leb 8 n)).0 m.0).1; most = leb-true n 24 m.1 }
 
 module _ (s : List ℕ) where
-  -- the layout past the limit, of an empty list within it, and of one that has a record
+  -- The layout of a list past the limit, of an empty list, and of a list that has a record.
   pub mnemonic_passed : limit < length s → mnemonic_layout s ≡ Some limit
   unfolding mnemonic_layout
   mnemonic_passed h = limit_passed s (one_mnemonic s (places s)) h
@@ -94,7 +94,7 @@ zeros (suc n) (suc i) = zeros n i
 pub zero_next : (bytes : List ℕ) (i b : ℕ) → ZeroFrom i bytes → ZeroFrom (i + 1) (set bytes i b)
 zero_next bytes i b h k g = get_or-set_other bytes i k b 0 (omega arith) ∙ h k (omega arith)
 
--- a name with zeros behind it, in lower case: the library's lower case is document 01's
+-- A name with zeros behind it, in lower case. The library's lower case is document 01's.
 lowered : (b : ℕ) → to_ascii_lowercase b ≡ lower b
 lowered b = grind (arith, nat_tests)
 

@@ -15,7 +15,7 @@ use Rattle.dry_run_outcome.specs.Fetch.{offset_in, fetch}
 abbrev pub fetch_at : (s ps : List ℕ) → ℕ → Option ℕ
 fetch_at s ps pc = fetch (map (image_region s) ps) pc
 
--- there are few places, and a region stands at each
+-- There are at most 16 places, and a region stands at each.
 pub places_few : (s ps : List ℕ) → region_layout s ≡ None → ps ≡ places s → length ps ≤ 16
 places_few s ps g e = rw e (region_good s g).3
 
@@ -50,7 +50,7 @@ module _ (s : List ℕ) (p : ℕ) (ps : List ℕ) (pc : ℕ) (r : RegionIs s p) 
       let k : body_len s p - 4 < offset_at s p pc + 4 = omega (arith, r.least) in
       rw (size, lt-leb (offset_at s p pc + 4) (body_len s p - 4) k, fetch)
 
--- so the first of some places has the word, or the others are looked at
+-- So the first place has the word, or we look at the others.
 module _ (s ps : List ℕ) (i pc : ℕ) (h : i < length ps) (r : RegionIs s (slice_index ps i)) where
   from_here : fetch_at s (drop i ps) pc ≡ fetch_at s (slice_index ps i ∷ drop (i + 1) ps) pc
   from_here = ap (λ (l : List ℕ). fetch_at s l pc) (drop-cons ps i 0 h ∙ ap (λ (n : ℕ). slice_index ps i ∷ drop n ps) (sym (add-one i)))

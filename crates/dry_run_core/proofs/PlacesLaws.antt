@@ -7,7 +7,7 @@ use Rattle.record.proofs.RecordsLaws.{layout_from, places_all, places_step, plac
 use Rattle.regions.specs.Regions.{region_ok, region_layout}
 use Rattle.regions.proofs.RegionsLaws.{RegionIs, region_is, region_good}
 
--- the first `count` of those found, and then those from `place` on, are the places of s
+-- The first `count` places found, and then the places from `place` on, are all places of s.
 pub record Passed (s found : List ℕ) (count place : ℕ) : Type 0 where
   pub within : place ≤ length s
   pub good : layout_from (region_ok s) s place ≡ None

@@ -1,4 +1,4 @@
--- The steps of a run: what a loop knows before each, and what each leaves. Assumes nothing.
+-- The steps of a run: what the loop knows before each step, and what each step does. Assumes nothing.
 use Rattle.std.specs.Prelude.{◌≡◌, ℕ, ◌+◌, ◌-◌, ◌<◌, ◌≤◌, Bool, true, false, set, ◌==◌, slice_index, slice_set, refl, None, Option, Some}
 use Rattle.std.proofs.Common.{arith, sym, ap, ap₂, ◌∙◌, set-set, get_or-set_other, eqb-true}
 use Rattle.std.proofs.lemmas.Bool.{eqb-false}
@@ -16,7 +16,7 @@ use Rattle.dry_run_outcome.specs.Run.{step, later, run, ran_for}
 use Rattle.dry_run_outcome.proofs.RunLaws.{loop_start, loop_end, loop_goes, loop_stops}
 use Rattle.dry_run_outcome.proofs.Zero.{set_held, step_zero}
 
--- ---- $zero holds 0, so that it reads and writes as any register
+-- ---- $zero holds 0, so it reads and writes like any other register
 
 read_held : (g : Registers) (r : ℕ) → Zero g → read_register g r ≡ slice_index g r
 unfolding read_register
@@ -46,7 +46,7 @@ unfolding step step_word
 step_word_lem image m f w s t e z a b hs ht he =
     rw (sym a ∙ b, read_held m.registers (rs w) z, read_held m.registers (rt w) z, ← hs, ← ht, ← he)
 
--- a register that is set, and $zero behind it
+-- A register is set, and then $zero is set back to 0.
 pub step_sets : (image : Image) (m : Machine) (r k v pc : ℕ) → Zero m.registers → k ≡ r → pc ≡ next_pc m.pc
     → step image m ≡ goes (at (next_pc m.pc) (write_register m.registers r v)) → step image m ≡ goes (at pc (slice_set (slice_set m.registers k v) 0 0))
 step_sets image m r k v pc z hk hp e =

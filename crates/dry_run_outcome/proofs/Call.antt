@@ -1,4 +1,4 @@
--- What holds of a run, said of the whole call: its steps and reason, its stopping word, $zero and the registers. Assumes nothing.
+-- What holds of a run, stated for the whole call: its steps and reason, its stopping word, $zero and the registers. Assumes nothing.
 use Rattle.std.specs.Prelude.{ℕ, List, Bool, true, false, ◌≡◌, refl, Err, None, Option, Some}
 use Rattle.std.proofs.Common.{arith, sym, ap, subst, ◌∙◌, length-set}
 use Rattle.refusal.specs.declared.Refusal.{Refusal}
@@ -77,7 +77,7 @@ module _ (regions : List ℕ) (m : Machine) (allowance : ℕ) where
     pub call_counted : Counted allowance (ran_for steps call.machine reason)
     call_counted = subst (Counted allowance) call_runs.ran (counted allowance (image_of regions) (started m))
 
-    -- "the stopping word changes nothing": the call with as many steps allowed as were taken leaves the same state, and there the run stops
+    -- "the stopping word changes nothing": a call that allows just the steps taken leaves the same state, and the run stops there.
     pub call_stopping : (reason ≡ Allowance → ⊥) → (dry_run_outcome regions m steps ≡ stopped_run (ran_for steps call.machine Allowance)) × (step (image_of regions) call.machine ≡ stops reason)
     call_stopping n =
         let r = call_runs in
@@ -89,7 +89,7 @@ module _ (regions : List ℕ) (m : Machine) (allowance : ℕ) where
     pub call_zero : HoldsZero call.machine
     call_zero = subst (λ (k : Ran). HoldsZero k.machine) call_runs.ran (run_zero allowance (image_of regions) (started m) (started_zero m))
 
-  -- 32 registers of 32 bits stay such, refused or run
+  -- 32 registers of 32 bits stay 32 registers of 32 bits, whether the call is refused or runs.
   pub call_fits : Fits m → Fits call.machine
   call_fits f = go called
     where

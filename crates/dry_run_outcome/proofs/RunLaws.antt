@@ -1,4 +1,4 @@
--- Laws of runs: one step more, and the turns of a loop that has some steps taken and the rest of the allowance left. Assumes nothing.
+-- Laws of runs: one step more, and a loop that has taken some steps and has the rest of the allowance left. Assumes nothing.
 use Prim.Native.Nat.{ℕ, zero, suc, ◌+◌, ◌-◌, ◌<◌, ◌≤◌}
 use Rattle.std.proofs.Common.{zero-add, add-zero, add_assoc, arith, sym, ap, ◌∙◌}
 use Rattle.std.specs.Prelude.{◌≡◌, None, Option, Some}
@@ -31,7 +31,7 @@ module _ (n : ℕ) (image : Image) (m : Machine) where
   unfolding run
   run_stops reason e = rw (e, run)
 
--- a step does not stop for the allowance
+-- No step stops for the allowance.
 pub stops_otherwise : (image : Image) (m : Machine) (reason : Reason) → step image m ≡ stops reason → reason ≡ Allowance → ⊥
 unfolding step
 stops_otherwise image m reason e = subst StopsOtherwise e (fetched (fetch image m.pc))
@@ -40,7 +40,7 @@ stops_otherwise image m reason e = subst StopsOtherwise e (fetched (fetch image 
     fetched (Some w) = word_stop w m
     fetched None = λ x. let y : ◌≡◌ {A = ℕ} 0 1 = cc in omega arith
 
--- what every word keeps, every run keeps
+-- What every word keeps true, every run keeps true.
 module _ (P : Machine → Type 0) (keeps : (w : ℕ) (m : Machine) → P m → After P (step_word w m)) where
   pub step_keeps : (image : Image) (m m' : Machine) → step image m ≡ goes m' → P m → P m'
   unfolding step
@@ -59,7 +59,7 @@ module _ (P : Machine → Type 0) (keeps : (w : ℕ) (m : Machine) → P m → A
       go (goes x) e ih = rw (run_goes n image m x e) (ih x (step_keeps image m x e p))
       go (stops reason) e ih = rw (run_stops n image m reason e) p
 
--- ---- a loop: `taken` steps are taken, and the rest of the allowance n is left
+-- ---- a loop that has taken `taken` steps and has the rest of the allowance n left
 
 pub loop_start : (n : ℕ) (image : Image) (m : Machine) → run n image m ≡ later 0 (run (n - 0) image m)
 loop_start n image m =

@@ -1,4 +1,4 @@
--- A run with allowance a + b is a run with a, and then one with b from its state, while the reason is the allowance. Assumes nothing.
+-- A run with allowance a + b is a run with a. If that one stops for its allowance, a run with b goes on from its state. Assumes nothing.
 use Rattle.std.specs.Prelude.{ℕ, zero, suc, ◌+◌, ◌≡◌, refl}
 use Rattle.std.proofs.Common.{zero-add, suc-add, sym, ap, ◌∙◌}
 use Rattle.reading.specs.Reading.{Image}
@@ -16,7 +16,7 @@ go_on_by Pc r k = r
 go_on_by Word r k = r
 go_on_by Overflow r k = r
 
--- a run goes on where another ended for want of allowance; its steps are counted on
+-- If the first run stopped for its allowance, another goes on from there. Its steps are added.
 abbrev pub go_on : Ran → (Machine → Ran) → Ran
 go_on r k = go_on_by r.stopped.reason r k
 

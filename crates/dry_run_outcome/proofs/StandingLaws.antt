@@ -47,14 +47,14 @@ module _ (image : Image) (w : ℕ) (m : Machine) (f : fetch image m.pc ≡ Some 
   pub word_stops : (n : ℕ) (reason : Reason) → step_word w m ≡ stops reason → run (suc n) image m ≡ ended m reason
   word_stops n reason e = run_stops n image m reason (step_there ∙ e)
 
--- ---- words that load a constant (crate loading): the dry run does to the registers what the loading run does
+-- ---- words that load a constant (crate loading): the dry run changes the registers as the loading run does
 
 -- each lui has 0 in rs
 abbrev pub LuisPlain : List ℕ → Type 0
 LuisPlain [] = Unit {0}
 LuisPlain (w ∷ ws) = (opcode w ≡ 15 → rs w ≡ 0) × LuisPlain ws
 
--- what a loading run of a first word and the rest is
+-- A loading run runs the first word, and then the rest.
 load_cons : (w : ℕ) (ws : List ℕ) (g g' : Registers) → load_run (w ∷ ws) g ≡ ran g' → (h : Registers) × (load_step w g ≡ ran h) × (load_run ws h ≡ ran g')
 unfolding load_run
 load_cons w ws g g' e = go (load_step w g) refl

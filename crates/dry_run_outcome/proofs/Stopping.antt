@@ -1,4 +1,4 @@
--- "the stopping word changes nothing": the state that is returned is that after the steps taken, and it is there that the run stops. Assumes nothing.
+-- "the stopping word changes nothing": the state returned is the one after the steps taken, and the run stops there. Assumes nothing.
 use Rattle.std.specs.Prelude.{ℕ, zero, suc, ◌≡◌, refl}
 use Rattle.std.proofs.Common.{add_comm, add-one, ap, ◌∙◌}
 use Rattle.reading.specs.Reading.{Image}
@@ -13,7 +13,7 @@ pub record StopsAt (image : Image) (m : Machine) (r : Ran) : Type 0 where
   pub reached : run r.stopped.steps image m ≡ ran_for r.stopped.steps r.machine Allowance
   pub stops_there : step image r.machine ≡ stops r.stopped.reason
 
--- one step before
+-- The same, seen from one step earlier.
 stops_later : (image : Image) (m m' : Machine) (r : Ran) → step image m ≡ goes m' → StopsAt image m' r → StopsAt image m (later 1 r)
 stops_later image m m' r e h = record {
   reached = ap (λ (n : ℕ). run n image m) (add_comm 1 r.stopped.steps ∙ add-one r.stopped.steps) ∙ run_goes r.stopped.steps image m m' e ∙ ap (later 1) h.reached;

@@ -1,4 +1,4 @@
--- A branch that is taken and a jump go to what document 01's 'Reading back' reads of their patch. Assumes nothing.
+-- A branch that is taken goes where document 01's 'Reading back' reads that its patch leads. So does a jump. Assumes nothing.
 use Rattle.std.specs.Prelude.{ℕ, ◌+◌, ◌*◌, ◌%◌, ◌^◌, ◌≡◌, refl, Bool, true, false, ltb}
 use Rattle.std.proofs.Common.{div-one, arith, ◌∙◌}
 use Rattle.std.proofs.Math.Path.{ap}
@@ -10,7 +10,7 @@ use Rattle.reading.specs.Reading.{Image, pc_in, word_in, signed_bytes, read_by}
 use Rattle.machine.specs.Instructions.{immediate}
 use Rattle.machine.specs.Effects.{next_pc, branch_target, jump_target}
 
--- four times a distance of 16 signed bits, as the step and as 'Reading back' has it
+-- Four times a signed distance of 16 bits: the step and 'Reading back' compute the same.
 pub four_signed : (p n : ℕ) → (p + 4 * signed16 n) % 2 ^ 32 ≡ (p + signed_bytes n) % 2 ^ 32
 unfolding signed16 signed_bytes
 four_signed p n = go (ltb n 32768) refl

@@ -1,5 +1,5 @@
--- Two calls are one, unless the second is refused with 28: it starts where the first left off, and behind a last word there is none to start
--- from. Assumes nothing.
+-- Two calls in a row are one call, unless the second is refused with 28. It starts where the first left off, and behind the last word there is
+-- nothing to start from. Assumes nothing.
 use Rattle.std.specs.Prelude.{ℕ, zero, suc, ◌+◌, ◌%◌, List, Bool, true, false, ◌&&◌, ◌≡◌, refl, eqb, Err, None, Ok, Option, Some}
 use Rattle.std.proofs.Common.{add-zero, arith, sym, ap, subst, ◌∙◌, eq-eqb, eqb-true}
 use Rattle.std.proofs.lemmas.Bool.{false≢true}
@@ -28,17 +28,17 @@ use Rattle.dry_run_outcome.proofs.Call.{call_runs}
 
 -- ---- one call from two
 
--- why a run with allowance b ends where there is no whole word
+-- why a run with allowance b ends if no whole word stands at its pc
 abbrev pub ends_for : ℕ → Reason
 ends_for zero = Allowance
 ends_for (suc b) = Pc
 
--- the second call's steps are counted on; where it is refused, the run ends where it was to start
+-- The second call's steps are added. If it is refused, the run ends where it was to start.
 abbrev pub counted_on : (steps b : ℕ) → RunAnswer → RunAnswer
 counted_on steps b (Ok s) = stopped s.reason (steps + s.steps)
 counted_on steps b (Err r) = stopped (ends_for b) steps
 
--- a second call goes on only where the first stopped for the allowance
+-- A second call goes on only if the first stopped for the allowance.
 abbrev pub joined_for : Reason → (steps b : ℕ) → (first second : DryRun) → DryRun
 joined_for Allowance steps b first second = record { machine = second.machine; answer = counted_on steps b second.answer }
 joined_for Pc steps b first second = first
@@ -57,7 +57,7 @@ joined b first second = joined_by first.answer b first second
 started_same : (m : Machine) → HoldsZero m → started m ≡ m
 started_same m z = ap (at m.pc) (set_held m.registers z)
 
--- no word stands where a run may not start, though the pc is a multiple of four
+-- If a run may not start at a multiple of four, no word stands there.
 missing : (f : Option ℕ) (pc : ℕ) → pc % 4 ≡ 0 → (eqb (pc % 4) 0 && is_word f) ≡ false → f ≡ None
 missing None pc a e = refl
 missing (Some w) pc a e = absurd (false≢true (sym (rw (eq-eqb (pc % 4) 0 a) at e)))
@@ -125,17 +125,17 @@ module _ (regions : List ℕ) (m : Machine) (a b : ℕ) where
       by_layout None e = by_start e (can_start (image_of regions) m.pc) refl
       by_layout (Some place) e = subst IsJoined (sym (outcome_layout regions m a place e)) (outcome_layout regions m (a + b) place e)
 
-  -- ---- where the first stopped for the allowance
+  -- ---- if the first stopped for the allowance
 
   module _ (steps : ℕ) (ends : first.answer ≡ stopped Allowance steps) where
-    -- two calls are one
+    -- The two calls are one.
     pub one_of_two : (reason : Reason) (more : ℕ) → second.answer ≡ stopped reason more
         → dry_run_outcome regions m (a + b) ≡ (record { machine = second.machine; answer = stopped reason (steps + more) })
     one_of_two reason more e =
         two_calls ∙ ap (λ (x : RunAnswer). joined_by x b first second) ends
         ∙ ap (λ (x : RunAnswer). record { machine = second.machine; answer = counted_on steps b x }) e
 
-    -- unless the second is refused, and 28 is all that it is refused with
+    -- The second call is refused with nothing but 28.
     pub only_28 : (q : Refusal) → second.answer ≡ Err q → q ≡ BadStart
     only_28 q e = go (can_start (image_of regions) first.machine.pc) refl
       where

@@ -1,4 +1,4 @@
--- The definition, computed: why a run stops or does not start, which word is read, and what is taken for $zero. Assumes nothing.
+-- The definition, computed: why a run stops or does not start, which word is read, and how $zero is treated. Assumes nothing.
 use Rattle.std.specs.Prelude.{ℕ, ◌+◌, List, [], ◌∷◌, ◌++◌, ◌≡◌, refl, length, replicate, Err}
 use Rattle.field.specs.Field.{get_field}
 use Rattle.record.specs.Records.{places, places_from, places_f, first_bad_of, within_limit}
@@ -45,18 +45,18 @@ pub record Worked : Type 0 where
   pub no_lui : one 0x3C210001 ≡ ends (holding 0 1 0x7FFFFFFF 0x00400000) (stopped Word 0)
   pub no_sll : one 0x00010840 ≡ ends (holding 0 1 0x7FFFFFFF 0x00400000) (stopped Word 0)
   pub no_sltu : one 0x00220829 ≡ ends (holding 0 1 0x7FFFFFFF 0x00400000) (stopped Word 0)
-  -- the one call of nine steps made as two, of four and of five: the second is refused
+  -- The call of nine steps, made as two calls of four and five: the second is refused.
   pub second_refused : dry_run_outcome loop (holding 0 0 0 0x00400008) 5 ≡ ends (holding 0 0 0 0x00400008) (Err BadStart)
   -- refused with allowance 0 too, and $zero is left as it was
   pub odd_start : dry_run_outcome loop (holding 7 2 0 0x00400002) 0 ≡ ends (holding 7 2 0 0x00400002) (Err BadStart)
   pub no_word : dry_run_outcome loop (holding 7 2 0 0x00400008) 0 ≡ ends (holding 7 2 0 0x00400008) (Err BadStart)
   pub no_regions : dry_run_outcome [] (holding 7 2 0 0x00400002) 9 ≡ ends (holding 7 2 0 0x00400002) (Err (BadLayout 0 0))
-  -- two regions with a word at one pc, and two of which the first has only a part of it
+  -- Two regions that both have a word at one pc. Then two again, but the first has only a part of the word.
   pub lowest : dry_run_outcome (region 0x00400000 (le32_bytes 0x24010005) ++ region 0x00400000 (le32_bytes 0x24010006)) (holding 0 0 0 0x00400000) 1
       ≡ ends (holding 0 5 0 0x00400004) (stopped Allowance 1)
   pub lowest_whole : dry_run_outcome (region 0x00400000 (5 ∷ 0 ∷ 1 ∷ []) ++ region 0x00400000 (le32_bytes 0x24010006)) (holding 0 0 0 0x00400000) 1
       ≡ ends (holding 0 6 0 0x00400004) (stopped Allowance 1)
-  -- a region that starts between two words, and one that goes round from the last address to the first
+  -- a region that starts between two words, and one that wraps from the last address to the first
   pub between : dry_run_outcome (region 0x003FFFFE (0 ∷ 0 ∷ le32_bytes 0x24010005)) (holding 0 0 0 0x00400000) 1 ≡ ends (holding 0 5 0 0x00400004) (stopped Allowance 1)
   pub round : dry_run_outcome (region 0xFFFFFFFC (le32_bytes 0 ++ le32_bytes 0x24010005)) (holding 0 0 0 0xFFFFFFFC) 2 ≡ ends (holding 0 5 0 0x00000004) (stopped Allowance 2)
 

@@ -13,11 +13,11 @@ use Rattle.dry_run_outcome.specs.DryRun.{started}
 pub step_zero : (image : Image) (m m' : Machine) → step image m ≡ goes m' → HoldsZero m → HoldsZero m'
 step_zero = step_keeps HoldsZero word_zero
 
--- the state after each number of steps
+-- $zero is 0 after any number of steps.
 pub run_zero : (n : ℕ) (image : Image) (m : Machine) → HoldsZero m → HoldsZero (run n image m).machine
 run_zero = run_keeps HoldsZero word_zero
 
--- a 0 stored where one is
+-- Storing a 0 where one stands changes nothing.
 pub set_held : (g : Registers) → Zero g → set g 0 0 ≡ g
 set_held [] z = refl
 set_held (x ∷ g) z = rw (sym z)
@@ -26,6 +26,6 @@ set_zero : (g : Registers) → Zero (set g 0 0)
 set_zero [] = refl
 set_zero (x ∷ g) = refl
 
--- A dry run starts with $zero 0, so its state has $zero 0, whatever was given for it.
+-- A dry run starts with 0 in $zero, whatever was given for it.
 pub started_zero : (m : Machine) → HoldsZero (started m)
 started_zero m = set_zero m.registers

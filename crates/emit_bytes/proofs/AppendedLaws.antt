@@ -22,7 +22,7 @@ use Rattle.pending.specs.declared.InstructionLabel.{InstructionLabel}
 abbrev pub word_of : InstructionPair → List ℕ
 word_of p = le32_bytes p.word
 
--- each has four
+-- Each word has four bytes.
 pub word_length : (ps : List InstructionPair) (i : ℕ) → i < length ps → length (get_or (map word_of ps) i []) ≡ 4
 word_length [] i h = absurd (not-suc-le-zero h)
 word_length (p ∷ ps) zero h = refl
@@ -33,7 +33,7 @@ unfolding word_bytes
 words_length [] = refl
 words_length (p ∷ ps) = omega (arith, words_length ps)
 
--- those of the first i pairs
+-- the length of the first i pairs' words
 pub words_upto : (ps : List InstructionPair) (i : ℕ) → i ≤ length ps → length (word_bytes (take i ps)) ≡ 4 * i
 words_upto ps i h = words_length (take i ps) ∙ ap (λ (n : ℕ). 4 * n) (length-take-le i ps h)
 
@@ -154,7 +154,7 @@ pub sizes_room : (tokens : List ℕ) (d : InstructionPair) (w : Option Instructi
     → pendings_len tokens (take i ps) + pair_len tokens w ≤ pendings_len tokens (take n ps)
 sizes_room tokens d w ps i n h k g = omega (arith, sizes_next tokens d w ps i (omega arith) g, sizes_within tokens ps (i + 1) n (omega arith))
 
--- what the first pair that is left has, and the others
+-- The room for the pairs left: that for the first one, and that for the others.
 module _ (tokens : List ℕ) (d : InstructionPair) (ps : List InstructionPair) (i : ℕ) (h : i < length ps) where
   pub sizes_here : pendings_len tokens (drop i ps) ≡ pair_len tokens (get_or ps i d).label + pendings_len tokens (drop (i + 1) ps)
   unfolding pendings_len

@@ -47,7 +47,7 @@ module _ (token_list mnemonic descriptors : List ℕ) (lent : Lent) (region : �
   unfolding layout_stop
   layouts_are ht hm hd hr hp hb = rw (ht, hm, hd, hr, hp, hb)
 
-  -- the same of the verdicts
+  -- The same, stated of the verdicts.
   pub verdicts_are : {t m d r p b : Verdict} → layout_verdict 0 (token_layout token_list) ≡ t → layout_verdict 1 (mnemonic_layout mnemonic) ≡ m
       → layout_verdict 2 (descriptor_layout descriptors) ≡ d → layout_verdict 3 (data_buffer_layout region counts.data_len lent.region_data) ≡ r
       → layout_verdict 4 (pending_buffer_layout counts.pending lent.pending) ≡ p → layout_verdict 5 (breakpoint_buffer_layout counts.breakpoints lent.breakpoints) ≡ b

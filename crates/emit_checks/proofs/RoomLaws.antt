@@ -1,4 +1,4 @@
--- The room for a line's words: its checks one after the other, and what room that passes gives. Assumes nothing.
+-- The room for a line's words: its checks, one after the other, and what is known if they pass. Assumes nothing.
 use Prim.Native.Nat.{ℕ, zero, suc, ◌+◌, ◌-◌, ◌*◌, ◌^◌, ◌≤◌, ◌<◌}
 use native.Mathlib.Omega.{arith}
 use Rattle.std.proofs.Math.Path.{◌≡◌, refl}
@@ -23,7 +23,7 @@ use Rattle.emit_outcome.specs.Room.{no_region, most_data, region_stop, edge_stop
 use Rattle.emit_outcome.specs.Emit.{answer_stop, line_stop}
 use Rattle.emit_checks.specs.Made.{RoomFor}
 
--- ---- refusal 11: no word is left, the first fits, the first does not
+-- ---- refusal 11: no word is left, or the first word left fits, or it does not
 module _ (line : Location) (address : ℕ) where
   pub edge_end : (n size : ℕ) → n ≡ 0 → edge_stop line address n size ≡ Ok tt
   unfolding edge_stop

@@ -1,4 +1,4 @@
--- Laws of an emit call: its outcome by what the lists and the mnemonic are. Assumes nothing.
+-- Laws of an emit call: how its lists and its mnemonic decide the outcome. Assumes nothing.
 use Rattle.std.specs.Prelude.{ℕ, ◌+◌, ◌≤◌, ◌≡◌, refl, List, length, Bool, true, false, Err, None, Ok, Option, Result, Some}
 use Rattle.std.proofs.Common.{arith, sym, subst, ◌∙◌}
 use Rattle.std.proofs.Math.Path.{ap}
@@ -41,7 +41,7 @@ use Rattle.emit_core.specs.Read.{LineMade, LineFor, ReadIs}
 use Rattle.pseudo_names.specs.declared.Pseudo.{Pseudo}
 use Rattle.refusal.specs.Verdicts.{Verdict}
 
--- what a name is, by what the table and the pseudo-instructions say
+-- What a name means: first the descriptor table decides, then the pseudo-instructions.
 module _ (descriptors name : List ℕ) where
   pub by_table : {found : Option ℕ} → find_descriptor descriptors name ≡ found → meaning descriptors name ≡ or_pseudo found name
   unfolding meaning
@@ -50,7 +50,7 @@ module _ (descriptors name : List ℕ) where
   pub by_pseudo : {p : Option Pseudo} → find_descriptor descriptors name ≡ None → pseudo_of name ≡ p → meaning descriptors name ≡ or_neither p
   by_pseudo e f = by_table e ∙ ap or_neither f
 
-  -- a descriptor that was found stands in the table whole
+  -- A descriptor that was found lies in the table as a whole.
   pub table_fits : (p : ℕ) → descriptor_layout descriptors ≡ None → meaning descriptors name ≡ Table p → p + 12 ≤ length descriptors
   table_fits p g e = go (find_descriptor descriptors name) refl
     where
@@ -74,7 +74,7 @@ table_as job descriptors p ts i {before} {after} {answer} e a =
 
 -- ---- a line that was read
 
--- a line is what was made of it
+-- The line is the one that was made of what was read.
 pub line_made : {before after : CursorIn} {line : Line} (read : LineRead) → LineAs before line read.answer after → read.position ≡ after.index → LineMade line read
 line_made read a e = (a.made_as, sym (e ∙ ap (λ (c : CursorIn). c.index) a.after_is))
 
@@ -85,7 +85,7 @@ index_most s c p =
     let n = length (tokens s) in
     omega (arith, p.index_within, place_least s p.layout_good n (omega arith), place_end s n (omega arith), (limit_good s (first_bad (token_ok s) (places s)) p.layout_good).0)
 
--- the outcome is that of the line; the words of one that is not made are no part of it
+-- The outcome is the line's. If the line is not made, its words do not matter.
 module _ (token_list : List ℕ) (at : Location) (numbers : LineNumbers) (lent : Lent) where
   abbrev outcome : Line → EmitOutcome
   outcome = line_outcome token_list at numbers lent
@@ -125,7 +125,7 @@ module _ (job : Job) (c : Call) where
   unfolding emit_outcome
   by_line e f = ap (list_outcome job c) e ∙ ap (line_or_unknown c) f
 
-  -- a line that was read, from where the call starts
+  -- The call's outcome, from the line that was read.
   abbrev pub read_outcome : (known : Bool) → LineRead → EmitOutcome
   read_outcome true read = line_outcome c.token_list read.line c.numbers c.lent (made_line read)
   read_outcome false read = call_refused c (UnknownInstruction read.line)
@@ -145,6 +145,6 @@ module _ (job : Job) (c : Call) where
   pub unread_outcome : (r : Refusal) → stop ≡ Ok tt → (call_made job c ≡ None) × (r ≡ UnknownInstruction (mnemonic_location c.mnemonic)) → emit_outcome job c ≡ call_refused c r
   unread_outcome r pass m = by_line pass m.0 ∙ sym (ap (call_refused c) m.1)
 
--- an outcome that is the call's is all that a call promises
+-- If the outcome is the call's, everything that a call promises holds.
 pub emitted : {job : Job} {call : Call} {answer : EmitAnswer} {counts : FillCounts} {lent : Lent} → emit_outcome job call ≡ outcome_of answer counts lent → EmittedBy job call answer counts lent
 emitted e = record { outcome_is = e; returned_is = ap (λ (o : EmitOutcome). returned o.answer) (sym e) }

@@ -1,4 +1,4 @@
--- The forms that the emitters report are those of the constants that the operands say are loaded. Assumes nothing.
+-- The form that an emitter reports is the form of the constant that its operands load. Assumes nothing.
 use Rattle.std.specs.Prelude.{ℕ, ◌≡◌, refl, Bool, true, false, Err, None, Ok, Some, Option}
 use Rattle.std.proofs.Common.{arith}
 use Rattle.registers.specs.declared.RegisterSlot.{RegisterSlot}
@@ -30,7 +30,7 @@ pub label_form_lem : (r : RegisterSlot) (label : AddressLabel) → label_form la
 label_form_lem r (Constant c) = refl
 label_form_lem r (Label name) = refl
 
--- a constant that is loaded where it is no immediate
+-- A constant is loaded if it is no immediate.
 tested : (b : Bool) (c : ℕ) → elim b [ true ↦ Unloaded | false ↦ form_of c ] ≡ form_from (elim b [ true ↦ None | false ↦ into_at c ])
 tested true c = refl
 tested false c = refl

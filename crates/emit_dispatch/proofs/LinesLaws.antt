@@ -1,4 +1,4 @@
--- Laws of a line: the words of an encoding by its case, and the line by what was read. Assumes nothing.
+-- Laws of a line: the words for each case of encoding, and the line made of what was read. Assumes nothing.
 use Rattle.std.specs.Prelude.{ℕ, ◌≡◌, refl, List, Bool, true, false, Err, Ok, Option, Result}
 use Rattle.std.specs.Result.{result_and}
 use Rattle.std.proofs.Common.{sym, ap, subst, ◌∙◌, arith}
@@ -31,7 +31,7 @@ use Rattle.emit_dispatch.specs.Contract.{held_answer, MadeAs, LineAs}
 
 -- ---- the line, by what was read
 
--- ---- words and ranges, by the case that the encoding or the pseudo-instruction is
+-- ---- words and ranges, once it is known which encoding or pseudo-instruction it is
 
 pub encoding_as : {r : EmitInstruction} (job : Job) {e is : Encoding} (op : Opcode) (o : Operands) → e ≡ is → EmitIs r (encoding_pairs job is op (held_values (encoding_wants is) o)) (encoding_form is (held_values (encoding_wants is) o))
     → EmitIs r (encoding_pairs job e op (held_values (encoding_wants e) o)) (encoding_form e (held_values (encoding_wants e) o))
@@ -47,22 +47,22 @@ range_as {r} job op o e i = subst (λ (x : Encoding). r ≡ encoding_range job x
 
 -- ---- the line, by what was read
 
--- a line is made where its operands lie within their ranges
+-- If a line is made, its operands lie within their ranges.
 pub within_made : (r : Range) → range_answer r ≡ Made → r ≡ Ok tt
 within_made (Ok tt) e = refl
 within_made (Err fault) e = cc
 
--- std's test of one and then the other
+-- std's `and` of two results is our test of one and then the other.
 pub and_then_is : (first next : Range) → result_and first next ≡ range_then first next
 and_then_is (Ok tt) next = refl
 and_then_is (Err fault) next = refl
 
--- and so does each part of a test of two
+-- If both tests together pass, each of them passes.
 pub then_within : (first next : Range) → range_then first next ≡ Ok tt → (first ≡ Ok tt) × (next ≡ Ok tt)
 then_within (Ok tt) next e = (refl, e)
 then_within (Err fault) next e = let z : ◌≡◌ {A = ℕ} 0 1 = cc in absurd (omega arith)
 
--- the immediate of a line that is taken lies within its range
+-- If a line is taken, its immediate lies within its range.
 pub immediate_taken : (job : Job) {e : Encoding} {alt : Option Opcode} (op : Opcode) (o : Operands) → e ≡ Immediate alt
     → encoding_range job e op (held_values (encoding_wants e) o) ≡ Ok tt → immediate_range alt (constant_in o.third) ≡ Ok tt
 immediate_taken job {e} {alt} op o i t =
@@ -79,7 +79,7 @@ kept_within job third op e = go (is_dropped job third op) e
     go true h = cc
     go false h = refl
 
--- the line of what was read, by what the operands hold
+-- The line, from the operands that were read.
 module _ (w : Wants) {before after : CursorIn} (x : At (Answer (AskedAll w))) {read : Result Operands Miss} (r : Reads before (given_all w x) read after) where
   read_held : (given : Result Operands Miss) → read ≡ given → x ≡ here (held_answer w given) after.index
   read_held (Ok o) e = all_given w x r o e

@@ -1,4 +1,4 @@
--- The line whose operands were missed, and the line of those that were read. Assumes nothing.
+-- The line if an operand was missed, and the line if all operands were read. Assumes nothing.
 use Rattle.std.specs.Prelude.{◌≡◌, List, Err, Ok, Result}
 use Rattle.std.proofs.Common.{sym, subst}
 use Rattle.cursor.specs.Cursors.{At}
@@ -26,7 +26,7 @@ module _ (w : Wants) {before after : CursorIn} (x : At (Answer (AskedAll w))) {g
   line_missed m e unmade a =
       line_held w x r range pairs form (Err unmade) (subst (λ (y : Result Operands Miss). MadeAs (line_by (held_answer w y) 0 range pairs form) (Err unmade)) (sym e) (sym a))
 
-  -- the line has the words that the operands make, or answers that they lie outside their ranges
+  -- The line has the words that the operands make, or it answers that they are out of range.
   pub line_read : (o : Operands) → given ≡ Ok o → (made : Result EmitInstruction Unmade) → MadeAs (line_by (Got (held_values w o)) 0 range pairs form) made
       → LineAs before (line_by x.answer x.index range pairs form) made after
   line_read o e made a = line_held w x r range pairs form made (subst (λ (y : Result Operands Miss). MadeAs (line_by (held_answer w y) 0 range pairs form) made) (sym e) a)

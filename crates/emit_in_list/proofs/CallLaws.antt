@@ -1,4 +1,4 @@
--- What an emit call leaves of its data buffer: words appended, or none. Assumes nothing.
+-- What an emit call does to its data buffer: it appends words, or nothing. Assumes nothing.
 use Rattle.std.specs.Prelude.{ℕ, ◌+◌, ◌-◌, ◌*◌, ◌≤◌, Bool, ◌&&◌, List, [], eqb, Err, None, Ok, Option, Some}
 use Rattle.std.proofs.Common.{arith, sym, ap, ap₂, ◌∙◌}
 use Rattle.std.proofs.Math.Bool.{true, false, and-eq-true_iff}
@@ -32,7 +32,7 @@ use Rattle.emit_outcome.specs.Emit.{refuse, line_stop, accept_or, line_outcome, 
 use Rattle.patching_outcome.specs.Line.{new_words}
 use Rattle.refusal.specs.Verdicts.{Verdict}
 
--- an accepted line has a selected region, and its data stays within the most that a region has
+-- An accepted line has a selected region, and the region's data does not exceed its limit.
 pub data Told (region : ℕ) (counts : FillCounts) : EmitAnswer → Type 0 where
   told_done : (i : ℕ) (f : LoadForm) → eqb region no_region ≡ false → counts.data_len ≤ most_data → Told region counts (done_at i f)
   told_refused : (r : Refusal) (i : ℕ) → Told region counts (refused_at r i)
@@ -96,7 +96,7 @@ module _ (job : Job) (c : Call) (inside : c.numbers.counts.data_len ≤ length c
   list_appends (Err r) = refuse_appends c.numbers.place.region c.numbers.counts c.lent c.numbers.place.position r inside
   list_appends (Ok tt) = made_appends (call_made job c)
 
-  -- of every call
+  -- Every call appends words in this sense, or nothing.
   pub appends : Appends c.numbers.place.region c.numbers.counts c.lent (emit_outcome job c)
   unfolding emit_outcome
   appends = list_appends (list_stop c.token_list c.mnemonic c.descriptors c.lent c.numbers.place.region c.numbers.counts)

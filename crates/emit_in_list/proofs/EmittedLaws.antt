@@ -1,4 +1,4 @@
--- The two exchanges and the call between them are the emit call of the list. Assumes nothing.
+-- The two exchanges, with the call between them, do what the emit call of the list does. Assumes nothing.
 use Rattle.std.specs.Prelude.{ℕ, ◌+◌, ◌-◌, ◌≤◌, List, ◌≡◌, length, take, drop}
 use Rattle.std.proofs.Common.{arith, sym, ap, subst, ◌∙◌, length-append, length-drop, length-take-le}
 use Rattle.jobs.specs.declared.Job.{Job}
@@ -37,7 +37,7 @@ module _ (job : Job) (tokens mnemonic descriptors list pending breakpoints : Lis
   pub data_long : length (data_in list start counts.data_len fill room) ≡ counts.data_len + room
   data_long = long
 
-  -- the list after the first exchange, x being what it leaves of its part
+  -- The list after the first exchange. x is what the exchange leaves of its part.
   module _ (x : List ℕ) (first : x ≡ turned list (start + counts.data_len) (fill + room) (fill - (start + counts.data_len))) where
     abbrev once : List ℕ
     once = over list (start + counts.data_len) (fill + room) x
@@ -60,7 +60,7 @@ module _ (job : Job) (tokens mnemonic descriptors list pending breakpoints : Lis
       pub added : Appends place.region counts (lent_of (data_in list start counts.data_len fill room) pending breakpoints) o
       added = subst (λ (x : EmitOutcome). Appends place.region counts call.lent x) outcome call_adds
 
-      -- as many bytes as it appended were free
+      -- It appends at most as many bytes as were free.
       pub grows : (counts.data_len ≤ counts_after.data_len) × (counts_after.data_len - counts.data_len ≤ room)
       grows = (omega (arith, added.count_is), omega (arith, added.count_is, added.room, long))
 

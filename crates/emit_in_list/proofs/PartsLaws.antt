@@ -3,11 +3,11 @@ use Rattle.std.specs.Prelude.{ℕ, ◌+◌, ◌-◌, List, ◌++◌, ◌≡◌, 
 use Rattle.std.proofs.Common.{arith, append_assoc, sym, ap, ap₂, ◌∙◌, length-append, take-append-drop, take_at, drop_at, drop-drop}
 use Rattle.record.specs.Bytes.{part}
 
--- the list with x for what stands from a up to b, as a part that was lent comes back
+-- The list with x in place of its elements from a up to b, as when a lent part comes back.
 abbrev pub over : List ℕ → (a b : ℕ) → List ℕ → List ℕ
 over s a b x = take a s ++ (x ++ drop (b - a) (drop a s))
 
--- the part from a up to b, its first m elements behind the others
+-- The part from a up to b, with its first m elements moved behind the others.
 abbrev pub turned : List ℕ → (a b m : ℕ) → List ℕ
 turned s a b m = drop m (take (b - a) (drop a s)) ++ take m (take (b - a) (drop a s))
 

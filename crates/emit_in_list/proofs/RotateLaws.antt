@@ -1,4 +1,4 @@
--- A list whose free bytes are brought behind one record's data, taken from, and brought back. Assumes nothing.
+-- A list's free bytes are moved behind one record's data. A call takes some of them, and the rest is moved back. Assumes nothing.
 use Rattle.std.specs.Prelude.{ℕ, ◌+◌, ◌-◌, ◌≤◌, ◌≡◌, refl, take}
 use native.Mathlib.Omega.{arith}
 use mathlib.Core.List.{List, ◌++◌, append_assoc}
@@ -12,7 +12,7 @@ use Rattle.patching_outcome.specs.Grown.{inserted}
 use Rattle.emit_in_list.specs.InList.{data_in}
 use Rattle.emit_in_list.proofs.PartsLaws.{over, turned, part_drop, middle_is, over_is, swapped}
 
--- ---- what stands before the data, the data, the records behind it, the free bytes that may be taken, and the rest
+-- ---- a comes before the data d; then come the records t behind it, the free bytes f that may be taken, and the rest z
 module _ (a d t f z : List ℕ) (start end fill room : ℕ) (la : length a ≡ start) (ld : start + length d ≡ end) (lt : end + length t ≡ fill) (lf : length f ≡ room) where
   abbrev before : List ℕ
   before = a ++ (d ++ (t ++ (f ++ z)))
@@ -23,7 +23,7 @@ module _ (a d t f z : List ℕ) (start end fill room : ℕ) (la : length a ≡ s
   front : length (a ++ d) ≡ end
   front = omega (arith, length-append a d)
 
-  -- the free bytes behind the data
+  -- The free bytes are moved behind the data.
   pub brought : over before end (fill + room) (turned before end (fill + room) (fill - end)) ≡ lent
   brought =
       ap (λ (l : List ℕ). over l end (fill + room) (turned l end (fill + room) (fill - end))) (sym (append_assoc a d (t ++ (f ++ z))))
@@ -43,7 +43,7 @@ module _ (a d t f z : List ℕ) (start end fill room : ℕ) (la : length a ≡ s
     long_left : length left ≡ room - length w
     long_left = length-drop (length w) f ∙ ap (λ (n : ℕ). n - length w) lf
 
-    -- what the call leaves there: the words, and the free bytes that are left
+    -- What the call leaves there: the words, and the free bytes that remain.
     taken : append (d ++ f) (length d) w ≡ d ++ (w ++ left)
     unfolding append
     taken =

@@ -1,4 +1,4 @@
--- Laws of a made line: its index, its pcs, and its outcome by what its checks say. Assumes nothing.
+-- Laws of a made line: its index, its pcs, and how its checks decide the outcome. Assumes nothing.
 use Rattle.std.specs.Prelude.{◌≡◌, ℕ, zero, suc, ◌+◌, ◌*◌, ◌^◌, ◌<◌, ◌≤◌, List, refl, Err, Ok, Result}
 use Rattle.std.proofs.Common.{subst, ◌∙◌, arith}
 use Rattle.std.proofs.Math.Path.{ap}
@@ -21,7 +21,7 @@ use Rattle.emit_outcome.specs.Answer.{done_at}
 use Rattle.emit_outcome.specs.Call.{Lent, lent_of, outcome_of}
 use Rattle.emit_outcome.specs.Emit.{refuse, accept, line_stop, accept_or, line_outcome}
 
--- the pc of a line without words is no part of its record
+-- A line without words has no pc in its record.
 pub same_pcs : (line : Location) (pc at n : ℕ) → (0 < n → pc ≡ at) → breakpoint_bytes line pc n ≡ breakpoint_bytes line at n
 unfolding pcs_bytes
 same_pcs line pc at zero h = refl
@@ -47,7 +47,7 @@ module _ (token_list : List ℕ) (line : Location) (numbers : LineNumbers) (lent
   unfolding line_outcome
   line_passed e = ap (accept_or token_list line numbers lent made) e
 
--- what was given, by what it is with the position
+-- A verdict with a position added: what the verdict was.
 pub stopped_ok : {A : Type 0} (p : ℕ) (v : Result A Refusal) {x : A} → stopped_at p v ≡ Ok x → v ≡ Ok x
 stopped_ok p (Ok y) e = cc
 stopped_ok p (Err r) e = cc
@@ -56,7 +56,7 @@ pub stopped_err : {A : Type 0} (p : ℕ) (v : Result A Refusal) {k : RefusedLine
 stopped_err p (Ok y) e = let z : ◌≡◌ {A = ℕ} 0 1 = cc in absurd (omega arith)
 stopped_err p (Err r) e = (r, refl, cc)
 
--- a line's index is the one that is given, made or not
+-- A line's index is the given one, whether the line is made or not.
 pub answer_index : (a : Result EmitInstruction Unmade) (i : ℕ) → (answer_line a i).index ≡ i
 answer_index (Ok words) i = refl
 answer_index (Err unmade) i = refl

@@ -1,4 +1,4 @@
--- "Lent bytes and fill counts then remain as at entry": of every emit call that is refused. Assumes nothing.
+-- "Lent bytes and fill counts then remain as at entry": this holds of every emit call that is refused. Assumes nothing.
 use Rattle.std.specs.Prelude.{ℕ, ◌≡◌, List, Err, None, Ok, Option, Some}
 use Rattle.std.proofs.Common.{arith}
 use Rattle.jobs.specs.declared.Job.{Job}
@@ -16,7 +16,7 @@ use Rattle.emit_outcome.specs.Emit.{refuse, line_stop, accept_or, line_outcome, 
 use Rattle.emit_outcome.proofs.AnswerLaws.{refused_parts}
 use Rattle.refusal.specs.Verdicts.{Verdict}
 
--- where an outcome answers with a refusal, it is that refusal's outcome
+-- If an outcome answers with a refusal, it is the outcome of that refusal.
 abbrev pub Stays : FillCounts → Lent → EmitOutcome → Type 0
 Stays counts lent o = (r : Refusal) (p : ℕ) → o.answer ≡ refused_at r p → o ≡ refuse counts lent p r
 
@@ -41,7 +41,7 @@ module _ (job : Job) (c : Call) where
   list_stays (Err s) = refuse_stays c.numbers.counts c.lent c.numbers.place.position s
   list_stays (Ok tt) = made_stays (call_made job c)
 
-  -- the outcome with a refusal for its answer is that refusal's, with all that was lent as at entry
+  -- A refused call has the outcome of its refusal, with all that was lent as at entry.
   pub refused_stays : Stays c.numbers.counts c.lent (emit_outcome job c)
   unfolding emit_outcome
   refused_stays = list_stays (list_stop c.token_list c.mnemonic c.descriptors c.lent c.numbers.place.region c.numbers.counts)

@@ -24,14 +24,14 @@ use Rattle.emit_pairs.specs.Pairs.{plain, waiting, pairs_of, EmitIs, at_number, 
 
 -- ---- the array and its count
 
--- the same words and the same form, said otherwise
+-- the same words and the same form, written differently
 pub emit_by : {e : EmitInstruction} {ps qs : List InstructionPair} {f g : LoadForm} → EmitIs e ps f → ps ≡ qs → f ≡ g → EmitIs e qs g
 emit_by i q h = record { pairs_are = i.pairs_are ∙ q; count_is = i.count_is ∙ ap length q; form_is = i.form_is ∙ h }
 
 pub emit_as : {e : EmitInstruction} {ps qs : List InstructionPair} {f : LoadForm} → EmitIs e ps f → ps ≡ qs → EmitIs e qs f
 emit_as i q = emit_by i q refl
 
--- a pair put at the end of those counted
+-- A pair is put behind those counted.
 pub stored : (l : List InstructionPair) (n : ℕ) (f : LoadForm) (p : InstructionPair) → n < length l → (few : n + 1 ≤ 5)
     → EmitIs (record { instructions = set l n p; count = n + 1; loaded = f; few = few }) (take n l ++ p ∷ []) f
 stored l n f p h few = record {
@@ -40,7 +40,7 @@ stored l n f p h few = record {
   form_is = refl;
 }
 
--- what `push` ensures, said of the pairs that there were
+-- What `push` ensures, stated of the pairs before it.
 pub emit_push : {e r : EmitInstruction} {ps : List InstructionPair} {f : LoadForm} (p : InstructionPair)
     → EmitIs e ps f → EmitIs r (pairs_of e ++ p ∷ []) e.loaded → EmitIs r (ps ++ p ∷ []) f
 emit_push p i j = emit_by j (ap (λ (l : List InstructionPair). l ++ p ∷ []) i.pairs_are) i.form_is
@@ -51,7 +51,7 @@ pub load_pairs_length : (c t : ℕ) → (1 ≤ length (load_pairs c t)) × (leng
 unfolding load_pairs
 load_pairs_length c t = simp length-map (load_length c t)
 
--- one word, or two, before the padding
+-- One word or two, taken from before the padding.
 one_of : (ws : List ℕ) → 1 ≤ length ws → length ws < 2 → map plain ws ≡ plain (get_or (padded ws) 0 0) ∷ []
 one_of [] h k = absurd (omega arith)
 one_of (w ∷ []) h k = refl
@@ -78,7 +78,7 @@ module _ (c t : ℕ) {words : List ℕ} {count : ℕ} {form : LoadForm} (i : Loa
       let n : 2 ≤ length (load_words c t) = subst (λ (n : ℕ). 2 ≤ n) i.count_is h in
       ap (λ (l : List ℕ). plain (get_or l 0 0) ∷ plain (get_or l 1 0) ∷ []) i.words_are ∙ sym (two_of (load_words c t) n k.1)
 
--- ---- a label: its cases, at the words that the code has at hand
+-- ---- a label, case by case, with the words that the code has at hand
 
 module _ {label : AddressLabel} (t : ℕ) where
   pub label_constant : {c : ℕ} → label ≡ Constant c → load_pairs c t ≡ label_pairs label t

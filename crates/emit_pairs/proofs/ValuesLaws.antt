@@ -1,4 +1,4 @@
--- Laws of operands that take words of their own: how many words they take, one or two more pushed after them, and what an offset comes to.
+-- Laws of operands that take words of their own: how many words they take, one or two words pushed behind them, and what an offset turns into.
 -- Assumes nothing.
 use Rattle.std.specs.Prelude.{◌≡◌, refl, List, [], ◌∷◌, ◌++◌, Bool, true, false, ℕ, ◌+◌, ◌%◌, ◌≤◌, length}
 use Rattle.std.proofs.Common.{◌∙◌, append_assoc, arith, length-append}
@@ -53,7 +53,7 @@ module _ {e f : EmitInstruction} {ps : List InstructionPair} {form : LoadForm} (
   pub emit_two : {r : EmitInstruction} (q : InstructionPair) → EmitIs r (pairs_of f ++ q ∷ []) f.loaded → EmitIs r (ps ++ p ∷ q ∷ []) form
   emit_two q k = emit_as (emit_push q (emit_push p i j) k) (append_assoc ps (p ∷ []) (q ∷ []))
 
--- ---- an offset: the immediate, the base register's number, the words before and the form
+-- ---- what an offset turns into: the immediate, the base register's number, the words before and the form
 
 abbrev pub ComesTo : OffsetOrLabel → (immediate register : ℕ) → List InstructionPair → LoadForm → Type 0
 ComesTo o immediate register ps form = (immediate ≡ offset_immediate o) × (register ≡ offset_number o) × (ps ≡ offset_pairs o) × (form ≡ offset_form o)

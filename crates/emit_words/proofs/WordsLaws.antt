@@ -1,4 +1,4 @@
--- A word under construction is its fields laid out, and each method replaces one: the steps from which each word's chain is put together.
+-- A word under construction is its fields laid out, and each method replaces one field. The chain of each word is made of these steps.
 -- Assumes nothing.
 use Rattle.std.specs.Prelude.{◌≡◌, Bool, true, false, ℕ, ◌/◌, ◌%◌, ◌<◌}
 use Rattle.std.proofs.Common.{ap, ◌∙◌, arith}
@@ -21,7 +21,7 @@ use Rattle.word.specs.Layout.{Fields, layout, immediate_layout, base_fields, wit
 use Rattle.word.proofs.LayoutLaws.{Fits, set_rs, set_rt, set_rd, set_sa, set_immediate, base_layout, base_fits, or_sa, or_rt, fits_rs, fits_rt, fits_rd, fits_sa}
 use Rattle.emit_words.specs.Words.{code_bits, sham_word}
 
--- the word w is the fields f laid out, each of which holds a number of its width
+-- The word w is the fields f laid out. Each field holds a number of its width.
 pub record Laid (w : ℕ) (f : Fields) : Type 0 where
   pub laid : w ≡ layout f
   pub fits : Fits f
@@ -43,7 +43,7 @@ module _ {w : ℕ} {f : Fields} (l : Laid w f) (v : ℕ) (hv : v < 32) where
   pub then_sa : Laid (set_field w 6 5 v) (with_sa f v)
   then_sa = record { laid = ap (λ (x : ℕ). set_field x 6 5 v) l.laid ∙ set_sa f l.fits v; fits = fits_sa f l.fits v hv }
 
--- a byte OR-ed in where a field stands: what five bits do not hold is OR-ed into the field above
+-- A byte is OR-ed in at a field. The bits for which the five bits have no room are OR-ed into the field above.
 module _ {w : ℕ} {f : Fields} (l : Laid w f) (v : ℕ) (hv : v < 256) where
   pub spill_sa : Laid (or_field w 6 5 v) (with_sa (with_rd f (bit_or f.rd (v / 32))) (v % 32))
   spill_sa =
@@ -61,7 +61,7 @@ module _ {w : ℕ} {f : Fields} (l : Laid w f) (v : ℕ) (hv : v < 256) where
         fits = fits_rt (with_rs f (bit_or f.rs (v / 32))) (fits_rs f l.fits (bit_or f.rs (v / 32)) k) (v % 32) (omega arith);
       }
 
--- one that five bits hold is put there
+-- A number that fits five bits replaces the field.
 module _ {w : ℕ} {f : Fields} (l : Laid w f) (v : ℕ) (hv : v < 32) where
   pub or_in_rt : Laid (or_field w 16 5 v) (with_rt f v)
   or_in_rt = record { laid = or_is_set w 16 5 v hv ∙ (then_rt l v hv).laid; fits = (then_rt l v hv).fits }
@@ -69,7 +69,7 @@ module _ {w : ℕ} {f : Fields} (l : Laid w f) (v : ℕ) (hv : v < 32) where
   pub or_in_rd : Laid (or_field w 11 5 v) (with_rd f v)
   or_in_rd = record { laid = or_is_set w 11 5 v hv ∙ (then_rd l v hv).laid; fits = (then_rd l v hv).fits }
 
--- what a chain ends in
+-- the end of a chain
 module _ {w : ℕ} {f : Fields} (l : Laid w f) where
   pub is_laid : {r : ℕ} → r ≡ w → r ≡ layout f
   is_laid e = e ∙ l.laid

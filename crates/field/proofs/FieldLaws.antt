@@ -8,7 +8,7 @@ use Rattle.std.specs.Int.Bits.{bit_or, or_zero_l, or_zero_r}
 use Rattle.std.proofs.lemmas.Nat.{or_block}
 use Rattle.field.specs.Field.{get_field, clear_field, set_field, or_field}
 
--- three digits, at 2 ^ off and 2 ^ (off + width)
+-- A number of three digits: l at the bottom, v at 2 ^ off, h at 2 ^ (off + width).
 abbrev pub three : (off width h v l : ℕ) → ℕ
 three off width h v l = (h * 2 ^ width + v) * 2 ^ off + l
 
@@ -17,7 +17,7 @@ three_sum off width h v l =
     ap (λ (x : ℕ). x + v * 2 ^ off + l) (ap (λ (x : ℕ). h * x) (pow-add 2 off width ∙ mul_comm (2 ^ off) (2 ^ width)) ∙ sym (mul_assoc h (2 ^ width) (2 ^ off)))
     ∙ ap (λ (x : ℕ). x + l) (sym (add-mul (h * 2 ^ width) v (2 ^ off)))
 
--- what is read of three digits
+-- Reading the three digits back.
 three_low : (off width h v : ℕ) {l : ℕ} → l < 2 ^ off → three off width h v l % 2 ^ off ≡ l
 three_low off width h v hl = low (h * 2 ^ width + v) off hl
 
@@ -31,7 +31,7 @@ three_high off width h {v} {l} hv hl =
     ∙ ap (λ (x : ℕ). x / 2 ^ width) (high (h * 2 ^ width + v) off hl)
     ∙ high h width hv
 
--- a number is the three digits that are read of it
+-- Every number is made of the three digits that are read from it.
 three_of : (off width w : ℕ) → three off width (w / 2 ^ (off + width)) (w / 2 ^ off % 2 ^ width) (w % 2 ^ off) ≡ w
 three_of off width w =
     ap (λ (x : ℕ). (x * 2 ^ width + w / 2 ^ off % 2 ^ width) * 2 ^ off + w % 2 ^ off) (sym (shr-shr w off width))
@@ -73,7 +73,7 @@ above_agree a b k o n h e =
     let cut : (x : ℕ) → x / 2 ^ o ≡ x / 2 ^ k / 2 ^ j = λ x. ap (λ (y : ℕ). x / 2 ^ y) (sym s) ∙ sym (shr-shr x k j) in
     ap (λ (y : ℕ). y % 2 ^ n) (cut a ∙ ap (λ (y : ℕ). y / 2 ^ j) e ∙ sym (cut b))
 
--- any field below, and any field above, is as it was
+-- Every field below, and every field above, is as it was.
 pub get_set_below : (w off width v o n : ℕ) → o + n ≤ off → get_field (set_field w off width v) o n ≡ get_field w o n
 unfolding get_field
 get_set_below w off width v o n h =
@@ -122,13 +122,13 @@ or_above w off width v =
     ap (λ (x : ℕ). x / 2 ^ (off + width)) (or_digits w off width v)
     ∙ three_high off width (bit_or (w / 2 ^ (off + width)) (v / 2 ^ width)) (mod-lt v (pow_pos width)) (mod-lt w (pow_pos off))
 
--- what OR-ing does, for every v: the low digits of v are the field, and the others are OR-ed into the digits above
+-- What OR-ing does, for every v: its low digits become the field, and its other digits are OR-ed into the digits above.
 pub or_spill : (w off width v : ℕ) → or_field w off width v ≡ bit_or (w / 2 ^ (off + width)) (v / 2 ^ width) * 2 ^ (off + width) + v % 2 ^ width * 2 ^ off + w % 2 ^ off
 or_spill w off width v =
     or_digits w off width v
     ∙ sym (three_sum off width (bit_or (w / 2 ^ (off + width)) (v / 2 ^ width)) (v % 2 ^ width) (w % 2 ^ off))
 
--- a v that the field holds is put there
+-- If the field can hold v, OR-ing puts v there.
 pub or_is_set : (w off width v : ℕ) → v < 2 ^ width → or_field w off width v ≡ set_field w off width v
 unfolding set_field
 or_is_set w off width v h =

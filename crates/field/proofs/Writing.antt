@@ -6,11 +6,11 @@ use Rattle.field.proofs.FieldLaws.{or_get, or_below, or_above, or_is_set, get_se
 
 -- What clearing a field and OR-ing a value in does.
 pub record Written (w off width v : ℕ) : Type 0 where
-  -- the field holds the value's low digits: the value itself, where it fits
+  -- The field holds the value's low digits, and so the value itself if it fits.
   pub reads : get_field (or_field w off width v) off width ≡ v % 2 ^ width
   -- each field below is as it was
   pub below : (o n : ℕ) → o + n ≤ off → get_field (or_field w off width v) o n ≡ get_field w o n
-  -- the digits above are OR-ed with what the field has no room for
+  -- The digits above are OR-ed with the part of the value for which the field has no room.
   pub above : or_field w off width v / 2 ^ (off + width) ≡ bit_or (w / 2 ^ (off + width)) (v / 2 ^ width)
 
 pub written : (w off width v : ℕ) → Written w off width v

@@ -1,4 +1,4 @@
--- The patches of an accepted build: each has a region, a destination and a place there, and what each of them keeps they all keep.
+-- The patches of an accepted build: each has a region, a destination and a place there. What each patch keeps true, all together keep true.
 -- Assumes nothing.
 use Rattle.std.specs.Prelude.{ℕ, ◌+◌, ◌^◌, ◌<◌, ◌≤◌, ◌⊎◌, Bool, true, false, ◌≡◌, refl, length, eqb, Ok, Some}
 use Rattle.std.proofs.Common.{arith, inl, inr, ⊎_elim, sym, ap, ◌∙◌, eqb-true}
@@ -23,7 +23,7 @@ use Rattle.finished_words.specs.Listed.{In, kind_of, pc_at, destination_at, slot
 abbrev pub written : (labels : Table) (regions pending : List ℕ) → ℕ → List ℕ → List ℕ
 written labels regions pending p d = write_pending labels pending (region_for regions (pending_at pending p)) (pending_at pending p) d
 
--- each patch of the list leaves P true
+-- Each patch of the list keeps P true.
 abbrev Keeps : (labels : Table) (regions pending : List ℕ) → (List ℕ → Type 0) → Type 0
 Keeps labels regions pending P = (q : ℕ) (d : List ℕ) → In pending q → Kept regions d → P d → P (written labels regions pending q d)
 
@@ -64,11 +64,11 @@ module _ (job : Job) (labels : Table) (entry regions pending : List ℕ) (pass :
   in_place : (p : ℕ) → In pending p → InData regions (pending_at pending p).region (slot_at regions pending p)
   in_place p m = in_data regions (pending_at pending p).region (pending_at pending p).offset accepted.regions_good (has_region p m) (reaches p m).inside
 
-  -- its word stands in any list of the length
+  -- Its word lies within every list of the same length.
   pub has_room : (p : ℕ) (d : List ℕ) → In pending p → Kept regions d → slot_at regions pending p + 4 ≤ length d
   has_room p d m k = omega (arith, (in_place p m).within, k.length_same)
 
-  -- a patch that does not touch four bytes at an offset of a region does not touch them in the list
+  -- If a patch does not touch four bytes at an offset of a region, it does not touch them in the list.
   pub apart_in_list : (r o q : ℕ) → r < region_count regions → o + 4 ≤ (region_at regions (region_place regions r)).size → In pending q
       → ((pending_at pending q).region ≡ r → ((pending_at pending q).offset + 4 ≤ o) ⊎ (o + 4 ≤ (pending_at pending q).offset))
       → (slot_at regions pending q + 4 ≤ (region_at regions (region_place regions r)).start + o) ⊎ ((region_at regions (region_place regions r)).start + o + 4 ≤ slot_at regions pending q)
@@ -95,7 +95,7 @@ module _ (job : Job) (labels : Table) (entry regions pending : List ℕ) (pass :
   unfolding write_pending
   keeps p d m k = kept_put regions d k (pending_at pending p).region (slot_at regions pending p) _ (in_place p m)
 
-  -- what each patch of the list keeps, a run of them keeps
+  -- What each patch of the list keeps true, a run of patches keeps true.
   along : (P : List ℕ → Type 0) → Keeps labels regions pending P
       → (ps d : List ℕ) → Among pending ps → Kept regions d → P d → P (write_patches labels regions pending ps d)
   unfolding write_patches
@@ -104,7 +104,7 @@ module _ (job : Job) (labels : Table) (entry regions pending : List ℕ) (pass :
       let m = a q (Memᴰ.head refl) in
       along P step ps (written labels regions pending q d) (λ x t. a x (Memᴰ.tail t)) (keeps q d m k) (step q d m k h)
 
-  -- what holds from the patch of p on, holds after a run in which it is
+  -- If the patch of p makes Q true and every patch keeps Q, then Q holds after a run that includes p.
   past : (P Q : List ℕ → Type 0) (p : ℕ)
       → Keeps labels regions pending P
       → ((d : List ℕ) → Kept regions d → P d → Q (written labels regions pending p d))
@@ -136,7 +136,7 @@ module _ (job : Job) (labels : Table) (entry regions pending : List ℕ) (pass :
   first : Kept regions regions
   first = kept_first regions accepted.regions_good
 
-  -- what holds at entry and each patch keeps, holds at exit
+  -- What holds at entry and is kept by each patch, holds at exit.
   pub at_exit : (P : List ℕ → Type 0) → Keeps labels regions pending P
       → P regions → P (patched_regions labels regions pending)
   at_exit P step h = along P step (patch_order regions pending) regions order first h

@@ -1,4 +1,4 @@
--- Bit by bit: a field written into a word of the list leaves each bit outside it. Assumes nothing.
+-- Bit by bit: writing a field into a word of the list leaves every bit outside the field as it was. Assumes nothing.
 use Prim.Native.Nat.{ℕ, zero, suc, ◌+◌, ◌-◌, ◌*◌, ◌/◌, ◌%◌, ◌^◌, ◌<◌, ◌≤◌}
 use Rattle.std.proofs.Common.{arith, add-zero, inl, inr, sym, ap, ◌∙◌, pow_pos, shr-shr, ltb-true, ltb-false}
 use Rattle.std.proofs.Math.Nat.{mod-lt}
@@ -19,7 +19,7 @@ use Rattle.build_outcome.specs.Build.{build_verdict, patched_regions}
 use Rattle.finished_words.specs.Listed.{kind_of, pc_at, destination_at, slot_at, Bytes, OutsideFields, bit_at}
 use Rattle.finished_words.proofs.AcceptedLaws.{dest_lt, has_room, at_exit}
 
--- the bits of a word's byte are the word's
+-- The bits of a word's byte are bits of the word.
 byte_bit : (w o j : ℕ) → j < 8 → get_field (get_field w o 8) j 1 ≡ get_field w (o + j) 1
 unfolding get_field
 byte_bit w o j h =
@@ -28,7 +28,7 @@ byte_bit w o j h =
     sym (ap (λ (n : ℕ). w / 2 ^ o % 2 ^ n % 2 ^ (1 + j)) s) ∙ mod-mod-pow (w / 2 ^ o) (7 - j) (1 + j) in
     sym (field (w / 2 ^ o % 2 ^ 8) 1 j) ∙ ap (λ (n : ℕ). n / 2 ^ j) low ∙ field (w / 2 ^ o) 1 j ∙ ap (λ (n : ℕ). n % 2 ^ 1) (shr-shr w o j)
 
--- the bytes of a word of the list, by their number
+-- Byte k of a word in the list is the word's k-th group of eight bits.
 own_byte : (d : List ℕ) (i k : ℕ) → Bytes d → k < 4 → byte_at d (i + k) ≡ get_field (le32 d i) (8 * k) 8
 unfolding get_field
 own_byte d i zero b h = rw (add-zero i) (omega (arith, b i))
@@ -37,7 +37,7 @@ own_byte d i (suc (suc zero)) b h = omega (arith, b i, b (i + 1), b (i + 2))
 own_byte d i (suc (suc (suc zero))) b h = omega (arith, b i, b (i + 1), b (i + 2), b (i + 3))
 own_byte d i (suc (suc (suc (suc k)))) b h = absurd (omega arith)
 
--- byte n is none of the four from i on, or the one of the number n - i
+-- Byte n is outside the four bytes from i on, or it is number n - i of the four.
 which : (i n : ℕ) → ((n < i) ⊎ (i + 4 ≤ n)) ⊎ ((i + (n - i) ≡ n) × (n - i < 4))
 which i n = go (ltb n i) refl (ltb n (i + 4)) refl
   where

@@ -1,4 +1,4 @@
--- Every finished word, of whole builds: whatever the label table, the regions, the entry record and the pending list, in whatever order.
+-- Every finished word of a whole build, whatever the label table, the regions, the entry record, the pending list and its order.
 -- Assumes nothing.
 use Rattle.std.specs.Prelude.{ℕ, ◌<◌, ◌≡◌, List, length, Ok}
 use Rattle.jobs.specs.declared.Job.{Job}
@@ -15,11 +15,11 @@ use Rattle.finished_words.proofs.BitsLaws.{bits_same}
 -- a region list at exit, heads and addresses included
 pub record Finished (labels : Table) (regions pending exit : List ℕ) : Type 0 where
   pub length_same : length exit ≡ length regions
-  -- each byte that is none of a patch's four is as at entry
+  -- Each byte outside every patch is as at entry.
   pub bytes_same : (i : ℕ) → OutsidePatches regions pending i → byte_at exit i ≡ byte_at regions i
-  -- "altered only in the patched fields": each bit in no patched field is as at entry, whether or not patches overlap
+  -- "altered only in the patched fields": each bit outside every patched field is as at entry, whether or not patches overlap
   pub bits_same : Bytes regions → (i j : ℕ) → j < 8 → OutsideFields regions pending i j → bit_at exit i j ≡ bit_at regions i j
-  -- where none overlap, each patch's word is the one at entry with its field replaced: one claim on the whole pending list
+  -- If no patches overlap, each patch's word is the one at entry with its field replaced. This is one claim on the whole pending list.
   pub words_are : Apart pending → words_in exit regions pending ≡ finished_words labels regions pending
 
 -- "An accepted build is one to which no refusal is due"

@@ -1,4 +1,4 @@
--- What the patches of an accepted build leave: each byte that is no patch's, and the word of each patch that overlaps no other. Assumes nothing.
+-- What the patches of an accepted build leave: each byte outside every patch, and the word of each patch that overlaps no other. Assumes nothing.
 use Rattle.std.specs.Prelude.{ℕ, ◌+◌, ◌<◌, ◌≤◌, ◌⊎◌, Bool, true, false, ◌≡◌, eqb, Ok}
 use Rattle.std.proofs.Common.{arith, inl, inr, ⊎_elim, ap, ap₂, ◌∙◌, eqb-true}
 use mathlib.Core.List.{List, [], ◌∷◌, map, Memᴰ}
@@ -38,10 +38,10 @@ module _ (job : Job) (labels : Table) (entry regions pending : List ℕ) (pass :
       let b₀ : byte_at (patched_regions labels regions pending) i ≡ byte_at regions i = bytes_same i (λ q m. ⊎_elim (λ k. inr (omega arith)) (λ k. inl (omega arith)) (out q m)) in
       omega (arith, b₀, b 1 (omega arith), b 2 (omega arith), b 3 (omega arith))
 
-  -- a patch that no other touches, whether or not those overlap each other
+  -- A patch that no other patch touches. The others may overlap each other.
   module _ (p : ℕ) (m : In pending p)
       (apart : (q : ℕ) → In pending q → (q ≡ p → ⊥) → (slot_at regions pending q + 4 ≤ slot_at regions pending p) ⊎ (slot_at regions pending p + 4 ≤ slot_at regions pending q)) where
-    -- the word of the patch in a list, and what the patch makes of a word
+    -- The patch's word in a list, and what the patch makes of a word.
     abbrev word_of : List ℕ → ℕ
     word_of d = le32 d (slot_at regions pending p)
 
@@ -51,7 +51,7 @@ module _ (job : Job) (labels : Table) (entry regions pending : List ℕ) (pass :
     again : (word : ℕ) → made (made word) ≡ made word
     again word = finished_again (kind_of pending p) (pc_at regions pending p) (destination_at labels pending p) word (dest_lt job labels entry regions pending pass p m)
 
-    -- the patch makes its word, and any other leaves it
+    -- The patch makes its word. Every other patch leaves that word alone.
     own : (d : List ℕ) → Kept regions d → word_of (written labels regions pending p d) ≡ made (word_of d)
     unfolding write_pending
     own d k =
@@ -72,7 +72,7 @@ module _ (job : Job) (labels : Table) (entry regions pending : List ℕ) (pass :
         go true e = inr (rw (eqb-true q p e) (own d k))
         go false e = inl (other q d mq k (eqb-false q p e))
 
-    -- so before its turn it would make the same of it, and from its turn on has made it
+    -- Until its turn comes, the patch would still make the same word. After its turn, that word stands there.
     pub word_finished : word_of (patched_regions labels regions pending) ≡ finished_at labels regions pending p
     word_finished =
         from_turn job labels entry regions pending pass (λ (d : List ℕ). made (word_of d) ≡ made (word_of regions)) (λ (d : List ℕ). word_of d ≡ made (word_of regions)) p m

@@ -1,4 +1,4 @@
--- The premises can be met, and what the theorem says there. Assumes nothing.
+-- The premises can be met. What the theorem says of the instance. Assumes nothing.
 use Rattle.std.specs.Prelude.{ℕ, ◌+◌, ◌*◌, ◌≤◌, ◌⊎◌, Bool, true, false, ◌||◌, ◌≡◌, refl, leb}
 use Rattle.std.proofs.Common.{arith, inl, inr, ap, ◌∙◌, leb-true, eq-eqb, ne_eqb}
 use mathlib.Core.List.Memᴰ
@@ -18,7 +18,7 @@ use Rattle.finished_words.proofs.Finished.{Finished, finished}
 use Rattle.finished_words.specs.InstanceTables.{labels₁, entry, regions, pending}
 use Rattle.finished_words.proofs.InstanceLaws.{disjoint, clear, byte_clear, bit_clear, evaluated}
 
--- a test that all elements pass holds of each
+-- If all elements pass a test, each of them passes.
 pub each : (test : ℕ → Bool) (ps : List ℕ) → all test ps ≡ true → (p : ℕ) → Memᴰ p ps → test p ≡ true
 unfolding all
 each test [] e p m = elim m [ ]

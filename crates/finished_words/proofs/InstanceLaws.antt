@@ -1,4 +1,4 @@
--- What computes on the lists of the instance: its build is accepted, its patches are apart, its words at entry and at exit. Assumes nothing.
+-- Computed on the lists of the instance: its build is accepted, its patches are apart, and its words at entry and at exit. Assumes nothing.
 use Rattle.std.specs.Prelude.{ℕ, suc, ◌+◌, ◌*◌, [], ◌∷◌, Bool, true, false, ◌||◌, ◌≡◌, refl, leb, ltb, eqb, Ok}
 use Rattle.jobs.specs.declared.Job.TheVariants.{Commit}
 use Rattle.field.specs.Field.{get_field}
@@ -17,9 +17,9 @@ use Rattle.finished_words.specs.Listed.{kind_of, slot_at, bit_at}
 use Rattle.finished_words.specs.Words.{finished_word, words_in, finished_words}
 use Rattle.finished_words.specs.InstanceTables.{labels₁, entry, regions, pending}
 
--- ---- tests that say a premise at one place
+-- ---- tests of a premise, for one place each
 
--- two records are one, or of two regions, or their patches share no byte
+-- Two records are the same, or they are in different regions, or their patches share no byte.
 abbrev pub away : (one same : Bool) → Bool → Bool
 away true same disjoint = true
 away false false disjoint = true
@@ -32,7 +32,7 @@ disjoint p q =
 abbrev pub clear : ℕ → ℕ → Bool
 clear p q = away (eqb p q) (eqb (pending_at pending p).region (pending_at pending q).region) (disjoint p q)
 
--- byte i is none of the patch's four, and bit j of byte i none of its field
+-- Byte i is outside the patch's four bytes. Bit j of byte i is outside its field.
 abbrev pub byte_clear : ℕ → ℕ → Bool
 byte_clear i p = leb (suc i) (slot_at regions pending p) || leb (slot_at regions pending p + 4) i
 

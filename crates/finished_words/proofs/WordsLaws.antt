@@ -1,4 +1,4 @@
--- A finished word is the low 32 bits of the patched one, and patching it again leaves it. Assumes nothing.
+-- A finished word is the low 32 bits of the patched one. Patching it again changes nothing. Assumes nothing.
 use Rattle.std.specs.Prelude.{ℕ, ◌+◌, ◌*◌, ◌/◌, ◌%◌, ◌^◌, ◌<◌, ◌≡◌}
 use Rattle.std.proofs.Common.{arith, sym, ap, ◌∙◌}
 use Rattle.std.proofs.Math.Nat.{div-div-eq-div-mul}

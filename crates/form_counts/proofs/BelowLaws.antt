@@ -28,7 +28,7 @@ module _ (c : ℕ) (h : c < 2 ^ 32) where
   unfolding addiu_below ori_below lui_below
   within = omega arith
 
-  -- of the rest, where the constant is one of these, and where it is not
+  -- The count of the rest stays if the constant has one of the other three forms. Otherwise it grows by one.
   rest_kept : taken_next ≡ taken + 1 → c + 1 - taken_next ≡ c - taken
   rest_kept e = omega (arith, within)
 
@@ -144,7 +144,7 @@ module _ (c : ℕ) (h : c < 2 ^ 32) where
 abbrev pub plus : FormCounts → FormCounts → FormCounts
 plus a b = record { addiu = a.addiu + b.addiu; ori = a.ori + b.ori; lui = a.lui + b.lui; both = a.both + b.both }
 
--- a constant between two ranges may be counted with either
+-- A constant on the border of two ranges may be counted in either.
 moved : (f : LoadForm) (a b : FormCounts) → plus (with_one f a) b ≡ plus a (with_one f b)
 moved Nothing a b = refl
 moved Addiu a b = same (omega arith) refl refl refl
@@ -162,7 +162,7 @@ grown (suc n) s h =
     ap below e ∙ grown n (s + 1) (omega arith) ∙ ap (λ (b : FormCounts). plus b (counted (s + 1) n)) (one_more s (omega arith))
     ∙ moved (form_of s) (below s) (counted (s + 1) n)
 
--- the counts of a range are those up to its end less those up to its start
+-- The counts of a range are the counts below its end minus the counts below its start.
 pub less_is : (a b : FormCounts) {d : FormCounts} → d ≡ plus a b → (d.addiu - a.addiu ≡ b.addiu) × (d.ori - a.ori ≡ b.ori) × (d.lui - a.lui ≡ b.lui) × (d.both - a.both ≡ b.both)
 less_is a b e =
     (omega (arith, ap (λ (x : FormCounts). x.addiu) e), omega (arith, ap (λ (x : FormCounts). x.ori) e), omega (arith, ap (λ (x : FormCounts). x.lui) e), omega (arith, ap (λ (x : FormCounts). x.both) e))

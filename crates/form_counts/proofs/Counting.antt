@@ -1,4 +1,4 @@
--- The closed form is the count, for every range; and what follows for counts. Assumes nothing.
+-- The closed form is the count, for every range. And what follows for counts. Assumes nothing.
 use Rattle.std.specs.Prelude.{ℕ, zero, suc, ◌+◌, ◌-◌, ◌^◌, ◌<◌, ◌≤◌, ◌≡◌, refl, length, Err, Ok}
 use native.Mathlib.Omega.{arith}
 use Rattle.std.proofs.Common.{sym, ◌∙◌, le-leb}

@@ -1,6 +1,6 @@
--- The formats of the words of an encoding's own instructions, from the operands of its line in order: which operand stands in which field, as the
--- manual describes the instruction that is named above each. A field that no operand fills has what the opcode's class and key put there
--- (`base_fields`). Words that load the line's constant stand before these (LineLoads.antt). Assumes nothing.
+-- The formats of an encoding's own instructions: which operand of the line stands in which field. Above each stands the instruction as the manual
+-- describes it. A field that no operand fills has what the opcode's class and key put there (`base_fields`). Words that load the line's constant
+-- stand before these (LineLoads.antt). Assumes nothing.
 use Rattle.std.specs.Prelude.{ℕ, ◌+◌, ◌*◌, ◌/◌, ◌%◌, ◌^◌, true, false, List, [], ◌∷◌, ◌++◌, None, Some, Option}
 use Rattle.std.specs.Int.Bits.{bit_or}
 use Rattle.field.specs.Bit.{bit}
@@ -23,7 +23,7 @@ use Rattle.emit_pairs.specs.Pairs.{is_immediate}
 use Rattle.emit_dispatch.specs.Wants.{encoding_wants}
 use Rattle.formats.proofs.Formats.{Format, register, immediate, jump, float, float_move, float_cond, float_cross, float_branch}
 
--- ---- the fields of the opcode's class and key, and those that operands fill
+-- ---- the fields that the opcode's class and key fill, and those that operands fill
 
 module _ (op : Opcode) where
   abbrev pub in_register : (rs rt rd sa : ℕ) → Format
@@ -32,18 +32,18 @@ module _ (op : Opcode) where
   abbrev pub in_immediate : (rs rt n : ℕ) → Format
   in_immediate rs rt n = immediate (base_fields op).opcode rs rt n
 
-  -- the offset is 0 until it is patched; a key that is a function, which no branch of the manual has, stands there
+  -- The offset is 0 until it is patched. A key that is a function would stand there, but no branch of the manual has one.
   abbrev pub in_branch : (rs rt : ℕ) → Format
   in_branch rs rt = in_immediate rs rt (base_fields op).function
 
-  -- the target is 0 until it is patched; a key of another class than Op, which no jump of the manual has, stands there
+  -- The target is 0 until it is patched. A key of a class other than Op would stand there, but no jump of the manual has one.
   abbrev pub in_jump : Format
   in_jump = jump (base_fields op).opcode ((base_fields op).rs * 2 ^ 21 + (base_fields op).rt * 2 ^ 16 + (base_fields op).function)
 
   abbrev pub in_float : Fmt → (ft fs fd : ℕ) → Format
   in_float fmt ft fs fd = float (base_fields op).opcode (size_code fmt) ft fs fd (base_fields op).function
 
-  -- below fs the manual has 0; a key that is a function stands there
+  -- The manual has 0 below fs. A key that is a function would stand there.
   abbrev pub in_cross : (rt fs : ℕ) → Format
   in_cross rt fs = float_cross (base_fields op).opcode (base_fields op).rs rt fs (base_fields op).function
 
@@ -52,7 +52,7 @@ module _ (op : Opcode) where
 abbrev pub $at : ℕ
 $at = number AssemblerTemporary
 
--- the register with the value: a number was loaded into $at
+-- The register that holds the value. A number was loaded into $at.
 abbrev pub value_in : InstructionValue → ℕ
 value_in (Slot r) = number r
 value_in (Literal n) = $at
@@ -63,12 +63,12 @@ name_formats rt = immediate 15 0 rt 0 ∷ immediate 13 rt rt 0 ∷ []
 
 -- ---- the encodings with several forms
 
--- MULT rs, rt; with three operands it is of the last two, and MFLO rd of the first
+-- MULT rs, rt. With three operands it takes the last two, and then MFLO rd takes the first.
 abbrev pub inputs_formats : Opcode → (first second : ℕ) → Option InstructionValue → List Format
 inputs_formats op first second None = in_register op first second 0 0 ∷ []
 inputs_formats op first second (Some value) = in_register op second (value_in value) 0 0 ∷ register 0 0 0 first 0 18 ∷ []
 
--- ADDI rt, rs, immediate; out of range the alternative, ADD rd, rs, $at
+-- ADDI rt, rs, immediate. If the immediate is out of range, the alternative: ADD rd, rs, $at.
 abbrev pub immediate_formats : Opcode → Option Opcode → (rt rs c : ℕ) → List Format
 immediate_formats op None rt rs c = in_immediate op rs rt (c % 65536) ∷ []
 immediate_formats op (Some alt) rt rs c = elim (is_immediate c) [ true ↦ in_immediate op rs rt (c % 65536) ∷ [] | false ↦ in_register alt rs $at rt 0 ∷ [] ]
@@ -77,7 +77,7 @@ immediate_formats op (Some alt) rt rs c = elim (is_immediate c) [ true ↦ in_im
 abbrev pub added_formats : Opcode → (rt base : ℕ) → List Format
 added_formats op rt base = register 0 $at base $at 0 32 ∷ in_immediate op $at rt 0 ∷ []
 
--- LW rt, offset(base); the base is added to an offset out of range and to a name; of an address alone LW rt, 0($at)
+-- LW rt, offset(base). The base is added if the offset is out of range or is a name. An address alone gives LW rt, 0($at).
 abbrev pub offset_formats : Opcode → (rt : ℕ) → OffsetOrLabel → List Format
 offset_formats op rt (Based (Constant c) base) =
     elim (is_immediate c) [ true ↦ in_immediate op (number base) rt (c % 65536) ∷ [] | false ↦ added_formats op rt (number base) ]
@@ -92,7 +92,7 @@ abbrev pub encoding_formats : Job → (e : Encoding) → Opcode → AskedAll (en
 encoding_formats job Register op x = in_register op (number x.1) (value_in x.2) (number x.0) 0 ∷ []
 -- SLLV rd, rt, rs
 encoding_formats job RegisterShift op x = in_register op (number x.2) (number x.1) (number x.0) 0 ∷ []
--- JR rs; Release 6 has it as JALR with rd 0
+-- JR rs. Release 6 writes it as JALR with rd 0.
 encoding_formats job Source op x = in_register (source_opcode job op) (number x.0) (base_fields (source_opcode job op)).rt 0 0 ∷ []
 -- MFHI rd
 encoding_formats job Destination op x = in_register op (base_fields op).rs (base_fields op).rt (number x.0) 0 ∷ []
@@ -128,7 +128,7 @@ encoding_formats job (FPMove fmt flag) op x =
 -- C.cond.fmt cc, fs, ft: codes modulo 8
 encoding_formats job (FPCond fmt) op x =
     float_cond (base_fields op).opcode (size_code (format_of job fmt)) (fp_number x.2) (fp_number x.1) (x.0 % 8) (base_fields op).function ∷ []
--- MTC1: its float register comes first and stands in rt, its general register in fs (a difference from the manual)
+-- MTC1: its float register comes first and stands in rt, its general register stands in fs (a difference from the manual)
 encoding_formats job (FPCrossMove true) op x = in_cross op (fp_number x.0) (number x.1) ∷ []
 -- MFC1 rt, fs
 encoding_formats job (FPCrossMove false) op x = in_cross op (number x.0) (fp_number x.1) ∷ []

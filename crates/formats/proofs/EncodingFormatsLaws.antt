@@ -44,7 +44,7 @@ module _ (op : Opcode) where
       (λ n. plain (inputs_word op (number b) n) ∷ plain (destination_word (Func 18) (number a)) ∷ [])
       (λ n h. first (inputs_register op (number b) n (register_lt b) h) (one (destination_register (Func 18) (number a) (register_lt a))))
 
-  -- an immediate in range, and the alternative of one that is not
+  -- an immediate in range, and the alternative if it is out of range
   module _ (rt rs c : ℕ) (ht : rt < 32) (hs : rs < 32) where
     taken : Has (immediate_word op rs rt (c % 65536)) (in_immediate op rs rt (c % 65536))
     taken = immediate_immediate op rs rt hs ht (c % 65536) (omega arith)
@@ -66,7 +66,7 @@ module _ (op : Opcode) where
     immediate_words None e = taken_alone (is_immediate c) e
     immediate_words (Some alt) e = taken_or_loaded alt (is_immediate c)
 
-  -- an address: the base added to $at, and the instruction through $at
+  -- An address: the base is added to $at, and the instruction goes through $at.
   module _ (rt : ℕ) (ht : rt < 32) where
     through_at : Has (immediate_word op $at rt 0) (in_immediate op $at rt 0)
     through_at = immediate_immediate op $at rt (lit< tt) ht 0 (lit< tt)

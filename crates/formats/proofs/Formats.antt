@@ -1,4 +1,4 @@
--- The instruction formats of MIPS32 Architecture For Programmers, Volume II, as what is read at the bits of a word. Assumes nothing.
+-- The instruction formats of MIPS32 Architecture For Programmers, Volume II: what is read at which bits of a word. Assumes nothing.
 use Rattle.std.specs.Prelude.{ℕ, ◌^◌, ◌<◌, ◌≡◌, List, [], ◌∷◌}
 use Rattle.field.specs.Field.{get_field}
 
@@ -51,7 +51,7 @@ pub record FloatCondFormat (w opcode fmt ft fs cc function : ℕ) : Type 0 where
   pub zero_is : get_field w 6 2 ≡ 0
   pub function_is : get_field w 0 6 ≡ function
 
--- MFC1, MTC1: which of them is the number where rs stands; the manual has 0 below fs
+-- MFC1, MTC1: the number in the bits of rs says which of the two it is. The manual has 0 below fs.
 pub record FloatCrossFormat (w opcode sub rt fs below : ℕ) : Type 0 where
   pub opcode_is : get_field w 26 6 ≡ opcode
   pub sub_is : get_field w 21 5 ≡ sub

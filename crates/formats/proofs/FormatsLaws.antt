@@ -91,7 +91,7 @@ has_immediate o s t n ho hs ht hn = record {
 
 -- ---- the words of a line
 
--- no class and key fill rd or sa
+-- No opcode fills rd or sa.
 own_empty : (op : Opcode) → ((base_fields op).rd ≡ 0) × ((base_fields op).sa ≡ 0)
 own_empty (Op key) = (refl, refl)
 own_empty (Func key) = (refl, refl)
@@ -133,7 +133,7 @@ module _ (op : Opcode) (rs rt : ℕ) (hs : rs < 32) (ht : rt < 32) where
 pub load_immediate : (op : Opcode) (rt n : ℕ) → rt < 32 → n < 65536 → Has (load_immediate_word op rt n) (in_immediate op (base_fields op).rs rt n)
 load_immediate op rt n ht hn = has_immediate (base_fields op).opcode (base_fields op).rs rt n (base_fits op).opcode_fits (base_fits op).rs_fits ht hn
 
--- what a shift amount's byte has over five bits is in rd
+-- The bits of a shift amount's byte above the lowest five are OR-ed into rd.
 pub sham_register : (op : Opcode) (rd rt amount : ℕ) → rd < 32 → rt < 32
     → Has (sham_word op rd rt (amount % 256)) (in_register op (base_fields op).rs rt (bit_or rd (amount % 256 / 32)) (amount % 32))
 sham_register op rd rt amount hd ht =
@@ -190,7 +190,7 @@ cond_float op fmt cc fs ft hs ht =
       reads = record { opcode_is = r.opcode_is; fmt_is = r.rs_is; ft_is = r.rt_is; fs_is = r.rd_is; cc_is = c.0; zero_is = c.1; function_is = r.function_is };
     }
 
--- what a code has over three bits is in the field above
+-- The bits of a code above the lowest three are OR-ed into the field above.
 pub branch_float : (op : Opcode) (cc : ℕ) (tf : Bool)
     → Has (fp_branch_word op cc tf) (float_branch (base_fields op).opcode (bit_or (base_fields op).rs (cc % 64 / 8)) (cc % 8) (bit tf) (base_fields op).function)
 branch_float op cc tf =

@@ -37,13 +37,13 @@ own_formats job (pseudo p) x = pseudo_formats job p x
 abbrev pub line_formats : Job → (o : Operation) → AskedAll (wants_of o) → List Format
 line_formats job o x = loading_formats (loads_of o x) ++ own_formats job o x
 
--- words that load a constant, where one is loaded, and behind them words in these formats and no others
+-- The words that load a constant, if there is one, and behind them words in exactly these formats.
 pub record LoadThen (loaded : Option LoadedConstant) (own : List Format) (ws : List ℕ) : Type 0 where
   pub rest : List ℕ
   pub words_are : ws ≡ loading_words loaded ++ rest
   pub rest_has : InFormats rest own
 
--- of a line whose operands were read: what its words are, and the format of every one
+-- For a line whose operands were read: what its words are, and the format of each.
 pub record LineWords (job : Job) (o : Operation) (read : Answer (AskedAll (wants_of o))) (ws : List ℕ) : Type 0 where
   pub operands : AskedAll (wants_of o)
   pub operands_are : read ≡ Got operands

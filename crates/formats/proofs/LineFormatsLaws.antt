@@ -1,4 +1,4 @@
--- Words that load a constant, before others or alone, and the formats of all. Assumes nothing.
+-- Words that load a constant, alone or before other words, and the formats of them all. Assumes nothing.
 use Rattle.std.specs.Prelude.{ℕ, ◌<◌, ◌≡◌, refl, Bool, true, false, List, [], ◌∷◌, ◌++◌, map, eqb, Option, None, Some}
 use Rattle.std.proofs.Common.{sym, ap, ◌∙◌, subst, append-nil, arith, lit<, eqb-true}
 use Rattle.registers.specs.Numbers.{register_number as number}
@@ -94,7 +94,7 @@ load_has c t h = go (is_small c) (eqb (upper_half c) 0) (eqb (lower_half c) 0) r
     go false true false e f k = rw (words_by c t (form_ori c e (eqb-true (upper_half c) 0 f))) (ori 0 (lit< tt))
     go false false true e f k = rw (words_by c t (form_lui c e (eqb-false (upper_half c) 0 f) (eqb-true (lower_half c) 0 k))) (lui no_words)
     go false false false e f k = rw (words_by c t (form_both c e (eqb-false (upper_half c) 0 f) (eqb-false (lower_half c) 0 k))) (lui (ori t h))
-    -- a constant without halves is small
+    -- If both halves are 0, the constant is small.
     go false true true e f k =
         let u = eqb-true (upper_half c) 0 f in
         let l = eqb-true (lower_half c) 0 k in

@@ -1,5 +1,5 @@
--- The formats of the words of a pseudo-instruction, but for those that load its constant (LineLoads.antt), from the operands of its line in order.
--- Above each stand the manual's instructions. Assumes nothing.
+-- The formats of a pseudo-instruction's words, from the operands of its line in order. The words that load its constant are not among them
+-- (LineLoads.antt). Above each stand the manual's instructions. Assumes nothing.
 use Rattle.std.specs.Prelude.{ℕ, Bool, true, false, List, [], ◌∷◌, ◌++◌, Some}
 use Rattle.jobs.specs.declared.Job.{Job}
 use Rattle.jobs.specs.Jobs.{by_manual}
@@ -19,26 +19,26 @@ use Rattle.formats.proofs.EncodingFormats.{$at, value_in, name_formats, immediat
 abbrev pub less_than : (unsigned : Bool) → (rd rs rt : ℕ) → Format
 less_than unsigned rd rs rt = register 0 rs rt rd 0 (elim unsigned [ true ↦ 41 | false ↦ 42 ])
 
--- a is greater than b where b is less than a
+-- a is greater than b if b is less than a.
 abbrev pub compared : (greater unsigned : Bool) → (rd a b : ℕ) → Format
 compared true unsigned rd a b = less_than unsigned rd b a
 compared false unsigned rd a b = less_than unsigned rd a b
 
--- XORI rt, rt, 1 turns over what is to be false
+-- If the result is to be false, XORI rt, rt, 1 turns it over.
 abbrev pub turned_formats : (result : Bool) → (rt : ℕ) → List Format
 turned_formats true rt = []
 turned_formats false rt = immediate 14 rt rt 1 ∷ []
 
--- SUBU rd, rs, rt, and whether $zero is less than it, unsigned
+-- SUBU rd, rs, rt, and then: is $zero less than the difference, unsigned?
 abbrev pub different_formats : (rd rs rt : ℕ) → List Format
 different_formats rd rs rt = register 0 rs rt rd 0 35 ∷ less_than true rd 0 rd ∷ []
 
--- of an address that is a constant all words load
+-- If the address is a constant, all words load it, so none is left.
 abbrev pub address_formats : (rt : ℕ) → AddressLabel → List Format
 address_formats rt (Constant c) = []
 address_formats rt (Label name) = name_formats rt
 
--- SRA $at, rt, 31; the commit's lost rd, sa and function to 31 (a difference)
+-- SRA $at, rt, 31. In the commit's word, 31 overwrote rd, sa and function (a difference).
 abbrev pub abs_format : Job → (rt : ℕ) → Format
 abs_format job rt = elim (by_manual job) [ true ↦ register 0 0 rt $at 31 3 | false ↦ immediate 0 0 rt 31 ]
 
@@ -50,7 +50,7 @@ pseudo_formats job Nop x = register 0 0 0 0 0 0 ∷ []
 -- SRA $at, rt, 31, XOR rd, rs, $at, SUBU rd, rd, $at
 pseudo_formats job Abs x =
     abs_format job (number x.1) ∷ register 0 (number x.1) $at (number x.0) 0 38 ∷ register 0 (number x.0) $at (number x.0) 0 35 ∷ []
--- a comparison into $at, BNE $at, $zero, offset where the result is to be true and BEQ where false
+-- A comparison into $at. Then BNE $at, $zero, offset if the result is to be true, or BEQ if it is to be false.
 pseudo_formats job (BranchCustom greater result unsigned) x =
     compared greater unsigned $at (number x.0) (value_in x.1) ∷ immediate (elim result [ true ↦ 5 | false ↦ 4 ]) $at 0 0 ∷ []
 pseudo_formats job (SetCustom greater result unsigned) x =
@@ -67,7 +67,7 @@ pseudo_formats job Neg x = register 0 0 (number x.1) (number x.0) 0 34 ∷ []
 pseudo_formats job Negu x = register 0 0 (number x.1) (number x.0) 0 35 ∷ []
 -- NOR rd, rs, $zero
 pseudo_formats job Not x = register 0 (number x.1) 0 (number x.0) 0 39 ∷ []
--- all its words load
+-- All its words load the constant.
 pseudo_formats job Li x = []
 pseudo_formats job La x = address_formats (number x.0) x.1
 -- ADDU rd, rs, $zero

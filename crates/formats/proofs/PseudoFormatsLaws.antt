@@ -55,7 +55,7 @@ module _ (function : ℕ) (rd rs rt : RegisterSlot) where
   three_has : Has (register_word (Func function) (number rd) (number rs) (number rt)) (in_register (Func function) (number rs) (number rt) (number rd) 0)
   three_has = register_register (Func function) (number rs) (number rt) (register_lt rs) (register_lt rt) (number rd) (register_lt rd)
 
--- sne and seq: what follows the difference
+-- sne and seq: the difference, and the words behind it
 differs : (dest source : RegisterSlot) (n : ℕ) → n < 32 → {ws : List ℕ} {own : List Format} → InFormats ws own
     → InFormats (register_word (Func 35) (number dest) (number source) n ∷ register_word (Func 41) (number dest) 0 (number dest) ∷ ws) (different_formats (number dest) (number source) n ++ own)
 differs dest source n k h =

@@ -1,5 +1,5 @@
--- The region list that an accepted build leaves keeps its layout, one over the limit is refused whatever it holds, and so what is printed of an
--- input's build. Assumes nothing.
+-- The region list that an accepted build leaves keeps its layout. A list over the limit is refused, whatever it holds. So the text of an
+-- input's build follows from the part of the list that is held. Assumes nothing.
 use Rattle.std.specs.Prelude.{◌≡◌, ℕ, ◌<◌, Bool, true, false, List, length, take, nat_le, refl, Err, None, Ok, Result}
 use Rattle.std.proofs.Common.{arith, ap, ap₂, sym, ◌∙◌, length-take, take_all, leb-true, leb-false}
 use Rattle.jobs.specs.declared.Job.{Job}
@@ -25,7 +25,7 @@ module _ (job : Job) (labels : Table) (entry regions pending : List ℕ) where
       go (Ok tt) e = rw (outcome_accepted job labels entry regions pending e).1 (finished_kept job labels entry regions pending e).layout_good
       go (Err r) e = cc (outcome_refused job labels entry regions pending r e).0
 
--- what was refused does not show what follows
+-- Once a check has refused, what follows does not show in the text.
 stopped : (a b v w : Verdict) (r : Refusal) (address : ℕ) (d₁ r₁ d₂ r₂ : List ℕ) → let o₁ = outcome_by (and_then (and_then a (and_then b (Err r))) v) address d₁ r₁ in
     let o₂ = outcome_by (and_then (and_then a (and_then b (Err r))) w) address d₂ r₂ in outcome_text o₁.answer o₁.regions ≡ outcome_text o₂.answer o₂.regions
 stopped (Ok _) (Ok _) v w r address d₁ r₁ d₂ r₂ = refl
@@ -37,7 +37,7 @@ module _ (job : Job) (labels entry pending : List ℕ) where
   unfolding build_outcome build_verdict layout_verdicts
   long_text r s h k = rw (layout_long r h, layout_long s k) (stopped (layout_verdict 0 (label_layout labels)) (layout_verdict 1 (entry_layout entry)) _ _ _ _ _ _ _ _)
 
-  -- one byte more than the limit is as good as the whole list
+  -- One byte more than the limit prints the same as the whole list.
   held_text : (r : List ℕ) → build_text job labels entry (take 65537 r) pending ≡ build_text job labels entry r pending
   held_text r = go (nat_le (length r) 65537) refl
     where

@@ -45,7 +45,7 @@ pub data_part : (address i : ℕ) (bytes : List ℕ) → 0 < length bytes → le
 unfolding data_lines flatten
 data_part address i bytes g h = rw (rows_part address i bytes g h) (append-nil (row_line (row address i bytes)) ∙ ap (word_line (wrap32 (address + i))) (text_part bytes (λ e. omega arith)))
 
--- the next four bytes, or the last part word, and then the others
+-- The next four bytes, or fewer at the end, and then the others.
 pub data_next : (address i : ℕ) (rest bytes after : List ℕ) → rest ≡ bytes ++ after → length bytes ≡ min 4 (length rest) → 0 < length rest
     → data_lines address i rest ≡ word_line (wrap32 (address + i)) (word_text bytes) ++ data_lines address (i + 4) after
 unfolding data_lines flatten

@@ -1,4 +1,4 @@
--- How long an image's text is at most: six times as long as its region list, and the entry's line. Assumes nothing.
+-- An image's text is at most six times as long as its region list, plus the entry's line. Assumes nothing.
 use Rattle.std.specs.Prelude.{◌≡◌, ℕ, ◌+◌, ◌-◌, ◌*◌, ◌≤◌, List, [], ◌∷◌, ◌++◌, map, length, None}
 use Rattle.std.proofs.Common.{arith, ⊎_elim, sym, length-append, length-take}
 use mathlib.Core.List.{flatten}
@@ -37,7 +37,7 @@ region_most number r =
       data_most r.address 0 r.bytes,
     )
 
--- the record of a region is long enough for its text
+-- A region's text is at most six times as long as its record.
 one_most : (s : List ℕ) (at number : ℕ) → RegionIs s at → length (region_text number (image_region s at)) + 6 * at ≤ 6 * next s at
 one_most s at number i =
     let b : length (part s (at + 8) (body_len s at - 4)) ≤ body_len s at - 4 = simp length-take (omega arith) in

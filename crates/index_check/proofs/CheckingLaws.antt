@@ -1,4 +1,5 @@
--- The check of a whole index: what is read so far is seen and its bytes are those read; where the bytes are the index's, each record passes. Assumes nothing.
+-- The check of a whole index: the uses read so far pass, and their bytes are those read. If the buffer holds the index, each record passes.
+-- Assumes nothing.
 use Rattle.std.specs.Prelude.{ℕ, zero, suc, ◌+◌, ◌≤◌, ◌<◌, List, [], ◌∷◌, ◌++◌, Bool, true, false, ◌≡◌, refl, length, take, drop, get_or, eqb, None, Option}
 use Rattle.std.proofs.Common.{arith, add-one, append_assoc, sym, ap, ap₂, ◌∙◌, subst, length-take-le, drop-cons, eqb-true, eq-eqb, ne_eqb}
 use mathlib.Core.List.Memᴰ
@@ -37,11 +38,11 @@ same_no a b h = go (same_bytes a b) refl
 pub same_yes : (a b : List ℕ) → a ≡ b → true ≡ same_bytes a b
 same_yes a b e = sym (ap (λ (l : List ℕ). same_bytes l b) e ∙ eq_same b)
 
--- a record that passes has its owner, and its name within the list
+-- If a record passes, its owner and its name lie within the list.
 pub in_at : (s : List ℕ) (fill at : ℕ) → RecordIn s fill at → UseAt s at
 in_at s fill at r = record { room = omega (arith, r.ok.room); within = r.ok.within }
 
--- the last of the uses that are read so far was read at `last`; there is none at the start
+-- The last of the uses read so far was read at `last`. At the start there is none.
 pub data LastOf (s : List ℕ) (at last : ℕ) : List Use → Type 0 where
   at_start : at ≡ 0 → LastOf s at last []
   behind : (k : List Use) (w : Use) → 0 < at → AllBefore k w.key → w.key ≡ key_read s last → UseAt s last → LastOf s at last (k ++ (w ∷ []))
@@ -73,7 +74,7 @@ last_at : (s : List ℕ) (at last : ℕ) (l : List Use) → LastOf s at last l �
 last_at s at last l (at_start e) h = absurd (omega arith)
 last_at s at last l (behind k w p a e u) h = u
 
--- the next key is behind them all, if it is behind the last
+-- If the next key is behind the last one, it is behind all of them.
 all_before : (s : List ℕ) (at last : ℕ) (l : List Use) (key : UseKey) → LastOf s at last l → (0 < at → use_order (key_read s last) key ≡ Less) → AllBefore l key
 all_before s at last l key (at_start e) h = before_none key
 all_before s at last l key (behind k w p a e u) h = before_next k w key a (ap (λ (x : UseKey). use_order x key) e ∙ h p)
@@ -112,7 +113,7 @@ module _ (labels pending s : List ℕ) (fill at last sum : ℕ) (c : Checked lab
     place_is : length (uses_bytes l) ≡ at
     place_is = ap length c.bytes ∙ length-take-le at s (omega (arith, c.within))
 
-    -- had the buffer held the index, the record would pass
+    -- If the buffer held the index, the record would pass.
     next_passes : at < fill → (h : take fill s ≡ index_of labels pending) → Next labels pending s fill lb pb g pl sl fl h l at
     next_passes m h = let b = c.begins h in next_use labels pending s fill lb pb g pl sl fl h l b.0 at b.1 (sym place_is) m
 
@@ -138,7 +139,7 @@ module _ (labels pending s : List ℕ) (fill at last sum : ℕ) (c : Checked lab
       begins = λ h. let x = next_passes m h in (x.rest, x.split ∙ sym (append_assoc l (u ∷ []) x.rest));
     }
 
-    -- at the end: as many numbers as names
+    -- The end: if there are as many numbers as names, the buffer holds the index.
     end_at : fill ≤ at → at ≡ fill
     end_at h = omega (arith, c.within)
 
@@ -155,13 +156,13 @@ module _ (labels pending s : List ℕ) (fill at last sum : ℕ) (c : Checked lab
         go true b = b ∙ same_yes (take fill s) (index_of labels pending) (end_same h (eqb-true sum n b ∙ e))
         go false b = b ∙ same_no (take fill s) (index_of labels pending) (λ k. eqb-false sum n b (end_other h k ∙ sym e))
 
--- ---- the same over the places that a loop over an index has left
+-- ---- the same for the places that a loop over an index has left
 pub record CheckedLeft (labels pending s : List ℕ) (last sum : ℕ) (left : List ℕ) : Type 0 where
   pub at : ℕ
   pub checked : Checked labels pending s (length s) at last sum
   pub left_are : left ≡ places_from s at
 
--- a loop's turn, which takes the place p
+-- one turn of the loop, at the place p
 pub record CheckedTurn (labels pending s : List ℕ) (last sum p : ℕ) (ps : List ℕ) : Type 0 where
   pub within : p < length s
   pub checked : Checked labels pending s (length s) p last sum

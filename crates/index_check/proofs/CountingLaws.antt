@@ -1,4 +1,4 @@
--- The check of a record's numbers, one after the other: all are right exactly if those that are left are. Assumes nothing.
+-- The check of a record's numbers, one after the other: all are right exactly if the numbers left are right. Assumes nothing.
 use Rattle.std.specs.Prelude.{ℕ, ◌+◌, ◌*◌, ◌-◌, ◌≤◌, ◌<◌, List, Bool, true, false, ◌≡◌, length, Option}
 use Rattle.std.specs.Option.{ForSome, is_some, unwrap_or}
 use Rattle.std.proofs.Common.{arith, sym, subst}
@@ -9,7 +9,7 @@ use Rattle.use_adding.specs.Adding.{UseAt}
 use Rattle.index_check.specs.Checks.{StandsFrom, NumbersFrom}
 use Rattle.index_check.proofs.NumbersLaws.{OneRight, numbers_end, numbers_open, numbers_shut}
 
--- the source that was looked up last, if there is one, has the key
+-- If a source was looked up before, the name has the key there.
 pub stands_some : (labels name : List ℕ) (key : UseKey) (last : Option ℕ) → StandsFrom (is_some last) (key_for labels (unwrap_or last 0) name) key → ForSome last (λ (known : ℕ). key_for labels known name ≡ key)
 stands_some labels name key last h known e = subst (λ (o : Option ℕ). StandsFrom (is_some o) (key_for labels (unwrap_or o 0) name) key) e h
 
@@ -35,11 +35,11 @@ module _ (labels pending index : List ℕ) (at : ℕ) (key : UseKey) where
       record { room = omega (arith, u.room, u.within); held = tt; onward = whole; back = again }
 
   module _ (left from least : ℕ) (some : Bool) (source : ℕ) (c : Counting labels pending index at key left from least some source) where
-    -- a number that is not right
+    -- This number is not right.
     pub counting_no : 0 < left → (OneRight labels pending key index from least → ⊥) → AllRight labels pending index at → ⊥
     counting_no h n all = n (numbers_open labels pending key index left from least h (c.onward all)).0
 
-    -- one that is
+    -- This number is right.
     pub counting_next : (n other : ℕ) → 0 < left → n ≡ le16 index from → OneRight labels pending key index from least → key_for labels other key.name ≡ key
         → Counting labels pending index at key (left - 1) (from + 2) (n + 1) true other
     counting_next n other h e o k =

@@ -1,4 +1,4 @@
--- The numbers of a record: what the check has seen of them says what an index asks, and the other way round. Assumes nothing.
+-- The numbers of a record: what the check sees of them gives what an index asks, and the other way round. Assumes nothing.
 use Prim.Native.Nat.{ℕ, zero, suc, ◌+◌, ◌-◌, ◌≤◌, ◌<◌}
 use native.Mathlib.Omega.{arith}
 use mathlib.Core.List.Memᴰ
@@ -40,7 +40,7 @@ module _ (labels pending : List ℕ) (key : UseKey) (s : List ℕ) where
       let e : suc left - 1 ≡ left = omega arith in
       one_right o.above o.below o.named (subst (λ (k : ℕ). From k (i + 2) (le16 s i + 1)) e r)
 
-  -- ---- beside what an index asks
+  -- ---- compared with what an index asks
   abbrev Right : List ℕ → Type 0
   Right ns = (n : ℕ) → Memᴰ n ns → (n < length (places pending)) × (key_at labels pending n ≡ Some key)
 

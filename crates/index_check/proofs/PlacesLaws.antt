@@ -9,7 +9,7 @@ use Rattle.name_index.proofs.CountLaws.{count_at_least}
 use Rattle.pending.specs.Pendings.{pending_ok, PendingIs}
 use Rattle.pending.proofs.PendingsLaws.{pending_is}
 
--- all of a pending's body stands for its name, as it has no owner
+-- A pending has no owner, so its whole body is taken as its name.
 body_named : (pending : List ℕ) (p : ℕ) → PendingIs pending p → has_owned_name 0 pending p ≡ true
 body_named pending p i =
     let w : Without 0 pending p = without_owner 0 pending p (ne_eqb (kind_at pending p) 41 (λ e. omega (arith, i.record_kind))) in

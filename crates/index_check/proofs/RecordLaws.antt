@@ -1,4 +1,4 @@
--- What the check of one number rests on: the pending's name and source, and what these stand for. Assumes nothing.
+-- What decides the check of one number: the pending's name and source, and what these stand for. Assumes nothing.
 use Rattle.std.specs.Prelude.{ℕ, ◌≤◌, ◌<◌, List, Bool, true, false, ◌≡◌, refl, length, get_or, None, Option, Some}
 use Rattle.std.proofs.Common.{arith, sym, ap, ◌∙◌, subst}
 use Rattle.record.specs.Bytes.{le16, part, same_bytes}
@@ -78,7 +78,7 @@ module _ (labels pending name : List ℕ) where
           let z : same_bytes bytes name ≡ true = ap (λ (m : List ℕ). same_bytes m name) n ∙ eq_same name in
           never (cc)
 
--- ---- one number of a record, of which n is the value and p the pending's place
+-- ---- one number of a record: n is its value, p the place of the pending
 module _ (labels pending ps : List ℕ) (are : ps ≡ places pending) (s : List ℕ) (i least n p : ℕ) (value : n ≡ le16 s i) (place : p ≡ get_or ps n 0) (key : UseKey) where
   key_here : key_at labels pending (le16 s i) ≡ key_in labels pending (label_of pending p)
   key_here =

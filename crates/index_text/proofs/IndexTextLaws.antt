@@ -19,7 +19,7 @@ over : (s : List ℕ) → limit < length s → within_limit s None ≡ Some limi
 unfolding within_limit
 over s h = rw (lt-leb (length s) limit h, within_limit)
 
--- checks of which the last stops are not all passed
+-- If the last of three checks stops, not all of them pass.
 passed_last : (a b : Verdict) (r : Refusal) → and_then a (and_then b (Err r)) ≡ Ok tt → ◌≡◌ {A = ℕ} 0 1
 passed_last (Err x) b r e = cc
 passed_last (Ok tt) (Err x) r e = cc
@@ -29,7 +29,7 @@ module _ (fill : ℕ) (pending labels : List ℕ) where
   abbrev shown : List ℕ → List ℕ
   shown index = outcome_text (make_outcome fill pending labels index)
 
-  -- what the checks before the index buffer's leave, or that it is too long
+  -- The checks before the index buffer's, and then the refusal that the buffer is too long.
   abbrev stopped : Verdict
   stopped = and_then (layout_verdict 0 (pending_buffer_layout fill pending)) (and_then (layout_verdict 1 (label_layout labels)) (Err (BadLayout 2 limit)))
 
@@ -43,7 +43,7 @@ module _ (fill : ℕ) (pending labels : List ℕ) where
       go (Ok tt) e = never (passed_last (layout_verdict 0 (pending_buffer_layout fill pending)) (layout_verdict 1 (label_layout labels)) (BadLayout 2 limit) e)
       go (Err r) e = long_shown a h r e ∙ sym (long_shown b k r e)
 
-  -- one byte more than the limit is as good as the whole buffer
+  -- One byte more than the limit prints the same as the whole buffer.
   pub held_text : (index : List ℕ) → shown (held index) ≡ shown index
   held_text index = go (leb (length index) 65537) refl
     where

@@ -1,4 +1,4 @@
--- Laws of the checks of the lists: the first that stops, and what is known where all pass. Assumes nothing.
+-- Laws of the checks of the lists: the first that stops, and what is known if all pass. Assumes nothing.
 use Rattle.std.specs.Prelude.{ℕ, ◌≤◌, List, Bool, true, false, ◌≡◌, refl, length, take, ltb, None, Ok, Option, Some}
 use Rattle.std.proofs.Common.{arith, sym, ◌∙◌, ltb-true, ltb-false}
 use Rattle.std.proofs.Math.Path.{ap, ap₂}
@@ -21,7 +21,7 @@ use Rattle.label_uses.proofs.IndexLaws.{layout_long, layout_over, layout_by}
 use Rattle.label_uses.proofs.UseOrderLaws.{never}
 use Rattle.indexed_outcome.specs.Indexed.{IndexedCall, indexed_stop}
 
--- a place that a check of an index names is at most the limit
+-- If a check of an index names a place, the place is at most the limit.
 pub index_place : (labels pending index : List ℕ) (fill p : ℕ) → index_layout labels pending fill index ≡ Some p → p ≤ limit
 index_place labels pending index fill p e = go (ltb limit (length index)) refl
   where
@@ -38,7 +38,7 @@ index_place labels pending index fill p e = go (ltb limit (length index)) refl
         filled false t h =
             by_bytes (same_bytes (take fill index) (index_of labels pending)) (sym (layout_by labels pending fill index h (ltb-false (length index) fill t) refl) ∙ e)
 
--- what the pending buffer is where the six layouts pass
+-- What is known of the pending buffer if the six layouts pass.
 pub pending_passes : (token_list mnemonic descriptors : List ℕ) (lent : Lent) (region : ℕ) (counts : FillCounts) → layout_stop token_list mnemonic descriptors lent region counts ≡ Ok tt
     → (length lent.pending ≤ limit) × (counts.pending ≤ length lent.pending) × (first_bad (pending_ok 16 (filled_pending lent counts)) (places (filled_pending lent counts)) ≡ None)
 unfolding layout_stop
@@ -68,7 +68,7 @@ module _ (x : IndexedCall) where
       ∙ ap₂ (λ (p : Option ℕ) (q : Option ℕ). and_then v (and_then (layout_verdict 6 a) (and_then (layout_verdict 7 p) (and_then (name_verdict 2 q) (name_verdict 6 (label_repeat x.labels)))))) hb hd
       ∙ ap (λ (p : Option ℕ). and_then v (and_then (layout_verdict 6 a) (and_then (layout_verdict 7 b) (and_then (name_verdict 2 d) (name_verdict 6 p))))) he
 
-  -- where all pass
+  -- what is known if all checks pass
   pub record AllPass : Type 0 where
     pub six_pass : six ≡ Ok tt
     pub lists_pass : list_stop c.token_list c.mnemonic c.descriptors c.lent c.numbers.place.region c.numbers.counts ≡ Ok tt

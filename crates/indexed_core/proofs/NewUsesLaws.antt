@@ -1,4 +1,4 @@
--- The uses of the pending list that an accepted line leaves are those of the list before, and then the line's. Assumes nothing.
+-- After an accepted line, the uses of the pending list are those of the list before, and then the line's. Assumes nothing.
 use Rattle.std.specs.Prelude.{ℕ, zero, suc, ◌+◌, ◌*◌, ◌^◌, ◌≤◌, ◌<◌, Bool, true, false, ◌≡◌, length, take, get_or, ltb, None, Option, Some, Ok, Err}
 use Rattle.std.proofs.Common.{arith, sym, ◌∙◌, subst, length-append, length-take, get_or-take, ltb-true, ltb-false}
 use mathlib.Core.List.{List, [], ◌∷◌, ◌++◌, append_assoc, append-nil}
@@ -111,7 +111,7 @@ module _ (job : Job) (c : Call) (read : LineRead) (position : ℕ) (loaded : Loa
     words_are : line.pairs ≡ (made_line read).pairs
     words_are = made_pairs c.token_list at c.numbers c.lent line read.answer read.position made.0 line_done
 
-  -- the words of the line that was read are the call's, since the line is accepted
+  -- The line is accepted, so the words of the line that was read are the call's.
   accepted_read : (o : Option Line) → call_made job c ≡ o → LineFor o true read → call_pairs job c ≡ (made_line read).pairs
   unfolding call_pairs
   accepted_read (Some line) e l = ap line_pairs e ∙ words_are line l.1 (by_line job c (lists_pass stop refl) e)

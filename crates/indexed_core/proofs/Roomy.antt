@@ -1,4 +1,5 @@
--- An index buffer as long as the pending list that an accepted line leaves has room for the new index: with one, no line is refused with 17. Assumes nothing.
+-- If the index buffer is as long as the pending list that an accepted line leaves, the new index has room. Then no line is refused with 17.
+-- Assumes nothing.
 use Rattle.std.specs.Prelude.{ℕ, ◌+◌, ◌≤◌, List, ◌≡◌, length, take}
 use Rattle.std.proofs.Common.{arith, sym, subst, length-take}
 use Rattle.jobs.specs.declared.Job.{Job}

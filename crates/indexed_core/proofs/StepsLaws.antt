@@ -1,4 +1,4 @@
--- Laws of the steps: the outcome by what the checks, the line and the index's room say. Assumes nothing.
+-- Laws of the steps: how the checks, the line and the room for the index decide the outcome. Assumes nothing.
 use Rattle.std.specs.Prelude.{ℕ, ◌≤◌, ◌<◌, List, Bool, true, false, ◌≡◌, refl, length, leb, Err, Ok}
 use Rattle.std.proofs.Common.{sym, ap, ap₂, ◌∙◌, le-leb}
 use Rattle.std.proofs.lemmas.Bool.{lt-leb}
@@ -27,7 +27,7 @@ use Rattle.indexed_core.specs.Steps.{new_index, kept_outcome, room_outcome, with
 
 -- ---- a line that was made
 
--- one that is refused leaves the index, whatever the new one would be
+-- A line that is refused leaves the index as it is, whatever the new one would be.
 pub with_stopped : (line : Location) (numbers : LineNumbers) (lent : Lent) (fill : ℕ) (index new : List ℕ) (o : EmitOutcome) (r : Refusal) (position : ℕ) → o ≡ refuse numbers.counts lent position r
     → with_index line numbers lent fill index new o o.answer ≡ kept_outcome numbers lent fill index r position
 with_stopped line numbers lent fill index new o r position e = ap (λ (y : EmitOutcome). with_index line numbers lent fill index new y y.answer) e
@@ -72,7 +72,7 @@ module _ (job : Job) (x : IndexedCall) where
     pub call_unknown : (r : Refusal) → emit_outcome job c ≡ call_refused c r → indexed_outcome job x ≡ kept_outcome c.numbers c.lent x.fill x.index r c.numbers.place.position
     call_unknown r e = passes_is job x pass ∙ ap (λ (y : EmitOutcome). indexed_by x y y.answer) e
 
-    -- the call's outcome is the line's, and its new index that with the line's uses
+    -- The call's outcome is the line's. Its new index is the one with the line's uses.
     pub call_line : (line : Location) (y : EmitOutcome) (new : List ℕ) → line ≡ mnemonic_location c.mnemonic → emit_outcome job c ≡ y
         → ((position : ℕ) (loaded : LoadForm) → y.answer ≡ done_at position loaded → index_of x.labels (filled_pending y.lent y.counts) ≡ new)
         → indexed_outcome job x ≡ with_index line c.numbers c.lent x.fill x.index new y y.answer
@@ -83,6 +83,6 @@ module _ (job : Job) (x : IndexedCall) where
         go (Ok done) f =
             ap₂ (λ (m : Location) (z : List ℕ). room_outcome m c.numbers c.lent x.fill x.index z y (Ok done) done.position) (sym l) (n done.position done.loaded f)
 
--- an outcome that is the call's is all that a call promises
+-- If the outcome is the call's, everything that a call promises holds.
 pub indexed_by_lem : {job : Job} {x : IndexedCall} {answer : EmitAnswer} {counts : IndexedCounts} {lent : Lent} {index : List ℕ} → indexed_outcome job x ≡ indexed_outcome_of answer counts lent index → IndexedBy job x answer counts lent index
 indexed_by_lem e = record { outcome_is = e; returned_is = ap (λ (o : IndexedOutcome). returned o.answer) (sym e) }

@@ -1,5 +1,5 @@
--- "Equality with the Rust leaves out calls refused from 17 on": but for a refusal that is due for labels or index alone, answer, counts and lent
--- bytes are those of the call without index. That such a refusal is given only where it is due says `same_call`. Assumes nothing.
+-- "Equality with the Rust leaves out calls refused from 17 on": unless labels or index alone cause a refusal, answer, counts and lent bytes are those
+-- of the call without index. `same_call` says that such a refusal is given only if it is due. Assumes nothing.
 use Rattle.std.specs.Prelude.{ℕ, ◌⊎◌, ◌≡◌, refl}
 use Rattle.jobs.specs.declared.Job.{Job}
 use Rattle.refusal.specs.declared.Refusal.{Refusal}

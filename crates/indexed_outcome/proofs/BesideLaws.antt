@@ -1,4 +1,4 @@
--- Laws of a call with an index beside the same call without one, by what each of its checks says. Assumes nothing.
+-- Laws of a call with an index, compared with the same call without one: what each check says. Assumes nothing.
 use Rattle.std.specs.Prelude.{ℕ, ◌⊎◌, List, Bool, true, false, ◌≡◌, length, leb, Err, None, Ok, Option, Some}
 use Rattle.std.proofs.Common.{arith, inl, inr, sym, ap, ap₂, ◌∙◌, subst}
 use Rattle.std.proofs.Math.Path.{refl}
@@ -66,7 +66,7 @@ module _ (job : Job) (x : IndexedCall) where
   abbrev Either : Type 0
   Either = SameCall job x ⊎ ((r : Refusal) × (position : ℕ) × ((indexed_outcome job x).answer ≡ refused_at r position) × Added r)
 
-  -- both stop for the same reason
+  -- Both calls stop for the same reason.
   stop_same : (r : Refusal) → indexed_stop x ≡ Err r → and_then lists names_once ≡ Err r → SameCall job x
   stop_same r e f =
       let i : indexed_outcome job x ≡ indexed_refuse x r c.numbers.place.position = indexed_is ∙ ap (indexed_unless job x) e in
@@ -80,7 +80,7 @@ module _ (job : Job) (x : IndexedCall) where
   both_stop : (r : Refusal) → indexed_stop x ≡ Err r → and_then lists names_once ≡ Err r → Either
   both_stop r e f = inl (stop_same r e f)
 
-  -- the call with an index alone stops
+  -- Only the call with an index stops.
   added_stop : (r : Refusal) → indexed_stop x ≡ Err r → Added r → Either
   added_stop r e a = inr (r, c.numbers.place.position, ap (λ (y : IndexedOutcome). y.answer) (indexed_is ∙ ap (indexed_unless job x) e), a)
 
@@ -160,12 +160,12 @@ module _ (job : Job) (x : IndexedCall) where
       ∙ ap₂ (λ (v w : Verdict). and_then v (and_then w labels_once)) s t ∙ u)
       o.answer refl
 
-  -- a list that the call without index refuses is refused first
+  -- A list that the call without index refuses is refused first here too.
   pub lists_stop : (r : Refusal) → lists ≡ Err r → SameCall job x
   lists_stop r p =
       stop_same r (stop_is ∙ ap (λ (v : Verdict). and_then v (and_then labels_well (and_then index_well (and_then names_once labels_once)))) p) (ap (λ (v : Verdict). and_then v names_once) p)
 
-  -- labels and index are well, no label repeats and the new index has room: the call is as without
+  -- If labels and index pass, no label repeats and the new index has room, the call is the same as without index.
   pub well_same : (a e : Verdict) → lists ≡ a → names_once ≡ e → labels_well ≡ Ok tt → index_well ≡ Ok tt → labels_once ≡ Ok tt → leb (length new) (length x.index) ≡ true → SameCall job x
   well_same (Err r) e p t q s u b = lists_stop r p
   well_same (Ok tt) (Err r) p t q s u b =

@@ -1,4 +1,4 @@
--- Laws of making an index afresh: its outcome by what its checks say. Assumes nothing.
+-- Laws of making an index afresh: how its checks decide the outcome. Assumes nothing.
 use Rattle.std.specs.Prelude.{ℕ, ◌≤◌, ◌<◌, List, Bool, true, false, ◌≡◌, length, take, leb, Err, None, Ok, Option}
 use Rattle.std.proofs.Common.{arith, sym, ap, ap₂, ◌∙◌, length-take, leb-true, le-leb}
 use Rattle.std.proofs.Math.Path.{refl}

@@ -1,4 +1,4 @@
--- An index made afresh is the one that the next call takes, and a buffer as long as the pending list always has room for it. Assumes nothing.
+-- The next call takes an index that was made afresh. A buffer as long as the pending list always has room for it. Assumes nothing.
 use Rattle.std.specs.Prelude.{ℕ, ◌≤◌, List, ◌≡◌, refl, length, take, Err, None, Ok}
 use Rattle.std.proofs.Common.{arith, sym, ap, ◌∙◌, length-take, le-leb}
 use Rattle.record.specs.Stores.{append}
@@ -16,7 +16,7 @@ module _ (fill : ℕ) (pending labels index : List ℕ) where
   abbrev new : List ℕ
   new = index_of labels (take fill pending)
 
-  -- what is made is the right index for the next call by the same labels
+  -- What is made is the right index for the next call with the same labels.
   pub make_takes : (n : ℕ) → (make_outcome fill pending labels index).answer ≡ Ok n → index_layout labels (take fill pending) n (make_outcome fill pending labels index).index ≡ None
   make_takes n e = go (make_stop fill pending labels index) refl
     where
@@ -35,7 +35,7 @@ module _ (fill : ℕ) (pending labels index : List ℕ) where
           ∙ ap (λ (f : ℕ). index_layout labels (take fill pending) f (append index 0 new)) m
           ∙ index_taken labels (take fill pending) index (room_pass fill pending labels index d.1) w
 
-  -- a buffer as long as the pending's fill is never too short
+  -- A buffer as long as the pending list's fill is never too short.
   pub make_roomy : pending_buffer_layout fill pending ≡ None → fill ≤ length index → room_for (index_of labels (take fill pending)) index ≡ Ok tt
   make_roomy g h =
       let k = index_fits labels (take fill pending) (filled_layout fill pending labels index g) in

@@ -1,4 +1,4 @@
--- The index that an accepted call leaves is the one that the next call with the same labels takes. Assumes nothing.
+-- The next call with the same labels takes the index that an accepted call leaves. Assumes nothing.
 use Rattle.std.specs.Prelude.{ℕ, ◌≤◌, List, Bool, true, false, ◌≡◌, refl, length, leb, Err, None, Ok, Option}
 use Rattle.std.proofs.Common.{sym, ap, ◌∙◌, leb-true}
 use Rattle.jobs.specs.declared.Job.{Job}

@@ -1,4 +1,4 @@
--- A refused call with an index leaves its four counts and every lent byte, those of the index too. Assumes nothing.
+-- A refused call with an index leaves its four counts and every lent byte as they were, also those of the index. Assumes nothing.
 use Rattle.std.specs.Prelude.{ℕ, Bool, true, false, List, ◌≡◌, refl, length, leb, Err, Ok}
 use Rattle.std.proofs.Common.{sym, ap, ap₂, ◌∙◌}
 use Rattle.jobs.specs.declared.Job.{Job}
@@ -15,7 +15,7 @@ use Rattle.refusal.specs.Verdicts.{Verdict}
 pub refused_stays : (job : Job) (x : IndexedCall) (r : Refusal) (position : ℕ) → (indexed_outcome job x).answer ≡ refused_at r position → indexed_outcome job x ≡ indexed_refuse x r position
 refused_stays job x r position e = go (indexed_stop x) refl
   where
-    -- one that leaves all is the one that is asked for
+    -- The outcome of some refusal at some position is that of the refusal and position in the answer.
     same : (r' : Refusal) (p : ℕ) → indexed_outcome job x ≡ indexed_refuse x r' p → indexed_outcome job x ≡ indexed_refuse x r position
     same r' p i =
         let j : ◌≡◌ {A = EmitAnswer} (refused_at r' p) (refused_at r position) = sym (ap (λ (y : IndexedOutcome). y.answer) i) ∙ e in

@@ -1,5 +1,5 @@
--- Where labels and index are right, no label repeats a name and the new index has room, a call with an index answers and writes what the same
--- call without one does; and what that call refuses of its six buffers goes first. Assumes nothing.
+-- If labels and index are right, no label repeats a name and the new index has room, a call with an index answers and writes what the same call
+-- without one does. What that call refuses of its six buffers is refused first here too. Assumes nothing.
 use Rattle.std.specs.Prelude.{◌≤◌, ◌≡◌, refl, length, Err, None}
 use Rattle.std.proofs.Common.{ap, le-leb}
 use Rattle.jobs.specs.declared.Job.{Job}

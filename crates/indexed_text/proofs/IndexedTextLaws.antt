@@ -41,7 +41,7 @@ outcome_length o =
     let three = two ++ bytes_line (bytes_of "breakpoints ") o.lent.breakpoints in
     omega (arith, length-append three (bytes_line (bytes_of "index ") o.index), length-append two (bytes_line (bytes_of "breakpoints ") o.lent.breakpoints), length-append one (bytes_line (bytes_of "pending ") o.lent.pending), length-append (head_text o.answer o.counts) (bytes_line (bytes_of "data ") o.lent.region_data))
 
--- with buffers that are as long as they are held
+-- How long the text is at most, if each buffer has at most 65,537 bytes.
 pub outcome_most : (o : IndexedOutcome) → length o.lent.region_data ≤ 65537 → length o.lent.pending ≤ 65537 → length o.lent.breakpoints ≤ 65537 → length o.index ≤ 65537
     → length (outcome_text o) ≤ 525000
 outcome_most o d p b u =

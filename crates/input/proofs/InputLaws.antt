@@ -7,7 +7,7 @@ use Rattle.record.specs.Bytes.{le16, le32}
 use Rattle.record.specs.Stores.{append}
 use Rattle.input.specs.Input.{list_end, behind_list, behind_lists, list_in, word_or_zero, half_or_zero}
 
--- bytes left out past the end are none
+-- Dropping past the end drops no more than all.
 drop_min : (s : List ℕ) (n : ℕ) → drop (min n (length s)) s ≡ drop n s
 drop_min s n = go (leb n (length s)) refl
   where
@@ -22,7 +22,7 @@ drop_min s n = go (leb n (length s)) refl
         let g : length s ≤ n = omega arith in
         drop_of_length-le s m ∙ sym (drop_of_length-le s g)
 
--- bytes taken past the end are none
+-- Taking past the end takes no more than all.
 take_min : (s : List ℕ) (n k : ℕ) → min n (length s) ≤ k → k ≤ n → take k s ≡ take n s
 take_min s n k h g = go (leb n (length s)) refl
   where
@@ -35,7 +35,7 @@ take_min s n k h g = go (leb n (length s)) refl
         let l = leb-false n (length s) e in
         take_all k s (omega arith) ∙ sym (take_all n s (omega arith))
 
--- the part behind a place
+-- the part from a place on
 pub rest_is : (s : List ℕ) (n k : ℕ) → k ≡ min n (length s) → take (length s - k) (drop k s) ≡ drop n s
 rest_is s n k e = take_all (length s - k) (drop k s) (simp length-drop (omega arith)) ∙ ap (λ (j : ℕ). drop j s) e ∙ drop_min s n
 
@@ -44,19 +44,19 @@ pub behind_next : (s rest : List ℕ) (n k : ℕ) → rest ≡ behind_lists n s 
 unfolding behind_lists
 behind_next s rest n k e h = rw add-one (rest_is rest (list_end rest) k h ∙ ap behind_list e)
 
--- a list takes the bytes of its count at least
+-- A list takes at least the four bytes of its count.
 pub behind_shorter : (s : List ℕ) (n : ℕ) → 4 ≤ length (behind_lists n s) → length (behind_lists (n + 1) s) + 4 ≤ length (behind_lists n s)
 unfolding behind_lists
 behind_shorter s n h = rw add-one (simp length-drop (omega arith))
 
--- the part from the count on
+-- the part behind the count
 pub list_is : (s : List ℕ) (start end : ℕ) → start ≡ min 4 (length s) → end ≡ min (list_end s) (length s)
     → take (end - start) (drop start s) ≡ list_in s
 list_is s start end a b =
     ap (λ (xs : List ℕ). take (end - start) xs) (ap (λ (j : ℕ). drop j s) a ∙ drop_min s 4)
     ∙ take_min (drop 4 s) (le32 s 0) (end - start) (simp length-drop (omega arith)) (omega arith)
 
--- ---- what is held of a list, where there is room for one byte more than the limit
+-- ---- how much is held of a list, if there is room for one byte more than the limit
 pub record Held (list e : List ℕ) (n : ℕ) : Type 0 where
   pub within : n ≤ length e
   pub counts : n ≡ length (take n e)

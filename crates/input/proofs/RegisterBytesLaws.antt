@@ -11,7 +11,7 @@ use Rattle.input.specs.Input.{word_or_zero}
 use Rattle.input.specs.RegisterBytes.{words_in, registers_in}
 
 module _ {F : Type 0} (g : Mut F (ℕ × Unit {0}) ℕ) (f : F) (s : List ℕ) (reads : (i y : ℕ) (q : F) → Called g f (i, tt) y q → (q ≡ f) × (y ≡ word_or_zero s (4 * i))) where
-  -- where each call reads the number that its index names, calls from index i on read the numbers in a row
+  -- If each call reads the number at its index, the calls from index i on read the numbers in a row.
   pub all_read : (n i : ℕ) (ys : List ℕ) → length ys ≡ i + n → IsFromFnResultFrom g f ys i n → drop i ys ≡ words_in n s (4 * i)
   unfolding words_in
   all_read zero i ys l r = let e : i ≡ length ys = omega arith in ap (λ (m : ℕ). drop m ys) e ∙ drop-length ys
@@ -23,7 +23,7 @@ module _ {F : Type 0} (g : Mut F (ℕ × Unit {0}) ℕ) (f : F) (s : List ℕ) (
       ∙ ap₂ (λ (x : ℕ) (xs : List ℕ). x ∷ xs) (r.2.1 0 ∙ t.1)
       (ap (λ (m : ℕ). drop m ys) (sym (add-one i)) ∙ all_read n (i + 1) ys (omega arith) (subst (λ (q : F). IsFromFnResultFrom g q ys (i + 1) n) t.0 r.4) ∙ ap (words_in n s) p)
 
--- the first i of those read, and then those that are left to read, are the registers
+-- The first i registers are read. With those that are left to read, they are all the registers.
 pub record ReadSoFar (s registers : List ℕ) (i : ℕ) : Type 0 where
   pub within : i ≤ 32
   pub slots : length registers ≡ 32

@@ -7,7 +7,7 @@ use Rattle.jobs.specs.declared.Job.{Job}
 use Rattle.jobs.specs.declared.Format.{Format}
 use Rattle.jobs.specs.Jobs.{by_manual, commit_code, manual_code, size_code, most_back, most_ahead}
 
--- what is so of the manual's and of the commit's value is so of each job's
+-- If it holds of the manual's value and of the commit's, it holds of every job's.
 pub by_either : {A : Type 0} (P : A → Type 0) {manual commit : A} → P manual → P commit → (job : Job) → P (elim (by_manual job) [ true ↦ manual | false ↦ commit ])
 by_either P {manual} {commit} m c job = go (by_manual job)
   where

@@ -1,4 +1,4 @@
--- The answer of a lookup by its checks. Assumes nothing.
+-- How its checks decide the answer of a lookup. Assumes nothing.
 use Rattle.std.specs.Prelude.{ℕ, ◌≤◌, ◌<◌, List, ◌≡◌, refl, length, Err, None, Ok, Option, Some}
 use Rattle.std.proofs.Common.{sym, ap, ◌∙◌}
 use Rattle.std.proofs.Math.Path.{ap₂}

@@ -1,4 +1,4 @@
--- A list has one ordered index: whatever is an index of it is the one that the function gives. Assumes nothing.
+-- A list has only one ordered index: every index of it is the one that the function gives. Assumes nothing.
 use Rattle.std.specs.Prelude.{ℕ, ◌+◌, ◌⊎◌, Bool, ◌≡◌, eqb}
 use Rattle.std.proofs.Common.{arith, ◌∙◌}
 use mathlib.Core.List.{List, [], ◌∷◌}
@@ -30,7 +30,7 @@ module _ (le : ℕ → ℕ → Bool) where
   ordered_count v [] = refl
   ordered_count v (p ∷ l) = omega (arith, put_count v p (ordered le l), ordered_count v l)
 
-  -- what is put in is the new one or was there
+  -- What stands in the list after an insertion is the new element, or was there before.
   put_in_lem : (v p : ℕ) (l : List ℕ) → In v (put_in le p l) → (v ≡ p) ⊎ In v l
   unfolding count
   put_in_lem v p l h = in_cons v p l (omega (arith, h, put_count v p l))
@@ -51,7 +51,7 @@ module _ (le : ℕ → ℕ → Bool) where
     ordered_sorted [] = none
     ordered_sorted (p ∷ l) = put_sorted p (ordered le l) (ordered_sorted l)
 
-    -- two sorted lists that have each number as often are one
+    -- Two sorted lists that have each number equally often are the same.
     one_order : (a b : List ℕ) → Sorted le a → Sorted le b → ((v : ℕ) → count v a ≡ count v b) → a ≡ b
     unfolding count
     one_order [] [] sa sb e = refl
@@ -68,7 +68,7 @@ module _ (le : ℕ → ℕ → Bool) where
     pub only_order : (l r : List ℕ) → SortOf le l r → r ≡ ordered le l
     only_order l r s = one_order r (ordered le l) s.sorted (ordered_sorted l) (λ v. s.counts v ∙ sym (ordered_count v l))
 
--- of two records each of which goes before the other both stand at one place
+-- If each of two records goes before the other, both stand at one place.
 before_same : (skip : ℕ) (s : List ℕ) (p q : ℕ) → before skip s p q ≡ true → before skip s q p ≡ true → p ≡ q
 before_same skip s p q e f =
     ⊎_elim

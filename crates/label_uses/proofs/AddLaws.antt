@@ -1,5 +1,5 @@
--- One more use, byte for byte: a record put in where its key sorts, or two bytes put in behind a record's numbers with its length and count
--- grown; what follows moves up. Assumes nothing.
+-- One more use, byte for byte. Either a record is put in where its key sorts, or two bytes are put in behind a record's numbers, and its length and
+-- count grow. What follows moves up. Assumes nothing.
 use Rattle.std.specs.Prelude.{ℕ, ◌+◌, ◌*◌, ◌-◌, ◌≤◌, ◌≡◌, refl, length}
 use Rattle.std.proofs.Common.{arith, ap₂, ◌∙◌, length-append}
 use mathlib.Core.List.{List, [], ◌∷◌, ◌++◌, append_assoc}
@@ -25,7 +25,7 @@ apart len u count numbers = le16_bytes len ++ (between_of u ++ (le16_bytes count
 pub use_apart : (u : Use) → use_bytes u ≡ apart (length (use_body u)) u (length u.numbers) (numbers_bytes u.numbers)
 use_apart u = ap (λ (x : List ℕ). le16_bytes (length (use_body u)) ++ (between_of u ++ (le16_bytes (length u.numbers) ++ x))) (append_assoc (numbers_bytes u.numbers) (le32_bytes (kept_of u.key.standing)) u.key.name)
 
--- with a number more
+-- the same record with one more number
 pub more_apart : (u : Use) (n : ℕ) → use_bytes (more_use u n) ≡ apart (length (use_body u) + 2) u (length u.numbers + 1) (numbers_bytes u.numbers ++ le16_bytes n)
 more_apart u n =
     let c : length (u.numbers ++ (n ∷ [])) ≡ length u.numbers + 1 = length-append u.numbers (n ∷ []) in
@@ -36,14 +36,14 @@ more_apart u n =
     ∙ ap₂ (λ (len count : ℕ). apart len u count (numbers_bytes (u.numbers ++ (n ∷ [])))) b c
     ∙ ap (apart (length (use_body u) + 2) u (length u.numbers + 1)) ns
 
--- a record more
+-- one more record
 pub put_record : (d : List ℕ) (fill : ℕ) (l r : List Use) (u : Use) (at : ℕ) → Holds d fill (l ++ r) → at ≡ length (uses_bytes l) → fill + length (use_bytes u) ≤ length d
     → append (append d (at + length (use_bytes u)) (part d at (fill - at))) at (use_bytes u) ≡ append d 0 (uses_bytes (l ++ (u ∷ r)))
 put_record d fill l r u at h e room =
     put_between d (uses_bytes l) (uses_bytes r) at fill (h.filled ∙ uses_append l r) (sym e) h.within (use_bytes u) room
     ∙ ap (append d 0) (ap (λ (x : List ℕ). uses_bytes l ++ x) (sym (uses_cons u r)) ∙ sym (uses_append l (u ∷ r)))
 
--- a number more: where its bytes are put in
+-- One more number: where its bytes are put in.
 abbrev pub number_place : Use → (at : ℕ) → ℕ
 number_place u at = at + 7 + 2 * length u.numbers
 

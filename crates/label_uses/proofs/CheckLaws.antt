@@ -1,4 +1,5 @@
--- For the check of an index: a record read gives its bytes back, a use more keeps what was seen, and what is seen to the end, with as many numbers as names, is the index. Assumes nothing.
+-- For the check of an index: a record that is read gives its bytes back, and one more use keeps what was seen. At the end, with as many numbers
+-- as names, the bytes are the index. Assumes nothing.
 use Rattle.std.specs.Prelude.{ℕ, zero, suc, ◌+◌, ◌*◌, ◌-◌, ◌/◌, ◌%◌, ◌≤◌, ◌<◌, List, [], ◌∷◌, ◌++◌, Bool, true, false, ◌≡◌, refl, length, take, drop, eqb}
 use Rattle.std.proofs.Common.{arith, add-one, sym, ap, ap₂, ◌∙◌, length-take, length-drop, drop-cons, drop-drop, take-add, eqb-true}
 use Rattle.std.proofs.Math.Nat.{div-eq_of_lt-le}

@@ -1,4 +1,5 @@
--- The check of an index, record by record: what is read so far is seen and its bytes are those read; where the bytes are the index's, what is read so far begins its uses. Assumes nothing.
+-- The check of an index, record by record: the uses read so far pass, and their bytes are those read. If the buffer holds the index, they are its
+-- first uses. Assumes nothing.
 use Rattle.std.specs.Prelude.{ℕ, ◌+◌, ◌≤◌, ◌<◌, Bool, true, false, ◌≡◌, refl, length, take, drop, None, Option, Some}
 use Rattle.std.proofs.Common.{arith, ⊎_elim, sym, ap, ap₂, ◌∙◌, subst, length-append, take-append-drop, length-take-le, take-add}
 use mathlib.Core.List.{List, [], ◌∷◌, ◌++◌, append_assoc, append-nil, Memᴰ}
@@ -28,7 +29,7 @@ AllBefore l key = (v : Use) → Memᴰ v l → use_order v.key key ≡ Less
 pub before_none : (key : UseKey) → AllBefore [] key
 before_none key v m = absurd (mathlib.Core.List.Memᴰ.not-nil m)
 
--- only the last has to be compared
+-- Only the last use has to be compared.
 pub before_next : (l : List Use) (w : Use) (key : UseKey) → AllBefore l w.key → use_order w.key key ≡ Less → AllBefore (l ++ (w ∷ [])) key
 before_next l w key h e v m =
     ⊎_elim
@@ -74,7 +75,7 @@ module _ (key_at_lem : ℕ → Option UseKey) (total : ℕ) where
       sounds : (v : Use) → Memᴰ v (l ++ (u ∷ [])) → (n : ℕ) → Memᴰ n v.numbers → (n < total) × (key_at_lem n ≡ Some v.key)
       sounds = which (λ (v : Use). (n : ℕ) → Memᴰ n v.numbers → (n < total) × (key_at_lem n ≡ Some v.key)) s.sound f.right
 
-  -- and the other way round: each use of those that say so is fine behind those before it
+  -- The other way round: if the uses say what an index says, each of them is fine behind those before it.
   pub fine_in : (us l r : List Use) (u : Use) → SaysTo key_at_lem total us → us ≡ l ++ (u ∷ r) → Fine l u
   fine_in us l r u s e =
       let m : Memᴰ u us = subst (Memᴰ u) (sym e) (mathlib.Core.List.Memᴰ.append_right l (mathlib.Core.List.Memᴰ.head refl)) in
@@ -93,7 +94,7 @@ unfolding numbers_in
 numbers_behind [] u = omega arith
 numbers_behind (v ∷ l) u = omega (arith, numbers_behind l u)
 
--- ---- where the check says yes
+-- ---- if the check says yes
 module _ (s : List ℕ) (sb : AllBytes s) where
   pub read_behind : (l : List Use) (at : ℕ) → uses_bytes l ≡ take at s → RecordOk s at → uses_bytes (l ++ (use_read s at ∷ [])) ≡ take (next s at) s
   read_behind l at e ok =
@@ -110,7 +111,7 @@ unfolding index_of
 all_seen labels pending l s n =
     ap uses_bytes (says_once (key_at labels pending) (length (places pending)) l (uses_of labels pending) (counted_says (key_at labels pending) (length (places pending)) l s n) (says_all labels pending))
 
--- ---- where it says no: had the buffer held the index, the record would have passed
+-- ---- if it says no: had the buffer held the index, the record would have passed
 module _ (labels pending s : List ℕ) (fill : ℕ) (lb : AllBytes labels) (pb : AllBytes pending) (g : first_bad (pending_ok 16 pending) (places pending) ≡ None)
     (pl : length pending ≤ 65536) (sl : length s ≤ 65536) (fl : fill ≤ length s) (held : take fill s ≡ index_of labels pending) where
   uses_are : take fill s ≡ uses_bytes (uses_of labels pending)
@@ -158,7 +159,7 @@ module _ (labels pending s : List ℕ) (fill : ℕ) (lb : AllBytes labels) (pb :
   pub next_fine : (l : List Use) (at : ℕ) → Next l at → Fine (key_at labels pending) (length (places pending)) l (use_read s at)
   next_fine l at x = fine_in (key_at labels pending) (length (places pending)) (uses_of labels pending) l x.rest (use_read s at) (says_all labels pending) x.split
 
-  -- and at the end the numbers would be as many as the names
+  -- At the end there would be as many numbers as names.
   pub end_count : (l r : List Use) → uses_of labels pending ≡ l ++ r → fill ≤ length (uses_bytes l) → numbers_in l ≡ names_to (key_at labels pending) (length (places pending))
   end_count l [] e h =
       ap numbers_in (sym (e ∙ append-nil l)) ∙ says_counted (key_at labels pending) (length (places pending)) (uses_of labels pending) (says_all labels pending)

@@ -1,4 +1,5 @@
--- The count: uses whose keys rise, whose numbers rise and stand under the right key, and which are as many as there are names, leave none out. Assumes nothing.
+-- The count: if keys rise, numbers rise and stand under the right key, and there are as many numbers as names, then none is missing.
+-- Assumes nothing.
 use Rattle.std.specs.Prelude.{ℕ, zero, suc, ◌+◌, ◌<◌, ◌≤◌, Bool, ◌≡◌, length, eqb, Option, None, Some}
 use native.Mathlib.Omega.{arith}
 use mathlib.Core.List.Memᴰ
@@ -27,7 +28,7 @@ unfolding sum_to
 sum_le f g zero h = omega arith
 sum_le f g (suc n) h = omega (arith, sum_le f g n (λ i k. h i (omega arith)), h n (omega arith))
 
--- f is nowhere above g and the sums are equal, so f and g agree
+-- If f is nowhere above g and their sums are equal, f and g agree.
 pub sum_agree : (f g : ℕ → ℕ) (n : ℕ) → ((i : ℕ) → i < n → f i ≤ g i) → sum_to f n ≡ sum_to g n → (i : ℕ) → i < n → f i ≡ g i
 unfolding sum_to
 sum_agree f g zero h e i k = absurd (omega arith)
@@ -53,7 +54,7 @@ unfolding sum_to
 sum_zero zero = refl
 sum_zero (suc n) = omega (arith, sum_zero n)
 
--- a number counted below a bound: once if it is below it
+-- Counted below a bound, a number occurs once if it is below the bound, and otherwise never.
 sum_past : (x n : ℕ) → n ≤ x → sum_to (λ (i : ℕ). one (eqb x i)) n ≡ 0
 unfolding sum_to
 sum_past x zero h = refl
@@ -76,14 +77,14 @@ sum_once x (suc n) h = go (ltb x n) refl (sum_once x n)
         let e : one (eqb x n) ≡ 1 = ap one (eq-eqb x n (omega arith)) in
         omega (arith, sum_past x n (omega arith))
 
--- all counts of a list's numbers together are its length
+-- The counts of all numbers in a list add up to its length.
 sum_count : (l : List ℕ) (n : ℕ) → ((x : ℕ) → Memᴰ x l → x < n) → sum_to (λ (i : ℕ). count i l) n ≡ length l
 unfolding count
 sum_count [] n h = sum_zero n
 sum_count (x ∷ l) n h =
     omega (arith, sum_add (λ (i : ℕ). one (eqb x i)) (λ (i : ℕ). count i l) n, sum_once x n (h x (Memᴰ.head refl)), sum_count l n (λ y m. h y (Memᴰ.tail m)))
 
--- ---- counted and standing there
+-- ---- a number is counted exactly if it stands there
 in_mem : (l : List ℕ) (v : ℕ) → In v l → Memᴰ v l
 in_mem [] v h = absurd (not_in v h)
 in_mem (x ∷ l) v h = ⊎_elim (λ (e : v ≡ x). Memᴰ.head e) (λ k. Memᴰ.tail (in_mem l v k)) (in_cons v x l h)
@@ -97,7 +98,7 @@ mem_count (x ∷ l) v m =
     (λ (t : Memᴰ v l). omega (arith, mem_count l v t))
     (Memᴰ.cases_cons m)
 
--- what is below all of a list's numbers is none of them
+-- Numbers rise, so nothing up to the first one occurs among the later ones.
 all_above : (n : ℕ) (ns : List ℕ) → NumbersRise (n ∷ ns) → (m : ℕ) → m ≤ n → count m ns ≡ 0
 unfolding count
 all_above n [] r m h = refl
@@ -215,7 +216,7 @@ module _ (key_at_lem : ℕ → Option UseKey) (total : ℕ) where
           let t : times_in v us ≤ 1 = ih (record { rises = r; in_order = λ w m. s.in_order w (Memᴰ.tail m); sound = λ w m. s.sound w (Memᴰ.tail m) }) in
           omega arith
 
-  -- and a constant's number does not
+  -- A constant's number does not stand in the uses.
   times_most : (us : List Use) → Seen key_at_lem total us → (v : ℕ) → times_in v us ≤ name_count (key_at_lem v)
   times_most us s v = go (key_at_lem v) refl
     where
@@ -227,7 +228,7 @@ module _ (key_at_lem : ℕ → Option UseKey) (total : ℕ) where
           let z : name_count (key_at_lem v) ≡ 1 = ap name_count e in
           omega (arith, times_once us v s)
 
-  -- as many numbers as names: none is missing
+  -- If there are as many numbers as names, none is missing.
   pub counted_says : (us : List Use) → Seen key_at_lem total us → numbers_in us ≡ names_to key_at_lem total → SaysTo key_at_lem total us
   counted_says us s e = record { rises = s.rises; in_order = s.in_order; sound = s.sound; complete = whole }
     where
@@ -243,7 +244,7 @@ module _ (key_at_lem : ℕ → Option UseKey) (total : ℕ) where
           let g = (s.sound r.0 r.1 n r.2).1 in
           (r.0, r.1, cc, r.2)
 
-  -- and the other way round: the index has as many numbers as there are names
+  -- The other way round: the index has as many numbers as there are names.
   pub says_counted : (us : List Use) → SaysTo key_at_lem total us → numbers_in us ≡ names_to key_at_lem total
   says_counted us s =
       sym (sum_times us total (λ u m n k. (s.sound u m n k).0)) ∙ agree_sum

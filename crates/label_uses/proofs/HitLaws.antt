@@ -1,4 +1,5 @@
--- What a name stands for, by two lookups that need not know that no label repeats: a lookup through any index hits exactly where the scan does. The first part is for crates/name_index. Assumes nothing.
+-- What a name stands for, even if labels repeat: a lookup through any index finds something exactly if the scan does.
+-- The first part is for crates/name_index. Assumes nothing.
 use Rattle.std.specs.Prelude.{ℕ, zero, suc, ◌+◌, ◌≤◌, ◌<◌, Bool, ◌≡◌, length, get_or, ltb, eqb, None, Option, Some}
 use Rattle.std.proofs.Common.{arith, ⊎_elim, sym, ap₂, ◌∙◌, ltb-true, ltb-false, eqb-true}
 use mathlib.Core.List.{List, [], ◌∷◌}
@@ -33,7 +34,7 @@ is_hit None = false
 
 -- ---- a scan
 module _ (test : ℕ → Bool) where
-  -- it does not miss what passes the test
+  -- If an element passes the test, the scan finds one.
   no_miss : (ps : List ℕ) (q : ℕ) → In q ps → test q ≡ true → is_hit (first_where test ps) ≡ true
   no_miss [] q m t = absurd (not_in q m)
   no_miss (p ∷ ps) q m t = go (test p) refl (no_miss ps q)
@@ -46,7 +47,7 @@ module _ (test : ℕ → Bool) where
           (λ k. ap is_hit (where_pass test p ps e) ∙ ih k t)
           (in_cons q p ps m)
 
-  -- and what it finds passes it
+  -- What the scan finds passes the test.
   finds_it : (ps : List ℕ) (p : ℕ) → first_where test ps ≡ Some p → test p ≡ true
   unfolding first_where
   finds_it [] p e = never (cc)
@@ -63,12 +64,12 @@ above a b h = go (ltb a b) refl
     go true e = ltb-true a b e
     go false e = absurd (h (ltb-false a b e))
 
--- ---- a search in an index of records of which some may share owner and name
+-- ---- a search in an index in which several records may have the same owner and name
 module _ (skip : ℕ) (s l : List ℕ) (ix : IndexOf skip s l) (owner : ℕ) (name : List ℕ) where
   abbrev at : ℕ → Ordering
   at k = standing skip s owner name (get_or l k 0)
 
-  -- those of the name stand from lo on and before hi
+  -- The records with the name stand from lo on and before hi.
   abbrev Between : ℕ → ℕ → Type 0
   Between lo hi = (k : ℕ) → k < length l → key_at skip s l ix k ≡ (name, owner) → (lo ≤ k) × (k < hi)
 
@@ -104,7 +105,7 @@ module _ (skip : ℕ) (s l : List ℕ) (ix : IndexOf skip s l) (owner : ℕ) (na
           let w = same_at k e in
           never (cc)
 
-  -- nothing is left, or one is met
+  -- If nothing is left, the scan finds nothing. If one is met, the scan finds one.
   missed : (lo hi : ℕ) → hi ≤ lo → Between lo hi → is_hit (first_owned skip s owner name) ≡ false
   missed lo hi h b = ap is_hit (none_where (is_owned skip s owner name) (places s) λ q m t.
       let r = at_in l q (in_index skip s l ix q m) in
@@ -144,13 +145,13 @@ module _ (skip : ℕ) (s l : List ℕ) (ix : IndexOf skip s l) (owner : ℕ) (na
           ap (λ (x : Looked). is_hit x.named) (search_down (standing skip s owner name) l lo hi c k e)
           ∙ down (omega arith) (omega arith) (λ i m f. ((b i m f).0, above i (middle lo hi) (λ q. not_behind (middle lo hi) i m q e f)))
 
--- over any index a lookup hits exactly where the scan does
+-- Over any index, a lookup finds something exactly if the scan does.
 pub lookup_hits : (skip : ℕ) (s l : List ℕ) → IndexOf skip s l → (owner : ℕ) (name : List ℕ) → is_hit (lookup skip s l owner name).named ≡ is_hit (first_owned skip s owner name)
 lookup_hits skip s l ix owner name =
     ap (λ (x : Looked). is_hit x.named) (lookup_all skip s l owner name)
     ∙ search_hits skip s l ix owner name (length l) 0 (length l) 0 (omega arith) (omega arith) (λ k h e. (omega arith, h))
 
--- ---- what a name stands for, by whether its source has a label of the name and whether one is for all
+-- ---- what a name stands for: does its source have a label of the name, and is there one for all files?
 abbrev pub standing_hit : (source : ℕ) → (own shared : Bool) → Standing
 standing_hit source true shared = Known source
 standing_hit source false true = Known for_all

@@ -1,4 +1,4 @@
--- What passes for an index: the bytes of the one made afresh, at a fill count within a buffer within the limit. Assumes nothing.
+-- What is accepted as an index: the bytes of one made afresh. The fill count lies within the buffer, and the buffer within the limit. Assumes nothing.
 use Rattle.std.specs.Prelude.{ℕ, ◌+◌, ◌≤◌, ◌<◌, List, [], Bool, true, false, ◌≡◌, length, take, drop, None, Option, Some}
 use Rattle.std.proofs.Common.{arith, sym, ap, ◌∙◌, length-append, length-drop}
 use Rattle.std.proofs.Math.Path.{refl}
@@ -23,7 +23,7 @@ module _ (labels pending : List ℕ) (fill : ℕ) (index : List ℕ) where
   unfolding index_layout
   layout_is = refl
 
-  -- by what is wrong with it
+  -- the layout, by what is wrong with the index
   pub layout_long : limit < length index → index_layout labels pending fill index ≡ Some limit
   layout_long h = layout_is ∙ filled_passed fill index (by_bytes (same_bytes (take fill index) (index_of labels pending))) h
 
@@ -33,7 +33,7 @@ module _ (labels pending : List ℕ) (fill : ℕ) (index : List ℕ) where
   pub layout_by : length index ≤ limit → fill ≤ length index → {b : Bool} → same_bytes (take fill index) (index_of labels pending) ≡ b → index_layout labels pending fill index ≡ elim b [ true ↦ None | false ↦ Some 0 ]
   layout_by h k e = layout_is ∙ filled_kept fill index (by_bytes (same_bytes (take fill index) (index_of labels pending))) h k ∙ ap by_bytes e
 
-  -- what an accepted index is
+  -- What is known of an accepted index.
   pub record IndexIs : Type 0 where
     pub room : length index ≤ limit
     pub filled : fill ≤ length index
@@ -69,7 +69,7 @@ written_first d bs =
     let e : 0 + length bs ≡ length bs = omega arith in
     ap (λ (n : ℕ). take n (append d 0 bs)) (sym e) ∙ filled_append d 0 bs (omega arith)
 
--- an index that was written afresh is the list's
+-- An index that was written afresh is accepted.
 pub index_taken : (labels pending index : List ℕ) → length (index_of labels pending) ≤ length index → length index ≤ limit
     → index_layout labels pending (length (index_of labels pending)) (append index 0 (index_of labels pending)) ≡ None
 index_taken labels pending index h l =
@@ -77,7 +77,7 @@ index_taken labels pending index h l =
     let n = written_length index new h in
     is_index labels pending (length new) (append index 0 new) (record { room = omega arith; filled = omega arith; bytes = written_first index new })
 
--- no pendings, no index: a routine from an empty pending list needs no second entry
+-- Without pendings the index is empty. So a routine that starts with an empty pending list needs no second entry.
 pub index_none : (labels : List ℕ) → index_of labels [] ≡ []
 unfolding index_of uses_of uses_from
 index_none labels = ap (λ (ps : List ℕ). uses_bytes (uses_from labels [] 0 ps [])) (places_all [] ∙ places_end [] 0 (omega arith)) ∙ uses_none

@@ -1,5 +1,5 @@
--- The uses that are made pending by pending say what `Says` asks. A reader may believe this and `only_index` in place of the way in which they
--- are made. Assumes nothing.
+-- The uses that are made pending by pending say what `Says` asks. A reader may believe this and `only_index`, and need not read how they are made.
+-- Assumes nothing.
 use Rattle.std.specs.Prelude.{ℕ, List}
 use Rattle.label_uses.specs.Uses.{uses_of}
 use Rattle.label_uses.specs.Says.{Says}

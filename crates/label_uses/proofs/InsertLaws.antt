@@ -1,4 +1,4 @@
--- Laws of one more use: keys still rise, what stood there stands there, and the number stands under its key. Assumes nothing.
+-- Laws of one more use: keys still rise, the old uses stay, and the number stands under its key. Assumes nothing.
 use Rattle.std.specs.Prelude.{ℕ, ◌⊎◌, ◌≡◌}
 use mathlib.Core.List.Memᴰ
 use mathlib.Core.List.{List, [], ◌∷◌, Memᴰ}
@@ -22,7 +22,7 @@ pub data Rises : List Use → Type 0 where
 pub below_none : (k : UseKey) → Below k []
 below_none k v m = absurd (Memᴰ.not-nil m)
 
--- a key before one that is before all
+-- If a is before b, and b is before all, then a is before all.
 pub below_trans : (a b : UseKey) (us : List Use) → use_order a b ≡ Less → Below b us → Below a us
 below_trans a b us e h v m = use_trans a b v.key e (h v m)
 
@@ -43,7 +43,7 @@ all_rise (u ∷ []) r = one_more
 all_rise (u ∷ (v ∷ us)) (one_left h r) = two_more (h v (Memᴰ.head refl)) (all_rise (v ∷ us) r)
 
 module _ (key : UseKey) (n : ℕ) where
-  -- ---- the three ways
+  -- ---- the three cases
   pub insert_less : (u : Use) (us : List Use) → use_order key u.key ≡ Less → insert_use key n (u ∷ us) ≡ one_use key n ∷ (u ∷ us)
   unfolding insert_use
   insert_less u us e = rw (e, insert_use)
@@ -60,7 +60,7 @@ module _ (key : UseKey) (n : ℕ) where
   unfolding insert_use
   insert_none = refl
 
-  -- ---- what stands there then
+  -- ---- what stands there afterwards
   pub data Stood (us : List Use) (v : Use) : Type 0 where
     before : Memᴰ v us → Stood us v
     new : v ≡ one_use key n → Stood us v
@@ -89,7 +89,7 @@ module _ (key : UseKey) (n : ℕ) where
           (λ t. stood_tail u us v (ih t))
           (Memᴰ.cases_cons (subst (Memᴰ v) (insert_more u us e) m))
 
-  -- ---- what stood there stands there, or has one number more
+  -- ---- each old use stays, or has one number more
   abbrev Kept : List Use → Use → Type 0
   Kept vs u = Memᴰ u vs ⊎ ((u.key ≡ key) × Memᴰ (more_use u n) vs)
 

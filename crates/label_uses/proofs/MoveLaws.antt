@@ -7,14 +7,14 @@ use Rattle.record.specs.Bytes.{part}
 use Rattle.record.specs.Stores.{append}
 use Rattle.record.proofs.StoresLaws.{append_none, one_store}
 
--- bytes written behind a known start are the start and the bytes, written at 0
+-- Writing bytes behind a known start is writing both at 0.
 pub append_start : (d l bs : List ℕ) (at : ℕ) → take at d ≡ l → length l ≡ at → append d at bs ≡ append d 0 (l ++ bs)
 unfolding append
 append_start d l bs at e n =
     let k : at + length bs ≡ 0 + length (l ++ bs) = omega (arith, length-append l bs) in
     ap₂ (λ (a : List ℕ) (m : ℕ). a ++ bs ++ drop m d) e k
 
--- bytes written right before bytes that were written are one append
+-- Writing bytes directly before bytes just written is one write of both.
 pub append_under : (d : List ℕ) (at : ℕ) (bs cs : List ℕ) (k : ℕ) → at + length bs ≡ k → k + length cs ≤ length d
     → append (append d k cs) at bs ≡ append d at (bs ++ cs)
 unfolding append
@@ -30,7 +30,7 @@ append_under d at bs cs k e h =
     ∙ sym (append_assoc (take at d ++ bs) cs q)
     ∙ ap₂ (λ (x : List ℕ) (i : ℕ). x ++ drop i d) (append_assoc (take at d) bs cs) m
 
--- bytes written over as many in the middle
+-- Bytes in the middle are replaced by as many others.
 pub append_over : (d p q r s : List ℕ) (at : ℕ) → length p ≡ at → length q ≡ length r → append (append d 0 (p ++ (q ++ s))) at r ≡ append d 0 (p ++ (r ++ s))
 unfolding append
 append_over d p q r s at e f =
@@ -45,7 +45,7 @@ append_over d p q r s at e f =
     ∙ sym (append_assoc p (r ++ s) z)
     ∙ ap (λ (i : ℕ). p ++ (r ++ s) ++ drop (0 + i) d) m
 
--- what is filled, in two
+-- the filled part, split in two
 module _ (d p q : List ℕ) (at fill : ℕ) (e : take fill d ≡ p ++ q) (n : length p ≡ at) (h : fill ≤ length d) where
   whole_list : d ≡ p ++ (q ++ drop fill d)
   whole_list = sym (take-append-drop fill d) ∙ ap (λ (x : List ℕ). x ++ drop fill d) e ∙ append_assoc p q (drop fill d)

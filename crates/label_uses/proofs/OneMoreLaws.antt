@@ -1,4 +1,4 @@
--- One more pending is one more use: the key that is read from the written record is that of the names it was written from. Assumes nothing.
+-- One more pending is one more use: the key read from the written record is the key of the names from which it was written. Assumes nothing.
 use Rattle.std.specs.Prelude.{ℕ, ◌+◌, ◌-◌, ◌≤◌, ◌<◌, ◌^◌, Bool, true, false, ◌≡◌, get_or, eqb, None, Some, Option}
 use native.Mathlib.Omega.{arith}
 use mathlib.Core.List.{List, [], ◌∷◌, ◌++◌, Memᴰ}
@@ -49,7 +49,7 @@ read_key : (labels names : List ℕ) (at : ℕ) (x : AddressLabel) (name : List 
 read_key labels names at (Constant value) name = refl
 read_key labels names at (Label l) name = refl
 
--- ---- the fold, with one place more and over a list that reads the same
+-- ---- the fold: with one more place, and over a list that reads the same
 module _ (labels : List ℕ) where
   from_behind : (s : List ℕ) (ps : List ℕ) (at n : ℕ) (us : List Use)
       → uses_from labels s n (ps ++ (at ∷ [])) us ≡ use_of labels s (label_of s at) (n + length ps) (uses_from labels s n ps us)
@@ -146,7 +146,7 @@ module _ (labels pending : List ℕ) (lb : AllBytes labels) (pb : AllBytes pendi
       let f = first_in u.numbers (s.in_order u m).1 in
       key_in_fits (get_or (places pending) f.0 0) u.key (s.sound u m f.0 f.1).1
 
--- a list number has two bytes
+-- A pending's number in the list fits two bytes.
 pub numbers_fit : (labels pending : List ℕ) → first_bad (pending_ok 16 pending) (places pending) ≡ None → length pending ≤ 65536 → (u : Use) → Memᴰ u (uses_of labels pending)
     → (n : ℕ) → Memᴰ n u.numbers → n < 2 ^ 16
 numbers_fit labels pending g h u m n k =

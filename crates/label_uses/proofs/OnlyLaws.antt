@@ -11,7 +11,7 @@ use Rattle.label_uses.proofs.SaysLaws.{SaysTo}
 use Rattle.label_uses.specs.Says.{NumbersRise, then}
 use Rattle.std.specs.declared.cmp.Ordering.TheVariants.{Less, Greater}
 
--- ---- lists that rise, by any relation that holds one way only
+-- ---- rising lists, for any relation that never holds both ways
 data Rising {A : Type 0} (Lt : A → A → Type 0) : List A → Type 0 where
   stop : Rising Lt []
   rise : {x : A} {xs : List A} → ((y : A) → Memᴰ y xs → Lt x y) → Rising Lt xs → Rising Lt (x ∷ xs)
@@ -29,7 +29,7 @@ module _ {A : Type 0} (Lt : A → A → Type 0) (one_way : (x y : A) → Lt x y 
       (Memᴰ.cases_cons k))
       (Memᴰ.cases_cons m)
 
-  -- what is behind the front of the one is behind that of the other
+  -- What stands behind the front of one list stands behind the front of the other.
   behind : (x y : A) (xs ys : List A) → x ≡ y → ((z : A) → Memᴰ z xs → Lt x z) → ((z : A) → Memᴰ z (x ∷ xs) → Memᴰ z (y ∷ ys))
       → (z : A) → Memᴰ z xs → Memᴰ z ys
   behind x y xs ys e f h z m =
@@ -76,7 +76,7 @@ rises_so : (us : List Use) → Rises us → Rising Before us
 rises_so [] r = stop
 rises_so (u ∷ us) (one_left h r) = rise h (rises_so us r)
 
--- one use of a key
+-- A key has only one use.
 pub one_of_key : (us : List Use) → Rises us → (u v : Use) → Memᴰ u us → Memᴰ v us → u.key ≡ v.key → u ≡ v
 one_of_key [] r u v m k e = absurd (Memᴰ.not-nil m)
 one_of_key (w ∷ us) (one_left h r) u v m k e =
@@ -101,7 +101,7 @@ use_from key numbers = record { key = key; numbers = numbers }
 
 -- ---- two lists that say the same
 module _ (key_at_lem : ℕ → Option UseKey) (count : ℕ) where
-  -- the numbers under a key in the one stand under it in the other
+  -- A number under a key in one list stands under that key in the other.
   moves : (us vs : List Use) → SaysTo key_at_lem count us → SaysTo key_at_lem count vs → (u v : Use) → Memᴰ u us → Memᴰ v vs → u.key ≡ v.key
       → (n : ℕ) → Memᴰ n u.numbers → Memᴰ n v.numbers
   moves us vs s t u v m k e n i =

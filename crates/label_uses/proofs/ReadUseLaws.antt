@@ -1,4 +1,4 @@
--- A record read is the use written. Assumes nothing.
+-- A record that is read is the use that was written. Assumes nothing.
 use Rattle.std.specs.Prelude.{ℕ, ◌+◌, ◌-◌, ◌^◌, ◌<◌, Bool, true, false, ◌≡◌, refl, length, eqb}
 use Rattle.std.proofs.Common.{arith, sym, ap, ap₂, ◌∙◌, length-append, take_at}
 use mathlib.Core.List.{List, [], ◌∷◌, ◌++◌, append_assoc, Memᴰ}

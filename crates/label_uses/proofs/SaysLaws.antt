@@ -15,13 +15,13 @@ use Rattle.label_uses.proofs.UseOrderLaws.{never}
 use Rattle.label_uses.proofs.InsertLaws.{Rises, none_left, rise_all, all_rise, Stood, before, new, grown, insert_stood, insert_keeps, insert_has, insert_rises}
 use Rattle.label_uses.specs.Says.{key_in, key_at, NumbersRise, last, then, Says}
 
--- ---- numbers that rise, and one more that is above them
+-- ---- rising numbers, and one more number above them
 pub rise_behind : (ns : List ℕ) (n : ℕ) → NumbersRise ns → ((m : ℕ) → Memᴰ m ns → m < n) → NumbersRise (ns ++ (n ∷ []))
 rise_behind [] n r h = last
 rise_behind (x ∷ []) n r h = then (h x (Memᴰ.head refl)) last
 rise_behind (x ∷ (y ∷ ns)) n (then e r) h = then e (rise_behind (y ∷ ns) n r (λ m k. h m (Memᴰ.tail k)))
 
--- what the first `count` pendings say, whatever gives their keys
+-- What the uses say of the first `count` pendings, wherever the keys come from.
 pub record SaysTo (key_at_lem : ℕ → Option UseKey) (count : ℕ) (us : List Use) : Type 0 where
   pub rises : Rises us
   pub in_order : (u : Use) → Memᴰ u us → NumbersRise u.numbers × (0 < length u.numbers)
@@ -38,7 +38,7 @@ module _ (key_at_lem : ℕ → Option UseKey) where
   }
 
   module _ (count : ℕ) (us : List Use) (s : SaysTo key_at_lem count us) where
-    -- a constant more
+    -- one more pending, which is a constant
     pub says_skip : key_at_lem count ≡ None → SaysTo key_at_lem (count + 1) us
     says_skip e = record {
       rises = s.rises;
@@ -58,7 +58,7 @@ module _ (key_at_lem : ℕ → Option UseKey) where
                 let g : key_at_lem count ≡ Some key = ap key_at_lem (sym j) ∙ f in
                 never (cc)
 
-    -- a name more
+    -- one more pending, which is a name
     module _ (key : UseKey) (e : key_at_lem count ≡ Some key) where
       abbrev more : List Use
       more = insert_use key count us

@@ -1,4 +1,4 @@
--- The order of what names stand for: it is the one that the type derives, and keys of one name stand to each other by it. Assumes nothing.
+-- The order of what names stand for. It is the order that the type derives, and it orders the keys of one name. Assumes nothing.
 use Rattle.std.specs.Prelude.{List, ℕ, ◌≡◌, refl}
 use Rattle.std.proofs.Common.{sym, ap, ◌∙◌}
 use Rattle.std.specs.declared.cmp.Ordering.TheVariants.{Equal}
@@ -23,11 +23,11 @@ derived_order (Known a) (Unknown b) = refl
 derived_order (Unknown a) (Known b) = refl
 derived_order (Unknown a) (Unknown b) = numbers_cmp a b
 
--- what stands equal in it makes one key of a name
+-- Equal standings give the same key of a name.
 pub equal_keys : (name : List ℕ) (a b : Standing) → standing_order a b ≡ Equal → key_with name a ≡ key_with name b
 equal_keys name a b e = use_is (key_with name a) (key_with name b) (standings_decide (key_with name a) (key_with name b) refl ∙ e)
 
--- and one key is of what stands equal
+-- The same key means equal standings.
 pub equal_order : (name : List ℕ) (a b : Standing) → key_with name a ≡ key_with name b → standing_order a b ≡ Equal
 equal_order name a b k =
     sym (standings_decide (key_with name a) (key_with name b) refl) ∙ ap (λ (x : UseKey). use_order x (key_with name b)) k ∙ use_same (key_with name b)

@@ -25,7 +25,7 @@ then_none Less = refl
 then_none Equal = refl
 then_none Greater = refl
 
--- names, from names with owners that are all 0
+-- The order of names, from the order of names with owner 0.
 abbrev no_owner : List ℕ → Key
 no_owner a = (a, 0)
 
@@ -40,7 +40,7 @@ names = record {
   trans = λ a b c e f. sym (by_name a c) ∙ key_trans (no_owner a) (no_owner b) (no_owner c) (by_name a b ∙ e) (by_name b c ∙ f);
 }
 
--- numbers, from names with owners whose names are empty
+-- The order of numbers, from the order of owners with empty names.
 abbrev no_name : ℕ → Key
 no_name x = ([], x)
 
@@ -83,7 +83,7 @@ known_trans false false c e f = never (cc)
 flags : Orders known_order
 flags = record { self = known_self; is = known_is; turns = known_turns; trans = known_trans }
 
--- one order and then another
+-- First one order, then another.
 module _ {A B : Type 0} (f : A → A → Ordering) (g : B → B → Ordering) (of : Orders f) (og : Orders g) where
   abbrev pair_order : A × B → A × B → Ordering
   pair_order a b = then_by (f a.0 b.0) (g a.1 b.1)
@@ -154,7 +154,7 @@ use_turned a b = parts.turns (parts_of a) (parts_of b)
 pub use_trans : (a b c : UseKey) → use_order a b ≡ Less → use_order b c ≡ Less → use_order a c ≡ Less
 use_trans a b c e f = parts.trans (parts_of a) (parts_of b) (parts_of c) e f
 
--- keys of one name stand to each other as their standings do
+-- Keys with the same name compare as their standings do.
 pub standings_decide : (a b : UseKey) → a.name ≡ b.name → use_order a b ≡ then_by (known_order (is_known a.standing) (is_known b.standing)) (numbers (kept_of a.standing) (kept_of b.standing))
 standings_decide a b e =
     ap (λ (o : Ordering). then_by o (then_by (known_order (is_known a.standing) (is_known b.standing)) (numbers (kept_of a.standing) (kept_of b.standing))))

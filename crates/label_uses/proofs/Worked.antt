@@ -20,22 +20,22 @@ b = 98 ∷ []
 abbrev c : List ℕ
 c = 99 ∷ []
 
--- a for all files and a of source 1; c of source 7 alone
+-- a for all files and a of source 1, but c of source 7 only
 abbrev labels : List ℕ
 labels = record_bytes 34 (le32_bytes 8 ++ a) ++ record_bytes 41 (le32_bytes 4 ++ le32_bytes 1 ++ a) ++ record_bytes 41 (le32_bytes 0 ++ le32_bytes 7 ++ c)
 
--- a pending of a form, with a name of a source
+-- a pending with this form byte, and with a name that this source uses
 abbrev waits : (form source : ℕ) → List ℕ → List ℕ
 waits form source name = record_bytes 36 (le16_bytes 0 ++ le32_bytes 0 ++ le64_bytes 0 ++ (4 ∷ form ∷ []) ++ le64_bytes 0 ++ le32_bytes source ++ le32_bytes 0 ++ name)
 
--- number 0 is a constant
+-- Pending number 0 is a constant.
 abbrev pending : List ℕ
 pending = waits 0 0 [] ++ waits 1 1 a ++ waits 1 3 a ++ waits 1 2 b ++ waits 1 2 a ++ waits 1 256 b ++ waits 1 3 c ++ waits 1 7 c ++ waits 1 1 ab
 
 abbrev row : (known count : ℕ) → (numbers : List ℕ) → (owner : ℕ) → List ℕ → List ℕ
 row known count numbers owner name = record_bytes 39 ((known ∷ []) ++ le16_bytes count ++ numbers ++ le32_bytes owner ++ name)
 
--- two owners of a are two groups, two sources of the a for all one; a goes before ab, source 2 before 256, and c known before c unknown
+-- Two owners of a give two groups. Two sources that use the a for all give one. a is before ab, source 2 before 256, c known before c unknown.
 computed : index_of labels pending
     ≡ row 1 1 (le16_bytes 1) 1 a ++ row 1 2 (le16_bytes 2 ++ le16_bytes 4) 0xFFFFFFFF a ++ row 0 1 (le16_bytes 8) 1 ab ++ row 0 1 (le16_bytes 3) 2 b ++ row 0 1 (le16_bytes 5) 256 b
     ++ row 1 1 (le16_bytes 7) 7 c ++ row 0 1 (le16_bytes 6) 3 c

@@ -10,7 +10,7 @@ use Rattle.names.specs.Owners.{has_owner, for_all, owner_of, before_name, owned_
 use Rattle.names.proofs.OwnersLaws.{without_owner, before_least}
 use Rattle.labels.specs.Labels.{label_kind, label_body, label_ok, label_layout, label_repeat, or_else, labelled, address_of, resolve}
 
--- what a label's test says, in facts
+-- what a label's test says, fact by fact
 pub record LabelIs (s : List ℕ) (at : ℕ) : Type 0 where
   pub whole_at : whole s at ≡ true
   pub head : at + 4 ≤ length s
@@ -30,7 +30,7 @@ label_is s at e =
     let l = leb-true (f + 1) n ((and-eq-true_iff (label_kind s at) (leb (f + 1) n)).0 m.0).1 in
     record { whole_at = w.0; head = r.0; body = r.1; least = omega (arith, before_least 4 s at); named = has_name_lem f s at w.0 (omega arith) }
 
--- a record that is not of kind 34 is a label's where its owner is below that of all: one that is not of kind 41 has the owner of all
+-- A record that is not of kind 34 has a label's kind exactly if its owner is below the number for all. Without kind 41 it has that number.
 pub kind_is : (s : List ℕ) (at : ℕ) → eqb (kind_at s at) 34 ≡ false → ltb (owner_of 4 s at) for_all ≡ label_kind s at
 kind_is s at e = go (has_owner s at) refl
   where
@@ -68,7 +68,7 @@ pub labels_within : (s : List ℕ) → label_layout s ≡ None → length s ≤ 
 unfolding label_layout
 labels_within s g = (limit_good s (first_bad (label_ok s) (places s)) g).0
 
--- the place of a label that breaks the layout, and of one that repeats another's name
+-- The place of a label that breaks the layout, or that repeats another's name.
 pub label_place_lem : (s : List ℕ) (p : ℕ) → label_layout s ≡ Some p → p ≤ limit
 unfolding label_layout
 label_place_lem s p e = first_limit (label_ok s) s p e

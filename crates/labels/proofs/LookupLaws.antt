@@ -18,7 +18,7 @@ use Rattle.labels.specs.Labels.{label_ok, label_layout, or_else, labelled}
 use Rattle.labels.proofs.LabelsLaws.{label_is, labels_good, labels_named, labels_within}
 use Rattle.labels.specs.Lookup.{most_labels, Indexed, or_looked, or_searched, looked_for_all, looked_up}
 
--- lists that have each number as often are of one length
+-- Lists that have each number equally often have the same length.
 same_length : (a b : List ℕ) → ((v : ℕ) → count v a ≡ count v b) → length a ≡ length b
 unfolding count
 same_length [] [] e = refl
@@ -33,17 +33,17 @@ same_length (x ∷ a) b e =
     omega (arith, e v, count_split v i b, count_append v (take i b) (drop (suc i) b), h)) in
     omega (arith, rest, at.1, length-append (take i b) (drop (suc i) b), length-take {A = ℕ}, length-drop {A = ℕ})
 
--- each label has nine bytes at least
+-- Each label has at least nine bytes.
 pub label_count : (s : List ℕ) → label_layout s ≡ None → length (places s) ≤ most_labels
 label_count s g =
     let n = count_at_least 9 s (label_ok s) (λ p e. let l = label_is s p e in (l.whole_at, omega (arith, l.least))) (labels_good s g) in
     omega (arith, labels_within s g)
 
--- an index of them has no more places
+-- An index of them has no more places than that.
 pub index_few : (s index : List ℕ) → label_layout s ≡ None → IndexOf 4 s index → length index ≤ most_labels
 index_few s index g ix = omega (arith, label_count s g, same_length index (places s) ix.counts)
 
--- what is known of a table's fields is known of the table
+-- What is known of a table's list and order is known of the table.
 pub indexed_as : (a b : Ordered) → a ≡ b → Indexed a.list a.order → Indexed b.list b.order
 indexed_as a b e i = subst (λ (x : Ordered). Indexed x.list x.order) e i
 
@@ -55,7 +55,7 @@ or_named own other = go own.named refl
     go (Some p) e = rw (e, or_looked) e
     go None e = rw (e, or_looked)
 
--- the first finds one, or the second is made
+-- Either the first lookup finds a label, or the second is made.
 or_own : (own other : Looked) (p : ℕ) → own.named ≡ Some p → or_looked own other ≡ own
 or_own own other p e = rw (e, or_looked) (ap (λ (n : Option ℕ). record { named = n; compared = own.compared; end = own.end }) e)
 
@@ -100,11 +100,11 @@ module _ (s index : List ℕ) (ix : Indexed s index) where
   pub few_found : (owner : ℕ) (name : List ℕ) (found : Looked) → found ≡ lookup 4 s index owner name → found.compared ≤ 13
   few_found owner name found e = rw (e ∙ lookup_first 4 s index owner name) (few owner name 0)
 
-  -- what a search in the index asks
+  -- what a search in the index requires
   pub asked : (first_bad (has_owned_name 4 s) (places s) ≡ None) × (IndexOf 4 s index × (length index < 65536))
   asked = (labels_named s ix.layout, (ix.ordered, omega (arith, ix.few)))
 
-  -- what is found for all is what the scan finds, with at most 14 comparisons more
+  -- The lookup for all files finds what the scan finds, with at most 14 more comparisons.
   for_all_is : (end : ℕ) (name : List ℕ) (c : ℕ) → ((looked_for_all s index end name c).named ≡ first_owned 4 s for_all name) × ((looked_for_all s index end name c).compared ≤ c + 14)
   for_all_is end name c = go (ltb end (length index)) refl (told 4 s for_all name (get_or index end 0) c).same refl
     where

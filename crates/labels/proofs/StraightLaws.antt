@@ -14,7 +14,7 @@ use Rattle.names.proofs.StraightLaws.{straight_all, straight_owner, straight_rep
 use Rattle.labels.specs.Labels.{label_ok, label_layout, or_else, labelled, address_of, resolve, table_of}
 use Rattle.labels.specs.Straight.{straight_ok, straight_layout, straight_address, straight_table}
 
--- tests that agree at each place fail first at one place
+-- If tests agree at each place, they first fail at the same place.
 layout_agree : (ok f g : ℕ → Bool) → ((p : ℕ) → ok p ≡ true → f p ≡ g p) → (ps : List ℕ) → first_bad ok ps ≡ None → first_bad f ps ≡ first_bad g ps
 unfolding first_bad
 layout_agree ok f g h [] k = refl
@@ -50,13 +50,13 @@ module _ (s : List ℕ) (w : WithoutOwners s) where
       all_files : first_owned 4 s for_all name ≡ first_named 4 s name
       all_files = straight_all 4 s w name
 
-      -- the source's, where it has any, are those for all
+      -- If the source has labels of its own, they are those for all files.
       go : (b : Bool) → eqb for_all source ≡ b → labelled s source name ≡ first_named 4 s name
       go true e =
           ap₂ or_else (ap (λ (o : ℕ). first_owned 4 s o name) (sym (eqb-true for_all source e)) ∙ all_files) all_files ∙ twice (first_named 4 s name)
       go false e = ap₂ or_else (straight_owner 4 s w source name (eqb-false for_all source e)) all_files
 
-  -- the source is no part of the answer
+  -- The answer does not depend on the source.
   straight_address_lem : (source : ℕ) (name : List ℕ) → resolve s source name ≡ straight_address s name
   unfolding resolve straight_address
   straight_address_lem source name = ap (address_of s) (straight_label source name)

@@ -1,4 +1,4 @@
--- What a token's test says, in facts, and what a list of tokens that keeps its layout holds. Assumes nothing.
+-- What a token's test says, fact by fact, and what holds of a list of tokens that keeps its layout. Assumes nothing.
 use Rattle.std.specs.Prelude.{ℕ, ◌+◌, ◌≤◌, ◌<◌, min, List, Bool, true, false, ◌&&◌, ◌≡◌, refl, length, get_or, leb, eqb, None, Some}
 use Rattle.std.proofs.Common.{arith, sym, ap, ◌∙◌, lit≤}
 use Rattle.std.proofs.Math.Bool.{and-eq-true_iff}
@@ -11,7 +11,7 @@ use Rattle.lexer.specs.declared.Payload.{Payload}
 use Rattle.lexer.specs.declared.Payload.TheVariants.{Slot, Number, Unknown}
 use Rattle.lexer.specs.Tokens.{TokenIs, payload_len, payloads, payload_of, payload_ok, token_ok, token_layout}
 
--- a number that no byte holds is past a list of kinds, as 255 is
+-- A number that does not fit a byte is past a list of kinds, as 255 is.
 pub of_byte : {A : Type 0} (l : List A) (d : A) (kind : ℕ) → length l ≤ 255 → get_or l (min kind 255) d ≡ get_or l kind d
 of_byte l d kind h = go (leb kind 255) refl
   where
@@ -29,7 +29,7 @@ pub payload_of_byte : (kind : ℕ) → payload_of (min kind 255) ≡ payload_of 
 unfolding payload_of
 payload_of_byte kind = of_byte payloads Unknown kind (lit≤ tt)
 
--- the payload of two kinds that stand side by side
+-- the payload of two neighbouring kinds
 one_of : (first kind : ℕ) (p : Payload) → first ≤ kind → kind ≤ first + 1 → payload_of first ≡ p → payload_of (first + 1) ≡ p → payload_of kind ≡ p
 one_of first kind p h i e f = go (leb kind first) refl
   where
@@ -54,7 +54,7 @@ module _ (s : List ℕ) (at : ℕ) where
   unfolding payload_ok
   number_len e = eqb-true (payload_len s at) 8 e
 
-  -- the payload's test, of the sort that the kind has
+  -- The payload's test, once the sort of payload is known.
   ok_as : (p : Payload) → payload_of (kind_at s at) ≡ p → payload_ok (payload_of (kind_at s at)) s at ≡ true → payload_ok p s at ≡ true
   ok_as p e h = sym (ap (λ (q : Payload). payload_ok q s at) e) ∙ h
 
@@ -80,7 +80,7 @@ pub token_place : (s : List ℕ) (p : ℕ) → token_layout s ≡ Some p → p �
 unfolding token_layout
 token_place s p e = first_limit (token_ok s) s p e
 
--- the layout within the limit is that of the records, and past the limit it is broken there
+-- Within the limit, the layout is that of the records. A longer list breaks the layout at the limit.
 pub token_kept : (s : List ℕ) → length s ≤ limit → token_layout s ≡ layout_from (token_ok s) s 0
 unfolding token_layout
 token_kept s h = limit_kept s (first_bad (token_ok s) (places s)) h ∙ ap (first_bad (token_ok s)) (places_all s)

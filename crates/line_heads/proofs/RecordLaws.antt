@@ -1,4 +1,4 @@
--- What is read in a token's record by itself is what is read at its place of the list. Assumes nothing.
+-- A token's record reads the same by itself as at its place in the list. Assumes nothing.
 use Rattle.std.specs.Prelude.{ℕ, ◌+◌, ◌-◌, ◌*◌, ◌≤◌, ◌<◌, List, [], ◌∷◌, map, ◌≡◌, refl, length, take, drop}
 use Rattle.std.proofs.Common.{arith, sym, ap, ap₂, ◌∙◌, length-drop, length-take-le, get_or-take, get_or-drop, drop-drop, take-add, take-take, drop_at}
 use Rattle.record.specs.Bytes.{byte_at, le16, le32, location_at}

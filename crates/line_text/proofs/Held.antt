@@ -1,5 +1,5 @@
--- Of a buffer that an emit call may change one byte more than the limit is as good as the whole: the checks of its lists find the same, and
--- a longer one is refused. Assumes nothing.
+-- Of a buffer that an emit call may change, one byte more than the limit is enough: the checks of its lists find the same as in the whole buffer,
+-- and a longer one is refused. Assumes nothing.
 use Rattle.std.specs.Prelude.{ℕ, ◌<◌, List, Bool, true, false, ◌≡◌, refl, leb, length, None, Option, Some}
 use Rattle.std.proofs.Common.{arith, sym, ap, ◌∙◌, length-take, take_all, leb-true, leb-false}
 use Rattle.std.proofs.lemmas.Bool.{lt-leb}
@@ -10,7 +10,7 @@ use Rattle.emit_outcome.specs.Call.{lent_of}
 use Rattle.emit_outcome.specs.Checks.{layout_stop, list_stop}
 use Rattle.input.specs.Input.{held}
 
--- a check that finds the same of all buffers over the limit finds the same of what is held
+-- If a check finds the same in all buffers over the limit, it finds the same in what is held.
 as_held : (check : List ℕ → Option ℕ) → ((s : List ℕ) → limit < length s → check s ≡ Some limit) → (s : List ℕ) → check (held s) ≡ check s
 as_held check blind s = go (leb (length s) 65537) refl
   where

@@ -56,7 +56,7 @@ outcome_length o =
     let two = one ++ bytes_line (bytes_of "pending ") o.lent.pending in
     omega (arith, length-append two (bytes_line (bytes_of "breakpoints ") o.lent.breakpoints), length-append one (bytes_line (bytes_of "pending ") o.lent.pending), length-append (head_text o.answer o.counts) (bytes_line (bytes_of "data ") o.lent.region_data))
 
--- with buffers that are as long as they are held
+-- How long the text is at most, if each buffer has at most 65,537 bytes.
 pub outcome_most : (o : EmitOutcome) → length o.lent.region_data ≤ 65537 → length o.lent.pending ≤ 65537 → length o.lent.breakpoints ≤ 65537
     → length (outcome_text o) ≤ 400000
 outcome_most o d p b =

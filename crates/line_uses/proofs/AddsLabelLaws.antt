@@ -1,4 +1,4 @@
--- The index with the use of a label, of which owners and sources have four bytes: what `add_label` gives a line. Assumes nothing.
+-- The index with the use of a label, where owners and sources have four bytes. This is what `add_label` gives a line. Assumes nothing.
 use Rattle.std.specs.Prelude.{ℕ, List, ◌≡◌, length}
 use Rattle.record.specs.Stores.{append}
 use Rattle.address_label.specs.declared.AddressLabel.{AddressLabel}

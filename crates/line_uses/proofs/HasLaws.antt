@@ -1,4 +1,4 @@
--- Laws of the keys that uses and words have, and of how much longer an index is with one use more. Assumes nothing.
+-- Which keys uses and words have, and how much longer an index gets with one more use. Assumes nothing.
 use Rattle.std.specs.Prelude.{ℕ, ◌+◌, ◌<◌, Bool, true, false, ◌||◌, ◌≡◌, length, drop, get_or, None, Option, Some}
 use Rattle.std.specs.List.{list_any}
 use Rattle.std.proofs.Common.{arith, add-one, ap₂, ◌∙◌, subst, length-append, drop-cons}
@@ -45,7 +45,7 @@ has_cons : (key : UseKey) (u : Use) (us : List Use) → has_key key (u ∷ us) �
 unfolding has_key
 has_cons key u us = refl
 
--- a key before all of them is none of them
+-- A key before all of them is not among them.
 below_has : (key : UseKey) (us : List Use) → Below key us → has_key key us ≡ false
 below_has key [] b = has_none key
 below_has key (u ∷ us) b =
@@ -151,7 +151,7 @@ module _ (labels names : List ℕ) where
   pair_grows None n us r = omega arith
   pair_grows (Some w) n us r = label_grows w.label n us r
 
-  -- the growth, by keys that are held alike
+  -- If the same keys are held, the growth is the same.
   label_alike : (f g : UseKey → Bool) → ((key : UseKey) → f key ≡ g key) → (x : AddressLabel) → label_growth labels names f x ≡ label_growth labels names g x
   label_alike f g h (Constant value) = refl
   label_alike f g h (Label l) =

@@ -1,4 +1,4 @@
--- Whether a label has a key, by its name and then by what that stands for; and how much longer an index is with it. Assumes nothing.
+-- Does a label have a key? Its name decides, and then what the name stands for. And how much longer does it make an index? Assumes nothing.
 use Rattle.std.specs.Prelude.{ℕ, ◌+◌, ◌≤◌, List, Bool, true, false, ◌||◌, ◌≡◌, refl, length, drop, Result, Ok, Err}
 use Rattle.std.specs.Result.{is_ok}
 use Rattle.std.proofs.Common.{arith, sym, ap, ap₂, ◌∙◌, length-take, length-drop}
@@ -49,7 +49,7 @@ pub found_in : (s : List ℕ) (k : UseKey) (r : Result ℕ ℕ) → FindsIn s k 
 found_in s k (Ok at) f = f
 found_in s k (Err at) f = f
 
--- ---- a label that is a name, of which `other` are the bytes
+-- ---- a label that is a name; `other` is the name's bytes
 module _ (labels names : List ℕ) (x : AddressLabel) (l : NamedLabel) (e : x ≡ Label l) (other : List ℕ) (m : other ≡ name_bytes names x) where
   abbrev key : UseKey
   key = key_for labels l.location.source other
@@ -60,13 +60,13 @@ module _ (labels names : List ℕ) (x : AddressLabel) (l : NamedLabel) (e : x �
   has_key_lem : (k : UseKey) → label_has labels names k x ≡ same_key k key
   has_key_lem k = ap (label_has labels names k) e ∙ ap (λ (n : List ℕ). same_key k (key_for labels l.location.source n)) bytes_are
 
-  -- by the names, and where these are equal by what they stand for
+  -- The names decide. If they are equal, what they stand for decides.
   module _ (k : UseKey) where
     by_name : (o : Ordering) → order k.name other ≡ o → use_order k key ≡ then_by o (standing_order k.standing key.standing)
     by_name o f =
         ap (λ (p : Ordering). then_by p (standing_order k.standing key.standing)) (ap (order k.name) (key_name labels l.location.source other) ∙ f)
 
-    -- where the names differ, what the label stands for is not looked up
+    -- If the names differ, what the label stands for is not looked up.
     pub has_less : order k.name other ≡ Less → false ≡ label_has labels names k x
     has_less f = sym (has_key_lem k ∙ ap is_same (by_name Less f))
 
@@ -78,7 +78,7 @@ module _ (labels names : List ℕ) (x : AddressLabel) (l : NamedLabel) (e : x �
     has_unlike Equal f u = absurd cc
     has_unlike Greater f u = has_more f
 
-    -- where they are equal, what the label stands for decides
+    -- If they are equal, what the label stands for decides.
     pub has_same : order k.name other ≡ Equal → (met : Standing) → key_with other met ≡ key → (o : Ordering) → standing_order k.standing met ≡ o → is_same o ≡ label_has labels names k x
     has_same f met t o g =
         sym (has_key_lem k ∙ ap is_same (by_name Equal f ∙ sym (ap (λ (q : UseKey). standing_order k.standing q.standing) t) ∙ g))
@@ -88,7 +88,7 @@ module _ (labels names : List ℕ) (x : AddressLabel) (l : NamedLabel) (e : x �
         ap (λ (n : List ℕ). is_eq (use_order k (key_for labels l.location.source n))) (same_is k.name other f)
         ∙ same_eq (use_order k key) ∙ sym (has_key_lem k)
 
-  -- ---- how much longer an index is with it
+  -- ---- how much longer the label makes an index
   module _ (k : UseKey) (t : k ≡ key) (d : List ℕ) (fill : ℕ) (before : List InstructionPair) where
     grows_by : (us : List Use) (held : Bool) → held_by labels names us before k ≡ held → growth_of held other ≡ label_growth labels names (held_by labels names us before) x
     grows_by us held h =

@@ -1,4 +1,4 @@
--- Laws of a line's uses, word by word: how long an index is with them, and the index with them. Assumes nothing.
+-- Laws of a line's uses, word by word: the index with them, and how long it is. Assumes nothing.
 use Prim.Native.Nat.{ℕ, zero, suc, ◌+◌, ◌≤◌, ◌<◌}
 use Rattle.std.proofs.Common.{not-suc-le-zero, add-one, sym, ap₂, ◌∙◌, subst}
 use native.Mathlib.Omega.{arith}
@@ -47,7 +47,7 @@ module _ (labels names : List ℕ) where
     pub number_next : (n : ℕ) (ps : List InstructionPair) (i : ℕ) → i < length ps → (get_or ps i d).label ≡ w → number_after n (take (i + 1) ps) ≡ next_number w (number_after n (take i ps))
     number_next n ps i h g = rw add-one (number_suc n ps i h g)
 
-    -- so much longer is the index
+    -- The index gets longer by this much.
     pub size_next : (n : ℕ) (ps : List InstructionPair) (i : ℕ) (us : List Use) → Rises us → i < length ps → (get_or ps i d).label ≡ w
         → length (uses_bytes (line_uses labels names n (take (i + 1) ps) us)) ≡ length (uses_bytes (line_uses labels names n (take i ps) us)) + pair_growth labels names (held_by labels names us (take i ps)) w
     size_next n ps i us r h g =
@@ -105,7 +105,7 @@ module _ (labels names : List ℕ) where
     vs = line_uses labels names first (take i ps) us
 
     module _ (p : InstructionPair) (w : Option InstructionLabel) (h : i < length ps) (g : (get_or ps i p).label ≡ w) where
-      -- room for all is room for the next
+      -- If there is room for all words, there is room for the next.
       pub line_room : (k : ℕ) → i + 1 ≤ k → length (uses_bytes (line_uses labels names first (take k ps) us)) ≤ length d → RoomForPair labels names d filled w n
       line_room k m r = record {
         us = vs;

@@ -1,4 +1,4 @@
--- A signed number's low 32 bits by its sign, and words put one behind the other. Assumes nothing.
+-- The low 32 bits of a signed number, by its sign, and words put one behind the other. Assumes nothing.
 use Rattle.std.specs.Prelude.{ℕ, zero, suc, ◌+◌, ◌-◌, ◌*◌, ◌%◌, ◌^◌, ◌≤◌, ◌<◌, ◌≡◌, refl, List, [], ◌∷◌, ◌++◌, map, true, false, ◌&&◌, leb, ℤ, pos, negsuc, length, take, get_or}
 use Rattle.std.proofs.Common.{not-suc-le-zero, arith, ap, ◌∙◌, le-leb}
 use Rattle.std.proofs.lemmas.Bool.{lt-leb}
@@ -25,14 +25,14 @@ unfolding low_word is_negative size
 low_positive (pos n) h = refl
 low_positive (negsuc n) h = let z : ◌≡◌ {A = ℕ} 0 1 = cc in absurd (omega arith)
 
--- they are what is left over 2 ^ 32, as Rust's `rem_euclid` says it
+-- A low word is the remainder by 2 ^ 32, as Rust's `rem_euclid` gives it.
 pub low_left : (z : ℤ) → unsigned_abs (int_rem_euclid z (pos (2 ^ 32))) ≡ low_word z
 unfolding low_word
 low_left (pos n) = refl
 low_left (negsuc n) = refl
 
 -- ---- buffers that are too short
--- a call needs room for its answer, and as much as it asks of one other buffer
+-- A call needs room for its answer, and enough room in one other buffer.
 pub no_room : (n : ℕ) (counts answer : List ℕ) → (length answer < answer_bytes) ⊎ ((answer_bytes ≤ length answer) × (length counts < n)) → (leb answer_bytes (length answer) && leb n (length counts)) ≡ false
 no_room n counts answer (inl h) = rw (lt-leb answer_bytes (length answer) h) refl
 no_room n counts answer (inr h) = rw (le-leb answer_bytes (length answer) h.0, lt-leb n (length counts) h.1) refl

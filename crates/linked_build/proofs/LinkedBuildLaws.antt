@@ -1,4 +1,4 @@
--- Laws of the linked call for a build: too short an answer, and an answered call. Assumes nothing.
+-- Laws of the linked call for a build: an answer buffer that is too short, and an answered call. Assumes nothing.
 use Rattle.std.specs.Prelude.{ℕ, ◌≤◌, ◌<◌, ◌≡◌, List, length, refl, Err, Ok, Result}
 use Rattle.std.proofs.Common.{le-leb}
 use Rattle.std.proofs.lemmas.Bool.{lt-leb}
@@ -10,7 +10,7 @@ use Rattle.build_outcome.specs.Build.{build_outcome}
 use Rattle.linked_build.specs.LinkedBuild.{built_words, linked_build_by}
 use Rattle.refusal.specs.declared.Refusal.{Refusal}
 
--- the words are those of an answer that gives one number
+-- The answer gives one number, and these are its words.
 pub words_are : (answer : Result ℕ Refusal) → answered_words answer ≡ built_words answer
 words_are (Ok last) = refl
 words_are (Err r) = refl

@@ -1,5 +1,5 @@
--- The registers' bytes and the pc of the answer that a call leaves are the state in which its run stopped, or which was given to a call that is
--- refused: a next call is the dry run from there. Assumes nothing.
+-- The registers' bytes and the pc that a call leaves are the state in which its run stopped. If the call is refused, they are the state that was given.
+-- So a next call is the dry run from there. Assumes nothing.
 use Rattle.std.specs.Prelude.{ℕ, zero, suc, ◌+◌, ◌*◌, ◌^◌, ◌≤◌, ◌<◌, Bool, true, false, ◌≡◌, refl, leb, get_or, drop, replicate, Err, Ok}
 use Rattle.std.proofs.Common.{add-zero, arith, sym, ap₂, subst, ◌∙◌, length-append, leb-true, leb-false}
 use mathlib.Core.List.{List, [], ◌∷◌, ◌++◌, map, append_assoc}
@@ -79,7 +79,7 @@ unfolding append word_bytes
 last_read (Ok s) pc buffer h = digits32 pc h
 last_read (Err r) pc buffer h = digits32 pc h
 
--- as many bytes of registers as before
+-- There are as many bytes of registers as before.
 registers_left : (answer : RunAnswer) (m : Machine) (registers : List ℕ) → length m.registers ≡ 32 → register_bytes ≤ length registers → register_bytes ≤ length (registers_after answer m registers)
 unfolding append
 registers_left (Ok s) m registers l h =

@@ -1,4 +1,4 @@
--- Laws of the linked calls that keep an index: what is not answerable, and an answered call. Assumes nothing.
+-- Laws of the linked calls that keep an index: a call that cannot be answered, and an answered call. Assumes nothing.
 use Rattle.std.specs.Prelude.{ℕ, zero, suc, ◌≤◌, ◌<◌, ◌≡◌, List, false, length, refl, Err, Ok, Result, None, Some}
 use Rattle.std.proofs.Common.{sym, ap, ap₂, ◌∙◌, arith}
 use borrow.Author.Tests.{le-leb, lt-leb}
@@ -19,14 +19,14 @@ use Rattle.linked_index.specs.LinkedIndex.{indexed_counts_bytes, indexed_counts_
 use Rattle.refusal.specs.declared.Refusal.{Refusal}
 
 -- ---- the job of a number
--- one that is found is the number's, which is at most the last
+-- If a number has a job, it is this one, and the number is at most the last.
 pub job_found : (n : ℕ) (j : Job) → numbered_job n ≡ Some j → (n ≤ last_job) × (j ≡ job_numbered n)
 job_found zero j e = (omega arith, let h : j ≡ Commit = cc in h)
 job_found (suc zero) j e = (omega arith, let h : j ≡ Manual = cc in h)
 job_found (suc (suc zero)) j e = (omega arith, let h : j ≡ Release6 = cc in h)
 job_found (suc (suc (suc n))) j e = cc
 
--- a number that has none is past the last
+-- A number without a job is past the last.
 pub no_job : (n : ℕ) → numbered_job n ≡ None → last_job < n
 no_job zero e = cc
 no_job (suc zero) e = cc
@@ -34,7 +34,7 @@ no_job (suc (suc zero)) e = cc
 no_job (suc (suc (suc n))) e = omega arith
 
 -- ---- a line
--- where a buffer is too short, whichever job is asked for
+-- A buffer is too short, whichever job is asked for.
 pub no_counts : (counts : List ℕ) (job : ℕ) (answer : List ℕ) → (length answer < answer_bytes) ⊎ ((answer_bytes ≤ length answer) × (length counts < indexed_counts_bytes)) → answerable counts job answer ≡ false
 no_counts counts job answer (inl h) = rw (lt-leb answer_bytes (length answer) h) refl
 no_counts counts job answer (inr h) = rw (le-leb answer_bytes (length answer) h.0, lt-leb indexed_counts_bytes (length counts) h.1) refl
@@ -62,7 +62,7 @@ module _ (token_list mnemonic descriptors : List ℕ) (lent : Lent) (labels inde
       answered h k l ∙ ap (λ (y : IndexedOutcome). indexed_answered y counts answer) (ap₂ outcome (sym e) (sym f) ∙ o) ∙ rw (a, n, w)
 
 -- ---- an index made afresh
--- the words are those of an answer that gives one number
+-- The answer gives one number, and these are its words.
 pub words_are : (answer : Result ℕ Refusal) → answered_words answer ≡ made_words answer
 words_are (Ok last) = refl
 words_are (Err r) = refl

@@ -1,4 +1,4 @@
--- Laws of the linked call for a lookup: too short an answer, and an answered call. Assumes nothing.
+-- Laws of the linked call for a lookup: an answer buffer that is too short, and an answered call. Assumes nothing.
 use Rattle.std.specs.Prelude.{ℕ, ◌≤◌, ◌<◌, ◌≡◌, List, length, Result}
 use Rattle.std.proofs.Common.{le-leb}
 use Rattle.std.proofs.lemmas.Bool.{lt-leb}

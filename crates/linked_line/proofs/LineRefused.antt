@@ -1,4 +1,4 @@
--- A refused line leaves every lent byte but the answer's. Assumes nothing.
+-- A refused line changes no lent byte except the answer's. Assumes nothing.
 use Rattle.std.specs.Prelude.{ℕ, ◌≤◌, ◌≡◌, List, length}
 use Rattle.std.proofs.Common.{le-leb}
 use Rattle.jobs.specs.declared.Job.{Job}

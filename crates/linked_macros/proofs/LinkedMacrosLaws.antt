@@ -1,4 +1,4 @@
--- Laws of the linked call for macros: too short an answer, and an answered call. Assumes nothing.
+-- Laws of the linked call for macros: an answer buffer that is too short, and an answered call. Assumes nothing.
 use Rattle.std.specs.Prelude.{ℕ, ◌≤◌, ◌<◌, ◌≡◌, List, length, refl, Err, Ok, Result}
 use Rattle.std.proofs.Common.{le-leb}
 use Rattle.std.proofs.lemmas.Bool.{lt-leb}
@@ -8,7 +8,7 @@ use Rattle.written_out.specs.Outcome.{write_out_outcome}
 use Rattle.linked_macros.specs.LinkedMacros.{written_words, linked_macros}
 use Rattle.refusal.specs.declared.Refusal.{Refusal}
 
--- the words are those of an answer that gives one number
+-- The answer gives one number, and these are its words.
 pub words_are : (answer : Result ℕ Refusal) → answered_words answer ≡ written_words answer
 words_are (Ok last) = refl
 words_are (Err r) = refl

@@ -1,4 +1,4 @@
--- Laws of the linked call for a page: too short an answer, and an answered call. Assumes nothing.
+-- Laws of the linked call for a page: an answer buffer that is too short, and an answered call. Assumes nothing.
 use Rattle.std.specs.Prelude.{ℕ, ◌≤◌, ◌<◌, ◌≡◌, List, length, refl, Err, Ok, Result}
 use Rattle.std.proofs.Common.{le-leb}
 use Rattle.std.proofs.lemmas.Bool.{lt-leb}
@@ -8,7 +8,7 @@ use Rattle.page_outcome.specs.Outcome.{page_outcome}
 use Rattle.linked_page.specs.LinkedPage.{page_words, linked_page}
 use Rattle.refusal.specs.declared.Refusal.{Refusal}
 
--- the words are those of an answer that gives one number
+-- The answer gives one number, and these are its words.
 pub words_are : (answer : Result ℕ Refusal) → answered_words answer ≡ page_words answer
 words_are (Ok last) = refl
 words_are (Err r) = refl

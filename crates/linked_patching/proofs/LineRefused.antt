@@ -1,4 +1,4 @@
--- A refused line leaves the caller's record and every lent byte but the answer's. Assumes nothing.
+-- A refused line changes neither the caller's record nor any lent byte except the answer's. Assumes nothing.
 use Rattle.std.specs.Prelude.{ℕ, suc, ◌+◌, ◌*◌, ◌%◌, ◌/◌, ◌≤◌, ◌<◌, ◌≡◌, List, [], ◌∷◌, ◌++◌, length, drop}
 use Rattle.std.proofs.Common.{arith, sym, ap, ap₂, ◌∙◌, drop-cons, le-leb}
 use Rattle.std.proofs.Math.Nat.{div-eq_of_lt-le}
@@ -17,7 +17,7 @@ use Rattle.patching_outcome.specs.Line.{LineGiven, line_outcome}
 use Rattle.patching_laws.proofs.LineLaws as line
 use Rattle.linked_patching.specs.LinkedPatching.{state_bytes, state_at, state_words, linked_patch_line}
 
--- four bytes are those of the number that they make
+-- The bytes of the number that four bytes make are these four bytes.
 word_back : (a b c d : ℕ) → a < 256 → b < 256 → c < 256 → d < 256 → le32_bytes (a + 256 * b + 65536 * c + 16777216 * d) ≡ a ∷ b ∷ c ∷ d ∷ []
 word_back a b c d h₀ h₁ h₂ h₃ =
     let w = a + 256 * b + 65536 * c + 16777216 * d in
@@ -34,7 +34,7 @@ word_back a b c d h₀ h₁ h₂ h₃ =
     ap₂ (λ (x y : ℕ). x ∷ y ∷ w / 65536 % 256 ∷ w / 16777216 % 256 ∷ []) e₀ e₁ ∙ ap₂ (λ (x y : ℕ). a ∷ b ∷ x ∷ y ∷ []) e₂ e₃
 
 module _ (state : List ℕ) (bytes : Bytes state) where
-  -- a number read, and its bytes written where they stood
+  -- A number is read, and its bytes are written where they stood.
   read_back : (i j : ℕ) → i + 4 ≡ j → j ≤ length state → le32_bytes (le32 state i) ++ drop j state ≡ drop i state
   read_back i j e h =
       let n₁ : suc i ≡ i + 1 = omega arith in
@@ -48,7 +48,7 @@ module _ (state : List ℕ) (bytes : Bytes state) where
       ap (λ (l : List ℕ). l ++ drop j state) (word_back (byte_at state i) (byte_at state (i + 1)) (byte_at state (i + 2)) (byte_at state (i + 3)) (bytes i) (bytes (i + 1)) (bytes (i + 2)) (bytes (i + 3)))
       ∙ sym (d₀ ∙ ap (λ (l : List ℕ). byte_at state i ∷ l) (d₁ ∙ ap (λ (l : List ℕ). byte_at state (i + 1) ∷ l) (d₂ ∙ ap (λ (l : List ℕ). byte_at state (i + 2) ∷ l) d₃)))
 
-  -- the five numbers read, and written back
+  -- All five numbers are read and written back.
   state_back : state_bytes ≤ length state → append state 0 (words_as_bytes (state_words (state_at state))) ≡ state
   unfolding append word_bytes
   state_back h =
@@ -61,7 +61,7 @@ module _ (state : List ℕ) (bytes : Bytes state) where
       ∙ read_back 4 8 (omega arith) (omega arith))
       ∙ read_back 0 4 (omega arith) (omega arith)
 
--- the elements of a record that is lent are bytes; the call writes its five numbers again, as they were
+-- The caller's record consists of bytes. The call writes its five numbers back as they were.
 pub line_refused : (job : Job) (given : LineGiven) (regions pending breakpoints state answer : List ℕ) (r : Refusal) (p : ℕ)
     → answer_bytes ≤ length answer → state_bytes ≤ length state → Bytes state → (line_outcome job given (patching_of regions pending breakpoints [] (state_at state))).answer ≡ refused_at r p
     → linked_patch_line job given regions pending breakpoints state answer

@@ -1,4 +1,4 @@
--- An accepted call is that of its line, whose words' bytes it appends. Assumes nothing.
+-- The outcome of an accepted call is its line's, and it appends the bytes of the line's words. Assumes nothing.
 use Rattle.std.specs.Prelude.{ℕ, ◌+◌, ◌*◌, ◌≤◌, List, [], ◌∷◌, ◌++◌, length, take, Err, Ok, Some}
 use Rattle.std.proofs.Common.{arith, sym, ap, ◌∙◌, subst}
 use Rattle.std.proofs.Math.Path.{◌≡◌, refl}

@@ -1,4 +1,4 @@
--- The form that a line reports, beside the constant that it loads (document 02, P2). Assumes nothing.
+-- The form that a line reports, compared with the constant that it loads (document 02, P2). Assumes nothing.
 use Rattle.std.specs.Prelude.{ℕ, ◌≡◌, List, ◌++◌, Option, None, Some}
 use Rattle.jobs.specs.declared.Job.{Job}
 use Rattle.registers.specs.Numbers.{register_number}
@@ -13,13 +13,13 @@ use Rattle.emit_outcome.specs.Call.{Call}
 use Rattle.emit_outcome.specs.Emit.{start_of}
 use Rattle.loaded_lines.proofs.Loaded.{LoadedCall, call_loads}
 
--- words that begin with the loading words of a form, one for the first three and two for both halves, before those of the line's own instructions
+-- Words that begin with the loading words of a form: one word for the first three forms, two for both halves. The line's own instructions follow.
 pub record FormFirst (form : LoadForm) (l : LoadedConstant) (own : List Format) (ws : List ℕ) : Type 0 where
   pub rest : List ℕ
   pub words_are : ws ≡ form_words form l.constant (register_number l.register) ++ rest
   pub rest_has : InFormats rest own
 
--- where none is reported there are only those of the line's own instructions
+-- If no form is reported, there are only the line's own instructions.
 abbrev pub Formed : LoadForm → Option LoadedConstant → List Format → List ℕ → Type 0
 Formed form None own ws = InFormats ws own
 Formed form (Some l) own ws = FormFirst form l own ws

@@ -1,4 +1,4 @@
--- The form of each line is that of the constant which its operands say that it loads. Assumes nothing.
+-- The form of each line is the form of the constant that its operands load. Assumes nothing.
 use Rattle.std.specs.Prelude.{ℕ, ◌≡◌, refl, List, ◌++◌, None, Ok, Some, Option}
 use Rattle.std.proofs.Common.{arith, sym, ap, ◌∙◌}
 use Rattle.jobs.specs.declared.Job.{Job}

@@ -1,5 +1,5 @@
--- Every accepted call reports the form of the constant that its line loads, and its words begin with exactly the loading words of that form; one that
--- reports none loads none (document 02, P2). Assumes nothing.
+-- Every accepted call reports the form of the constant that its line loads, and its words begin with exactly the loading words of that form. A call that
+-- reports no form loads no constant (document 02, P2). Assumes nothing.
 use Rattle.std.specs.Prelude.{ℕ, ◌≡◌}
 use Rattle.std.proofs.Common.{sym, ap, ◌∙◌}
 use Rattle.jobs.specs.declared.Job.{Job}

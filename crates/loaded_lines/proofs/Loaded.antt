@@ -1,4 +1,4 @@
--- What it is that a line loads its constant, and that a call appends its line's words. Assumes nothing.
+-- What it means that a line loads its constant, and that a call appends its line's words. Assumes nothing.
 use Rattle.std.specs.Prelude.{ℕ, ◌+◌, ◌*◌, ◌≡◌, List, [], ◌∷◌, ◌++◌, length, Option, None, Some}
 use Rattle.jobs.specs.declared.Job.{Job}
 use Rattle.record.specs.Stores.{le32_bytes}
@@ -25,15 +25,14 @@ use Rattle.emit_outcome.specs.Emit.{start_of, emit_outcome}
 
 -- ---- a line
 
--- Words that begin with those that load the constant into its register, whatever the registers held; behind them stand those of the line's own
--- instructions.
+-- Words that begin by loading the constant into its register, whatever the registers held. The line's own instructions follow.
 pub record LoadsFirst (l : LoadedConstant) (own : List Format) (ws : List ℕ) : Type 0 where
   pub rest : List ℕ
   pub words_are : ws ≡ load_words l.constant (register_number l.register) ++ rest
   pub does : (g : Registers) → length g ≡ 32 → Loads l.constant (register_number l.register) g
   pub rest_has : InFormats rest own
 
--- where no constant is loaded there are only those of the line's own instructions
+-- If no constant is loaded, there are only the line's own instructions.
 abbrev pub LoadedFirst : Option LoadedConstant → List Format → List ℕ → Type 0
 LoadedFirst None own ws = InFormats ws own
 LoadedFirst (Some l) own ws = LoadsFirst l own ws
@@ -59,7 +58,7 @@ unfoldable pub bytes_of : List ℕ → List ℕ
 bytes_of [] = []
 bytes_of (w ∷ ws) = le32_bytes w ++ bytes_of ws
 
--- the words' bytes, in order, behind what was filled at entry, and the count with them
+-- The words' bytes are appended, in order, behind what was filled at entry. The count grows with them.
 pub record Appended (c : Call) (o : EmitOutcome) (ws : List ℕ) : Type 0 where
   pub count_is : o.counts.data_len ≡ c.numbers.counts.data_len + 4 * length ws
   pub data_is : filled_data o.lent o.counts ≡ filled_data c.lent c.numbers.counts ++ bytes_of ws
@@ -83,7 +82,7 @@ meant_loads c (Some o) = read_loads o (read_operands (wants_of o) (tokens c.toke
 abbrev pub call_loads : Call → Option LoadedConstant
 call_loads c = meant_loads c (operation_of c)
 
--- the words that load it are the first that are appended
+-- The words that load the constant are the first ones appended.
 pub record ConstantAppended (job : Job) (c : Call) (l : LoadedConstant) : Type 0 where
   pub rest : List ℕ
   pub data_is : filled_data (emit_outcome job c).lent (emit_outcome job c).counts

@@ -1,4 +1,4 @@
--- What `load_immediate` promises, by the form that it reports. Assumes nothing.
+-- What `load_immediate` promises, for each form that it reports. Assumes nothing.
 use Rattle.std.specs.Prelude.{◌≡◌, refl, List, ℕ, ◌<◌, length, take}
 use Rattle.std.proofs.Common.{sym, ap, ap₂, ◌∙◌}
 use Rattle.loading.specs.declared.LoadForm.{LoadForm}

@@ -1,4 +1,4 @@
--- Words that load a constant do so: the second half of demand 3. Assumes nothing.
+-- The words for a constant do load it: the second half of demand 3. Assumes nothing.
 use Rattle.std.specs.Prelude.{◌≡◌, refl, [], ◌∷◌, Bool, ℕ, ◌+◌, ◌-◌, ◌*◌, ◌%◌, ◌^◌, ◌<◌, ◌≤◌, eqb, length, get_or, set}
 use Rattle.std.proofs.Common.{sym, ◌∙◌, arith, length-set, set-set, get_or-set_same, get_or-set_other}
 use Rattle.std.proofs.Math.Path.{ap}
@@ -52,7 +52,7 @@ length_write g t v = go (eqb t 0) refl
     go true e = ap length (write_lost g t v e)
     go false e = ap length (write_is g t v e) ∙ length-set g t v
 
--- the later of two writes to one register is what stands
+-- Of two writes to one register, the later one stands.
 write_again : (g : Registers) (t a b : ℕ) → write_register (write_register g t a) t b ≡ write_register g t b
 write_again g t a b = go (eqb t 0) refl
   where

@@ -16,6 +16,6 @@ checked set z v h = go (is_signed32 z) h
 pub wraps_back : (r a b : ℕ) → r < 2 ^ 32 → b < 2 ^ 32 → (r + b) % 2 ^ 32 ≡ a → r ≡ (a + 2 ^ 32 - b) % 2 ^ 32
 wraps_back r a b hr hb e = omega arith
 
--- four times a number, and four times its low 30 bits
+-- Modulo 2^32, four times a number needs only its low 30 bits.
 pub four_times : (p m : ℕ) → (p + m % 2 ^ 30 * 4) % 2 ^ 32 ≡ (p + 4 * m) % 2 ^ 32
 four_times p m = omega arith

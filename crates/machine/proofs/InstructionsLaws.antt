@@ -4,7 +4,7 @@ use Rattle.std.proofs.Common.{sym, ◌∙◌, ne_eqb}
 use Rattle.field.specs.Field.{get_field}
 use Rattle.machine.specs.Instructions.{table, opcode, rs, sa, function, instruction_of}
 
--- a word but nop, with its opcode and function known
+-- The instruction of a word that is not nop, when its opcode and function are known.
 pub decoded : (w o f : ℕ) → (w ≢ 0) → opcode w ≡ o → function w ≡ f → instruction_of w ≡ table 1 o (rs w) (sa w) f
 unfolding instruction_of table
 decoded w o f n e g = rw (ne_eqb w 0 n, e, g)

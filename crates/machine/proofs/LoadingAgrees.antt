@@ -23,7 +23,7 @@ module _ (w : ℕ) (m : Machine) (g : Registers) where
       let k : write_register m.registers (rt w) v ≡ g = cc in
       rw (e, f, k)
 
-  -- What the loading run makes of a word, the dry run makes of it too. A lui whose rs is not zero is a word of the loading run alone.
+  -- The dry run makes of a word what the loading run makes of it. Only the loading run takes a lui whose rs is not zero.
   pub agrees : step w m.registers ≡ ran g → (opcode w ≡ 15 → rs w ≡ 0) → step_word w m ≡ goes (at (next_pc m.pc) g)
   unfolding execute effect_of table
   agrees r z = go (opcode w == 9) refl (opcode w == 13) refl (opcode w == 15) refl

@@ -1,11 +1,11 @@
--- Signed numbers as naturals: a number that stands so much above the signed one. Assumes nothing.
+-- Signed numbers as naturals: each natural is its signed number plus an offset. Assumes nothing.
 use Rattle.std.specs.Prelude.{◌≡◌, ℕ, zero, suc, ◌+◌, ◌-◌, ◌/◌, ◌%◌, ◌^◌, ◌<◌, ◌≤◌, Bool, true, false, ◌⊎◌, ℤ, pos, negsuc, ◌+ℤ◌, ◌-ℤ◌, neg_ℤ, int_lt, nat_le, nat_lt, refl}
 use Rattle.std.proofs.Common.{arith, sym, ◌∙◌, inl, inr, lt-ltb, le-ltb, le-leb, ltb-true, ltb-false, leb-true, leb-false}
 use Rattle.std.proofs.Math.IntN.{sub_ℕ}
 use Rattle.std.specs.Int.Signed.{shr_z}
 use Rattle.machine.specs.Numbers.{signed, bits, is_signed32, raised, in_range}
 
--- x is z and o more
+-- x is z plus o.
 abbrev pub Above : ℕ → ℤ → ℕ → Type 0
 Above o (pos n) x = x ≡ o + n
 Above o (negsuc n) x = x + suc n ≡ o
@@ -35,7 +35,7 @@ above_neg o p (pos zero) b e g h = omega arith
 above_neg o p (pos (suc n)) b e g h = omega arith
 above_neg o p (negsuc n) b e g h = omega arith
 
--- two tests that hold together are equal
+-- Two tests that imply each other are equal.
 same_test : (a b c d : ℕ) → (a < b → c < d) → (c < d → a < b) → nat_lt a b ≡ nat_lt c d
 same_test a b c d f g = go (nat_lt a b) refl
   where
@@ -47,14 +47,14 @@ same_test a b c d f g = go (nat_lt a b) refl
         other true k = let i = g (ltb-true c d k) in absurd (omega (arith, ltb-false a b e))
         other false k = k
 
--- numbers are ordered as what stands equally far above them
+-- Two signed numbers compare like their naturals when both have the same offset.
 pub above_less : (o : ℕ) (y z : ℤ) (a b : ℕ) → Above o y a → Above o z b → int_lt y z ≡ nat_lt a b
 above_less o (pos n) (pos m) a b e f = same_test n m a b (λ h. omega arith) (λ h. omega arith)
 above_less o (pos n) (negsuc m) a b e f = sym (le-ltb a b (omega arith))
 above_less o (negsuc n) (pos m) a b e f = sym (lt-ltb a b (omega arith))
 above_less o (negsuc n) (negsuc m) a b e f = same_test m n a b (λ h. omega arith) (λ h. omega arith)
 
--- ---- what stands 2^32 above
+-- ---- the offset 2^32
 
 pub above_fits : (z : ℤ) (x : ℕ) → Above (2 ^ 32) z x → is_signed32 z ≡ in_range x
 above_fits (pos n) x e = rw (le-leb (2 ^ 31) x (omega arith)) (same_test n (2 ^ 31) x (2 ^ 32 + 2 ^ 31) (λ h. omega arith) (λ h. omega arith))

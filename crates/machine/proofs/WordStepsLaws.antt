@@ -57,7 +57,7 @@ module _ (w : ℕ) (m : Machine) where
   unfolding effect_of table
   bne_step o = by_instruction Bne _ (named w 5 (λ x. omega arith) o) refl
 
-  -- the Rust's function for an unsigned comparison is no word of the manual's
+  -- Function 41 is the Rust's unsigned comparison. The manual has no such word, so the run stops.
   pub no_sltu : opcode w ≡ 0 → function w ≡ 41 → step_word w m ≡ stops Word
   unfolding effect_of table
   no_sltu o f = by_instruction Other _ (special w 41 (λ x. omega arith) o f) refl

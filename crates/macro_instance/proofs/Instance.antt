@@ -63,7 +63,7 @@ text =
     comment 0 ++ symbol 120 1 ++ colon 2 ++ symbol 111 3 ++ comment 4 ++ parameter 113 5 ++ comma 6 ++ register 1 7 ++ comment 8 ++ new_line 9
     ++ symbol 111 10 ++ colon 11 ++ symbol 108 12
 
--- a call in a call; comments of the call go, those before it stay; a Parameter argument, named like another parameter, is put in once and stays
+-- A call within a call. The call's comments go, earlier ones stay. A Parameter argument named like another parameter is put in once and stays.
 abbrev expected : List ℕ
 expected =
     comment 0 ++ symbol 120 1 ++ colon 2 ++ symbol 97 50 ++ register 1 7 ++ new_line 62 ++ symbol 108 63 ++ parameter 113 5 ++ new_line 9 ++ symbol 111 10 ++ colon 11 ++ symbol 108 12
@@ -78,28 +78,28 @@ unfolding write_out_outcome write_out_stop answer_from bytes_of written_out repl
     first_later first_where same_bytes all within_limit first_bad places places_from places_f append
 computed = refl
 
--- room for all, and 26 at the first token without room
+-- All is written if there is room. Otherwise 26 names the first token without room.
 pub room : (answer text macros 152 ≡ Ok 152) × (answer text macros 151 ≡ Err (NoWrittenSpace (at 12))) × (answer text macros 37 ≡ Err (NoWrittenSpace (at 2))) × (answer text macros 50 ≡ Err (NoWrittenSpace (at 50)))
 unfolding write_out_outcome write_out_stop answer_from bytes_of written_out replaced lines_steps line_steps called arguments leads leads_from lines records_of
     macros_of macro_repeat macro_layout macro_at_ok macro_ok macro_of known different index_of name_places behind_names token_layout token_ok payload_ok payload_of
     first_later first_where same_bytes all within_limit first_bad places places_from places_f append
 room = (refl, refl, refl, refl)
 
--- 24 at the name of the call, in the text and in a body: a comma is no argument, a sign is one
+-- 24 names the call, in the text and in a body. A comma is no argument; a sign is one.
 pub count : (answer (symbol 105 3 ++ comma 4 ++ comment 5) macros 99 ≡ Err (WrongArguments (at 3))) × (answer (symbol 105 3 ++ token 10 4 [] ++ register 1 5) macros 99 ≡ Err (WrongArguments (at 3))) × (answer (symbol 105 3) (macros ++ none 110 (symbol 105 70)) 99 ≡ Err (WrongArguments (at 3))) × (answer (symbol 110 3) (macros ++ none 110 (symbol 105 70)) 99 ≡ Err (WrongArguments (at 70)))
 unfolding write_out_outcome write_out_stop answer_from bytes_of written_out replaced lines_steps line_steps called arguments leads leads_from lines records_of
     macros_of macro_repeat macro_layout macro_at_ok macro_ok macro_of known different index_of name_places behind_names token_layout token_ok payload_ok payload_of
     first_later first_where same_bytes all within_limit first_bad places places_from places_f append
 count = (refl, refl, refl, refl)
 
--- an earlier 26 goes before a 24, and an earlier 24 before a 26
+-- The earlier refusal wins: a 26 before a 24, or a 24 before a 26.
 pub first : (answer (symbol 97 1 ++ new_line 2 ++ symbol 105 3) macros 24 ≡ Err (NoWrittenSpace (at 2))) × (answer (symbol 97 1 ++ new_line 2 ++ symbol 105 3) macros 25 ≡ Err (WrongArguments (at 3)))
 unfolding write_out_outcome write_out_stop answer_from bytes_of written_out replaced lines_steps line_steps called arguments leads leads_from lines records_of
     macros_of macro_repeat macro_layout macro_at_ok macro_ok macro_of known different index_of name_places behind_names token_layout token_ok payload_ok payload_of
     first_later first_where same_bytes all within_limit first_bad places places_from places_f append
 first = (refl, refl)
 
--- macros A to I: A is given, each other one calls the one above it
+-- Macros A to I: A is given, and each other one calls the macro above it.
 abbrev chain_on : List ℕ → List ℕ
 chain_on a =
     a ++ none 66 (symbol 65 21) ++ none 67 (symbol 66 22) ++ none 68 (symbol 67 23) ++ none 69 (symbol 68 24) ++ none 70 (symbol 69 25) ++ none 71 (symbol 70 26)
@@ -108,7 +108,7 @@ chain_on a =
 abbrev chain : List ℕ
 chain = chain_on (none 65 (symbol 97 20))
 
--- eight levels are written; at the ninth the call of A, in the body of B, is refused; 24 goes before 25
+-- Eight levels are written. A ninth is refused at the call of A in the body of B; 24 goes before 25 there.
 pub levels : (write_out_outcome (symbol 72 3) chain (replicate 13 0) ≡ (record { answer = Ok 13; out = symbol 97 20 })) × (answer (symbol 73 3) chain 99 ≡ Err (NinthLevel (at 21)))
     × (answer (symbol 73 3) (chain_on (one 65 112 [])) 99 ≡ Err (WrongArguments (at 21)))
 unfolding write_out_outcome write_out_stop answer_from bytes_of written_out replaced lines_steps line_steps called arguments leads leads_from lines records_of
@@ -116,28 +116,28 @@ unfolding write_out_outcome write_out_stop answer_from bytes_of written_out repl
     first_later first_where same_bytes all within_limit first_bad places places_from places_f append
 levels = (refl, refl, refl)
 
--- a macro that calls itself or one below: an ordinary mnemonic there; a Symbol argument at the head is a call of one above
+-- In a macro's body its own name, and any name below, is an ordinary mnemonic. A Symbol argument at a line's head calls a macro above.
 pub ordinary : (write_out_outcome (symbol 65 3) (none 65 (symbol 66 20 ++ new_line 21 ++ symbol 65 22) ++ none 66 []) (replicate 38 0) ≡ (record { answer = Ok 38; out = symbol 66 20 ++ new_line 21 ++ symbol 65 22 })) × (answer (symbol 66 3 ++ symbol 65 4) (none 65 [] ++ one 66 112 (parameter 112 20)) 99 ≡ Ok 0)
 unfolding write_out_outcome write_out_stop answer_from bytes_of written_out replaced lines_steps line_steps called arguments leads leads_from lines records_of
     macros_of macro_repeat macro_layout macro_at_ok macro_ok macro_of known different index_of name_places behind_names token_layout token_ok payload_ok payload_of
     first_later first_where same_bytes all within_limit first_bad places places_from places_f append
 ordinary = (refl, refl)
 
--- no call behind a Comma or a Colon that is no label's, nor where a comment stands between a Symbol and its Colon
+-- No call: behind a Comma, behind a Colon without a label, behind a Symbol and a Colon with a comment between them, or before a Colon.
 pub no_call : (answer (comma 1 ++ symbol 65 2) (none 65 []) 99 ≡ Ok 25) × (answer (colon 1 ++ symbol 65 2) (none 65 []) 99 ≡ Ok 25) × (answer (symbol 120 1 ++ comment 2 ++ colon 3 ++ symbol 65 4) (none 65 []) 99 ≡ Ok 51) × (answer (symbol 65 1 ++ colon 2) (none 65 []) 99 ≡ Ok 25)
 unfolding write_out_outcome write_out_stop answer_from bytes_of written_out replaced lines_steps line_steps called arguments leads leads_from lines records_of
     macros_of macro_repeat macro_layout macro_at_ok macro_ok macro_of known different index_of name_places behind_names token_layout token_ok payload_ok payload_of
     first_later first_where same_bytes all within_limit first_bad places places_from places_f append
 no_call = (refl, refl, refl, refl)
 
--- 1 for a Parameter that the macro lacks, an empty name, two parameters of one name, a record of another kind; 2
+-- Refusal 1: a Parameter that the macro lacks, an empty name, two parameters of one name, a record of another kind. Then refusal 2.
 pub layout : (answer [] (none 65 [] ++ none 66 (parameter 112 1)) 99 ≡ Err (BadLayout 1 7)) × (answer [] (record_bytes 40 (0 ∷ 0 ∷ [])) 99 ≡ Err (BadLayout 1 0)) × (answer [] (two 65 112 112 []) 99 ≡ Err (BadLayout 1 0)) × (answer [] (record_bytes 39 (1 ∷ 65 ∷ 0 ∷ [])) 99 ≡ Err (BadLayout 1 0)) × (answer [] (none 65 [] ++ none 66 [] ++ none 65 []) 99 ≡ Err (DuplicateName 1 14))
 unfolding write_out_outcome write_out_stop answer_from bytes_of written_out replaced lines_steps line_steps called arguments leads leads_from lines records_of
     macros_of macro_repeat macro_layout macro_at_ok macro_ok macro_of known different index_of name_places behind_names token_layout token_ok payload_ok payload_of
     first_later first_where same_bytes all within_limit first_bad places places_from places_f append
 layout = (refl, refl, refl, refl, refl)
 
--- and the call of H is eight deep, as many as `eight_levels` in crates/written_out/proofs/Levels.antt allows
+-- The call of H is eight deep, the most that `eight_levels` in crates/written_out/proofs/Levels.antt allows.
 pub eight_deep : Deep (records_of (symbol 72 3)) (reverse (macros_of chain)) 8
 unfolding called arguments leads leads_from lines records_of macros_of macro_of index_of name_places behind_names same_bytes places places_from places_f
 eight_deep =

@@ -24,7 +24,7 @@ macro_is s at e =
 pub name_ok_lem : (s : List ℕ) (at : ℕ) → MacroIs s at → name_ok (body_at s at) 0 ≡ true
 name_ok_lem s at m = (parts_of (body_at s at) m.bytes_ok).name_ok_lem
 
--- what a walk has met: the macros before `at`, and `k`, the last of them that has the name
+-- What a walk has met: the macros before `at`; `k` is the last of them with the name.
 pub record Walked (s name : List ℕ) (limit at k : ℕ) : Type 0 where
   pub good : layout_from (macro_at_ok s) s at ≡ None
   pub reached : Reached s at
@@ -73,7 +73,7 @@ module _ (s name : List ℕ) (limit at k : ℕ) (w : Walked s name limit at k) (
 pub walked_last : (s name : List ℕ) (limit at k : ℕ) → Walked s name limit at k → limit ≤ at → CalleeIs s name limit k
 walked_last s name limit at k w h = record { found_so = found_last s name limit at k h w.same w.found_so; most = w.most; ok = w.ok }
 
--- ---- the same by the places of the list up to `limit`: it has the same records, and one that runs past it is its last
+-- ---- the places of the list cut at `limit`: it has the same records, but the last one may run past the cut
 module _ (s : List ℕ) (limit : ℕ) (h : limit ≤ length s) (at : ℕ) (l : at < limit) where
   abbrev cut : List ℕ
   cut = take limit s
@@ -104,7 +104,7 @@ module _ (s : List ℕ) (limit : ℕ) (h : limit ≤ length s) (at : ℕ) (l : a
           let k = length-take-le limit s h in
           places_cut cut at (omega arith) e ∙ ap (λ (ps : List ℕ). at ∷ ps) (sym (places_end cut (next s at) (runs_past e)))
 
--- what a walk has met, by the places that are left
+-- What a walk has met, as the places that are left.
 pub record Met (s name : List ℕ) (limit : ℕ) (left : List ℕ) (k : ℕ) : Type 0 where
   pub at : ℕ
   pub walked : Walked s name limit at k
@@ -113,7 +113,7 @@ pub record Met (s name : List ℕ) (limit : ℕ) (left : List ℕ) (k : ℕ) : T
 pub met_first : (s name : List ℕ) (limit : ℕ) (left : List ℕ) → macro_layout s ≡ None → left ≡ places (take limit s) → Met s name limit left limit
 met_first s name limit left g e = record { at = 0; walked = walked_first s name limit g; left_is = e ∙ places_all (take limit s) }
 
--- a turn that takes p
+-- A turn takes the place p.
 pub record MetTurn (s name : List ℕ) (limit p : ℕ) (left : List ℕ) (k : ℕ) : Type 0 where
   pub stands : MacroIs s p
   pub before : p < limit
@@ -164,7 +164,7 @@ name_of s at e h =
     let k : e - (at + 4) ≡ body_len s at = omega arith in
     ap (λ (n : ℕ). name_at (part s (at + 4) n) 0) k
 
--- the same of the macro's bytes
+-- The same for the macro's bytes.
 pub name_in : (s : List ℕ) (at : ℕ) (b : List ℕ) → b ≡ body_at s at → name_at b 0 ≡ (macro_at s at).name
 name_in s at b e = ap (λ (x : List ℕ). name_at x 0) (e ∙ sym (body_part s at (next s at) refl)) ∙ name_of s at (next s at) refl
 

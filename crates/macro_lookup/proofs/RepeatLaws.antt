@@ -1,4 +1,4 @@
--- Laws of the first macro that has the name of one above it, found by an index of the macros' bytes. Assumes nothing.
+-- Laws of the first macro that repeats an earlier macro's name; an index of the macros' bytes finds it. Assumes nothing.
 use Rattle.std.specs.Prelude.{ℕ, ◌+◌, ◌-◌, ◌*◌, ◌≤◌, ◌<◌, min, List, ◌⊎◌, Bool, ◌≡◌, length, get_or, ltb, leb, eqb, None, Option, Some}
 use Rattle.std.proofs.Common.{arith, inl, inr, sym, ap, subst, ◌∙◌, below_more, ltb-true, ltb-false, leb-true, leb-false, eq-eqb, eqb-true}
 use Rattle.std.proofs.Math.Logic.{⊎_elim}
@@ -32,7 +32,7 @@ pub macros_good : (s : List ℕ) → macro_layout s ≡ None → (length s ≤ l
 unfolding macro_layout
 macros_good s g = limit_good s (first_bad (macro_at_ok s) (places s)) g
 
--- a macro has seven bytes at least: four, a name behind its length, and the count of its parameters
+-- A macro has at least seven bytes: four for the head, a length byte and its name, and the count of its parameters.
 pub macro_count : (s : List ℕ) → macro_layout s ≡ None → length (places s) * 7 ≤ length s
 macro_count s g = count_at_least 7 s (macro_at_ok s) (λ p e. let m = macro_is s p e in
     let q = parts_of (body_at s p) m.bytes_ok in
@@ -70,7 +70,7 @@ module _ (s l : List ℕ) (g : macro_layout s ≡ None) (ix : IndexOf 0 s l) whe
   named : (i : ℕ) → i < length l → name_ok (body_at s (at i)) 0 ≡ true
   named i h = name_ok_lem s (at i) (macro_is s (at i) (ok_at i h))
 
-  -- the bytes of one go before those of another behind it
+  -- In the index, an earlier macro's bytes are not greater than a later one's.
   at_most : (i j : ℕ) → i < j → j < length l → AtMost (body_at s (at i)) (body_at s (at j))
   at_most i j h k =
       let a = body_name s (at i) (ok_at i (omega arith)) in
@@ -80,7 +80,7 @@ module _ (s l : List ℕ) (g : macro_layout s ≡ None) (ix : IndexOf 0 s l) whe
       (λ e. same_at_most _ _ (sym a ∙ ap (λ (x : Key). x.0) e.0 ∙ b))
       (goes 0 s l ix i j h k)
 
-  -- so what has the name of an earlier one has that of the one before it
+  -- So a macro that shares the name of any earlier one shares the name of the one just before it.
   together : (k i : ℕ) → k < i → i < length l → own_name s (at k) ≡ own_name s (at i) → own_name s (at (i - 1)) ≡ own_name s (at i)
   together k i h n e = go (eqb k (i - 1)) refl
     where
@@ -121,7 +121,7 @@ module _ (s l : List ℕ) (g : macro_layout s ≡ None) (ix : IndexOf 0 s l) whe
       low_not_here : low ≡ at i → ⊥
       low_not_here e = let p = b.place in different p.0 i p.1 h (p.2 ∙ e)
 
-      -- another name: none before has it
+      -- Another name: no earlier macro has it.
       pub scan_other : (own_name s (at i) ≡ own_name s low → ⊥) → Scanned s l (i + 1) (at i) best
       scan_other d = record {
         within = omega arith;
@@ -135,7 +135,7 @@ module _ (s l : List ℕ) (g : macro_layout s ≡ None) (ix : IndexOf 0 s l) whe
           fresh : (k : ℕ) → k < i → own_name s (at k) ≡ own_name s (at i) → ⊥
           fresh k n e = d (sym (together k i n h e) ∙ b.last)
 
-      -- the same name: the smaller of the two places stays, and the other repeats it
+      -- The same name: the smaller place stays, and the other one repeats it.
       module _ (e : own_name s (at i) ≡ own_name s low) where
         go_on : (new least : ℕ) → (j : ℕ) × (j < i + 1) × (at j ≡ new) → own_name s new ≡ own_name s low → new ≤ low → new ≤ at i
             → ((v : ℕ) → low ≤ v → at i ≤ v → least ≤ v) → least ≤ best
@@ -151,7 +151,7 @@ module _ (s l : List ℕ) (g : macro_layout s ≡ None) (ix : IndexOf 0 s l) whe
           is = is;
         }
 
-        -- the least so far, or the one that is met now
+        -- `best` becomes the smaller of itself and the repeat just met.
         least_is : (later : ℕ) → In later (places s) → is_first (same_macro s) (places s) later ≡ false
             → (min best later ≡ length s) ⊎ (In (min best later) (places s) × (is_first (same_macro s) (places s) (min best later) ≡ false))
         least_is later m f = go (leb best later) refl

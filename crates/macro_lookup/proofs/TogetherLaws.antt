@@ -1,4 +1,4 @@
--- A macro's bytes begin with its name behind the name's length, so in the order of their bytes macros of one name stand together. Assumes nothing.
+-- A macro's bytes begin with its name's length and then its name, so sorting by bytes puts macros of one name together. Assumes nothing.
 use Rattle.std.specs.Prelude.{ℕ, zero, suc, ◌+◌, ◌-◌, ◌≤◌, ◌<◌, List, [], ◌∷◌, ◌⊎◌, Bool, true, false, ◌&&◌, ◌≡◌, refl, length, get_or, take, drop, ltb, None}
 use Rattle.std.proofs.Common.{arith, inl, inr, ⊎_elim, sym, ap, ap₂, ◌∙◌, length-take, ltb-true, ltb-false, ne_eqb, eqb-true}
 use Rattle.std.proofs.Math.Bool.{and-eq-true_iff}
@@ -37,7 +37,7 @@ at_most_cons x y xs ys h = go (ltb x y) refl (ltb y x) refl
         let q : x ≡ y = omega arith in
         inr (q, λ (o : order xs ys ≡ Greater). h (rw (numbers_same x y q) o))
 
--- what stands between two lists that begin alike begins like them
+-- Two lists begin alike: whatever is ordered between them begins so too.
 between : (m : ℕ) (a b c : List ℕ) → m ≤ length a → take m a ≡ take m c → AtMost a b → AtMost b c → take m b ≡ take m a
 unfolding order
 between zero a b c h e f g = refl
@@ -56,7 +56,7 @@ between (suc m) (x ∷ xs) (y ∷ ys) (z ∷ zs) h e f g =
     (at_most_cons y z ys zs g))
     (at_most_cons x y xs ys f)
 
--- so what stands between two macros of one name has that name
+-- So a macro that is ordered between two macros of one name has that name.
 pub name_between : (a b c : List ℕ) → name_ok a 0 ≡ true → name_ok c 0 ≡ true → name_at a 0 ≡ name_at c 0 → AtMost a b → AtMost b c → name_at b 0 ≡ name_at a 0
 unfolding order
 name_between [] b c oa oc e f g = absurd (omega (arith, (name_is [] 0 oa).start))
@@ -77,7 +77,7 @@ name_between (x ∷ xs) (y ∷ ys) (z ∷ zs) oa oc e f g =
     (at_most_cons y z ys zs g))
     (at_most_cons x y xs ys f)
 
--- ---- a macro has no owner, and its bytes are what the sort takes for its name
+-- ---- a macro has no owner, and the sort takes its bytes as its name
 module _ (s : List ℕ) (p : ℕ) (ok : macro_at_ok s p ≡ true) where
   tested : ((whole s p ≡ true) × (eqb (kind_at s p) 40 ≡ true)) × (macro_ok (body_at s p) ≡ true)
   unfolding macro_at_ok

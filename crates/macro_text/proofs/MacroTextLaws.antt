@@ -23,7 +23,7 @@ module _ (tokens macros : List ℕ) where
           ap outcome_text (stopped_outcome tokens macros a r e)
           ∙ sym (ap outcome_text (stopped_outcome tokens macros b r (long_same tokens macros (length b) (length a) k h ∙ e)))
 
-  -- one byte more than the limit is as good as the whole buffer
+  -- A buffer cut at one byte over the limit prints the same as the whole buffer.
   pub held_text : (n room : ℕ) → room ≡ min n 65537 → shown (take room (replicate 65537 0)) ≡ shown (replicate n 0)
   held_text n room e = go (leb n 65537) refl
     where

@@ -77,7 +77,7 @@ module _ (text macros list : List ℕ) (b : Body) where
     each_in = λ i h k. absurd (omega arith);
   }
 
-  -- nothing is left
+  -- Nothing is left: the walk has taken all arguments.
   module _ (from at : ℕ) (t : Taken) (o : Took from at t) where
     takes : left at ≡ [] → Takes text macros t (left from)
     takes e = record {

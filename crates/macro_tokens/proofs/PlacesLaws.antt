@@ -61,7 +61,7 @@ module _ (text macros : List ℕ) (p : ℕ) where
         go true e = let h = ltb-true p (length text) e in omega (arith, size_text h, (is.in_text h).least)
         go false e = let h = ltb-false p (length text) e in omega (arith, size_macros h, (is.in_macros h).least)
 
-    -- the part behind its head and its location
+    -- The bytes behind the record's head and location are its text.
     pub text_behind : take (length t - 12) (drop 12 t) ≡ text_of t 0
     text_behind = go (ltb p (length text)) refl
       where
@@ -146,7 +146,7 @@ module _ (text macros list : List ℕ) (b : Body) where
         lengths f [] = refl
         lengths f (x ∷ l) = ap suc (lengths f l)
 
-    -- it is the body's own with the arguments put in
+    -- The record written is the body's own record with the arguments put in.
     put_is : token_record text macros (place_of list b at) ≡ put_in (parameters_in list b) arguments_of (record_at list at)
     put_is = go (eqb (kind_at list at) 2) refl (ltb n b.count) refl
       where
@@ -175,7 +175,7 @@ module _ (text macros list : List ℕ) (b : Body) where
             ∙ sym (get_or-eq_default arguments_of u {n = n} (omega (arith, given_length)))
             ∙ sym (rw (asked true ek, put_in) (ap (λ (j : ℕ). get_or arguments_of j u) number))
 
-  -- a body's tokens are its records with the arguments put in
+  -- A body's tokens are its records with the arguments put in.
   ended : (at : ℕ) → length list ≤ at → read at ≡ map (put_in (parameters_in list b) arguments_of) (records_from list at)
   ended at h = read_end at h ∙ sym (ap (map (put_in (parameters_in list b) arguments_of)) (records_end list at h))
 

@@ -22,7 +22,7 @@ module _ (ps : List (List ℕ)) (s : List ℕ) (at : ℕ) (is : TokenIs s at) wh
       let e : is_parameter (record_at s at) ≡ true = ap (λ (k : ℕ). eqb k 2) (kind_in s at is) ∙ eq-eqb (kind_at s at) 2 h in
       ap (λ (b : Bool). not b || is_in (text_of (record_at s at) 0) ps) e ∙ ap (λ (n : List ℕ). ltb (index_of n ps) (length ps)) (text_in s at is)
 
--- the part between the location and the next record
+-- The bytes from behind the location to the next record are the token's text.
 pub text_part : (s : List ℕ) (at e : ℕ) → e ≡ next s at → part s (at + 12) (e - (at + 12)) ≡ text_of s at
 text_part s at e h =
     let k : e - (at + 12) ≡ payload_len s at = omega arith in
@@ -49,7 +49,7 @@ module _ (ps : List (List ℕ)) (s : List ℕ) where
   unfolding known
   known_next at h is e = ap (known ps) (records_step s at h is) ∙ ap (λ (b : Bool). b && known_from (next s at)) e
 
--- the records at places of which `at` is the first
+-- Takes the first place, `at`, off the list.
 pub known_first : (ps : List (List ℕ)) (s places : List ℕ) (at : ℕ) (left : List ℕ) → places ≡ at ∷ left
     → known ps (map (record_at s) places) ≡ (knows ps (record_at s at) && known ps (map (record_at s) left))
 unfolding known

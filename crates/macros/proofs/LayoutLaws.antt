@@ -80,7 +80,7 @@ module _ (b : List ℕ) where
             pub as_known : t₆ ≡ true → macro_ok b ≡ t₇
             as_known e = ok₅ ∙ ap (λ (x : Bool). x && t₇) e
 
--- what the test of a macro's bytes says
+-- What a macro's bytes keep when their test passes.
 pub record Parts (b : List ℕ) : Type 0 where
   pub name_ok_lem : name_ok b 0 ≡ true
   pub counted : behind_name b 0 < length b
@@ -140,7 +140,7 @@ pub macro_passed : (s : List ℕ) → limit < length s → macro_layout s ≡ So
 unfolding macro_layout
 macro_passed s h = limit_passed s (first_bad (macro_at_ok s) (places s)) h
 
--- the part from the end of the names on
+-- The bytes behind the names are the body's tokens.
 pub tokens_part : (b : List ℕ) (end m i : ℕ) → end ≡ behind_names m b (i + 1) → m ≡ count_of b → i ≡ behind_name b 0 → take (length b - end) (drop end b) ≡ body_tokens b
 tokens_part b end m i e k n =
     take_all (length b - end) (drop end b) (omega (arith, length-drop end b)) ∙ ap (λ (j : ℕ). drop j b) (e ∙ ap₂ (λ (x y : ℕ). behind_names x b (y + 1)) k n)

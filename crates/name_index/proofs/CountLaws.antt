@@ -1,11 +1,11 @@
--- How many records a list has whose records have a number of bytes at least. Assumes nothing.
+-- Records of a minimum size: how many fit a list. Assumes nothing.
 use Rattle.std.specs.Prelude.{ℕ, ◌+◌, ◌*◌, ◌≤◌, List, [], ◌∷◌, Bool, true, ◌≡◌, length, None}
 use Rattle.std.proofs.Common.{arith, add-mul, ⊎_elim, sym, ap, ◌∙◌}
 use Rattle.std.proofs.lemmas.Bool.{false≢true}
 use Rattle.record.specs.Records.{body_len, next, whole, places, places_from, first_bad}
 use Rattle.record.proofs.RecordsLaws.{places_all, places_cons, whole_is, first_good}
 
--- a test that is passed by no record with fewer bytes
+-- Only whole records of at least `least` bytes pass the test.
 abbrev pub AtLeast : (least : ℕ) → List ℕ → (ℕ → Bool) → Type 0
 AtLeast least s ok = (p : ℕ) → ok p ≡ true → (whole s p ≡ true) × (least ≤ 4 + body_len s p)
 

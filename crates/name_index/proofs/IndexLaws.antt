@@ -21,7 +21,7 @@ use Rattle.std.specs.declared.cmp.Ordering.TheVariants.{Less}
 never : {A : Type 0} → ◌≡◌ {A = ℕ} 0 1 → A
 never z = absurd (omega arith)
 
--- ---- the test of owner and name is that of the key
+-- ---- testing owner and name is testing the key
 module _ (skip : ℕ) (s : List ℕ) (owner : ℕ) (name : List ℕ) (p : ℕ) where
   pub owned_key : is_owned skip s owner name p ≡ true → key_of skip s p ≡ (name, owner)
   owned_key e =
@@ -38,7 +38,7 @@ pub is_at_lem : (x : Option ℕ) (p : ℕ) → is_at x p ≡ true → x ≡ Some
 is_at_lem (Some q) p e = ap Some (eqb-true q p e)
 is_at_lem None p e = never (cc)
 
--- `best` is the least of the index's first i that is not, or the list's end where each is
+-- Among the first i of the index, `best` is the least place that repeats a name, or the list's end when none does.
 pub record LeastRepeat (skip : ℕ) (s l : List ℕ) (i best : ℕ) : Type 0 where
   pub least : (k : ℕ) → k < i → k < length l → owned_first skip s (get_or l k 0) ≡ false → best ≤ get_or l k 0
   pub is : (best ≡ length s) ⊎ (In best l × (owned_first skip s best ≡ false))
@@ -54,14 +54,14 @@ module _ (skip : ℕ) (s l : List ℕ) (ix : IndexOf skip s l) where
   pub at_list : (i : ℕ) → i < length l → In (get_or l i 0) (places s)
   at_list i h = in_list (get_or l i 0) (in_at l i h)
 
-  -- each has a record with a name
+  -- Every place in the index has a record with a name.
   pub named_at : first_bad (has_owned_name skip s) (places s) ≡ None → (i : ℕ) → i < length l → has_owned_name skip s (get_or l i 0) ≡ true
   named_at n i h = all_ok (has_owned_name skip s) (places s) n (get_or l i 0) (at_list i h)
 
   abbrev pub key_at : ℕ → Key
   key_at i = key_of skip s (get_or l i 0)
 
-  -- what stands before another in the index goes before it
+  -- An earlier record of the index has a smaller key, or the same key and no greater place.
   pub goes : (i j : ℕ) → i < j → j < length l → (key_order (key_at i) (key_at j) ≡ Less) ⊎ ((key_at i ≡ key_at j) × (get_or l i 0 ≤ get_or l j 0))
   goes i j h k = before_is skip s (get_or l i 0) (get_or l j 0) (sorted_at (before skip s) l ix.sorted i j h k)
 
@@ -72,7 +72,7 @@ module _ (skip : ℕ) (s l : List ℕ) (ix : IndexOf skip s l) where
       (λ e. ap (λ (x : Key). key_order x key) e.0 ∙ b)
       (goes i j h k)
 
-  -- ---- a record is the first of its name where the one before it in the index has another
+  -- ---- a record is the first of its name when all keys before it in the index are smaller
   pub first_is : (i : ℕ) → i < length l → ((k : ℕ) → k < i → key_order (key_at k) (key_at i) ≡ Less) → owned_first skip s (get_or l i 0) ≡ true
   first_is i h b =
       let p = get_or l i 0 in
@@ -129,7 +129,7 @@ module _ (skip : ℕ) (s l : List ℕ) (ix : IndexOf skip s l) where
           (λ t. absurd (apart l (λ v. omega (arith, ix.counts v, once (places s) (rising s) v)) j (j + 1) (omega arith) h (omega (arith, t.1))))
           (goes j (j + 1) (omega arith) h)
 
-  -- the test of two neighbours
+  -- Compares two neighbours of the index.
   repeat_test : (j : ℕ) → j + 1 < length l → (r : Bool) → r ≡ same_owned skip s (get_or l (j + 1) 0) (get_or l j 0) → owned_first skip s (get_or l (j + 1) 0) ≡ not r
   repeat_test j h true e = repeat_next j h (owned_key skip s _ _ (get_or l j 0) (sym e))
   repeat_test j h false e = first_next j h (λ q. false≢true (e ∙ key_owned skip s _ _ (get_or l j 0) q))

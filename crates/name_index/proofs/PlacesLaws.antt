@@ -1,4 +1,4 @@
--- The places of a list rise, so a search by place among them finds the least. Assumes nothing.
+-- The places of a list rise, so a search over them in order finds the least one. Assumes nothing.
 use Rattle.std.specs.Prelude.{ℕ, zero, suc, ◌+◌, ◌≤◌, ◌<◌, Bool, ◌≡◌, length, get_or, take, drop, set, ltb, eqb, None, Some}
 use Rattle.std.proofs.Common.{arith, add-one, ⊎_elim, sym, ap, ◌∙◌, take-suc-set, drop-set-lt, drop-drop, ltb-true, lt-ltb, eq-eqb, eqb-true}
 use mathlib.Core.List.{List, [], ◌∷◌, ◌++◌, append_assoc, append-nil}
@@ -36,7 +36,7 @@ rising s = (rising_from s 0 (places s) (sym (places_all s))).0
 pub within : (s : List ℕ) (p : ℕ) → In p (places s) → p < length s
 within s p k = ((rising_from s 0 (places s) (sym (places_all s))).1 p k).1
 
--- each stands once
+-- In a rising list each number stands once.
 pub once : (l : List ℕ) → Rising l → (v : ℕ) → count v l ≤ 1
 unfolding count
 once [] r v = omega arith
@@ -49,7 +49,7 @@ once (x ∷ l) (more f r) v = go (eqb x v) refl (count v l) refl (once l r v)
         let k = ltb-true x v (f v (omega arith)) in
         absurd (omega (arith, eqb-true x v e))
 
--- what stands at most once stands at one index
+-- A number that stands at most once stands at only one index.
 pub apart : (l : List ℕ) → ((v : ℕ) → count v l ≤ 1) → (i j : ℕ) → i < j → j < length l → get_or l i 0 ≡ get_or l j 0 → ⊥
 unfolding count
 apart [] o i j h k e = omega arith
@@ -61,11 +61,11 @@ apart (x ∷ l) o zero (suc j) h k e =
     omega arith
 apart (x ∷ l) o (suc i) (suc j) h k e = apart l (λ v. let a = o v in omega arith) i j (omega arith) (omega arith) e
 
--- ---- what a test that passes at each place says of them
+-- ---- a test passes at each place: it passes at every place of the list
 pub all_ok : (ok : ℕ → Bool) (ps : List ℕ) → first_bad ok ps ≡ None → (p : ℕ) → In p ps → ok p ≡ true
 all_ok ok ps g p k = let i = at_in ps p k in ap ok (sym i.2) ∙ good_at ok ps g i.0 i.1
 
--- ---- the least place that is no first is the later of two
+-- ---- the least place that is not the first of its name is the later of two
 module _ (same : ℕ → ℕ → Bool) (list : List ℕ) where
   pub none_later : (ps : List ℕ) → ((q : ℕ) → In q ps → is_first same list q ≡ true) → first_later same list ps ≡ None
   unfolding first_later
@@ -85,7 +85,7 @@ module _ (same : ℕ → ℕ → Bool) (list : List ℕ) where
           let b = ltb-true q p (f p t) in
           absurd (omega arith)
 
-  -- where there is none, each is a first
+  -- If there is no repeat, each place is the first of its name.
   pub all_first : (ps : List ℕ) → first_later same list ps ≡ None → (p : ℕ) → In p ps → is_first same list p ≡ true
   all_first [] e p k = absurd (not_in p k)
   all_first (q ∷ ps) e p k = go (is_first same list q) refl (all_first ps)
@@ -94,7 +94,7 @@ module _ (same : ℕ → ℕ → Bool) (list : List ℕ) where
       go true f ih = ⊎_elim (λ h. rw h f) (λ t. ih (sym (later_pass same list q ps f) ∙ e) p t) (in_cons p q ps k)
       go false f ih = let h = later_hit same list q ps f in let z : ◌≡◌ {A = ℕ} 0 1 = cc in absurd (omega arith)
 
--- ---- the least place that passes a test is the first
+-- ---- the first place that passes a test is the least
 module _ (test : ℕ → Bool) where
   pub none_where : (ps : List ℕ) → ((q : ℕ) → In q ps → test q ≡ true → ⊥) → first_where test ps ≡ None
   unfolding first_where
@@ -117,7 +117,7 @@ module _ (test : ℕ → Bool) where
           let b = ltb-true q p (f p t) in
           absurd (omega arith)
 
-  -- what is found is the least place that passes
+  -- The search finds the least place that passes.
   pub where_least : (ps : List ℕ) → Rising ps → (p : ℕ) → first_where test ps ≡ Some p → (q : ℕ) → In q ps → test q ≡ true → p ≤ q
   where_least [] r p e q k f = absurd (not_in q k)
   where_least (x ∷ ps) (more h r) p e q k f = go (test x) refl (where_least ps r p)
@@ -134,7 +134,7 @@ module _ (test : ℕ → Bool) where
 
 -- ---- the places written one after the other
 
--- those before `at` are written, and the list's records go on there
+-- The places before `at` are written, and the list's records go on at `at`.
 pub record Filling (skip : ℕ) (s index : List ℕ) (at n : ℕ) : Type 0 where
   pub in_s : at ≤ length s
   pub named : first_bad (has_owned_name skip s) (places_from s at) ≡ None
@@ -151,7 +151,7 @@ module _ (skip : ℕ) (s : List ℕ) where
       step : places_from s at ≡ at ∷ places_from s (next s at)
       step = places_step s at h (good_owned skip s at h f.named).whole_at
 
-      -- in a turn there is room for one more
+      -- In each turn there is room for one more place.
       pub filling_room : n < length (places s)
       filling_room = omega (arith, f.room, ap length step)
 
@@ -174,6 +174,6 @@ module _ (skip : ℕ) (s : List ℕ) where
           sym (append-nil (take n index)) ∙ ap (λ (l : List ℕ). take n index ++ l) (sym e) ∙ f.rest,
         )
 
--- what stands behind the place that is written stays
+-- Writing one place leaves what stands behind it.
 pub drop_next : (l m : List ℕ) (n x : ℕ) → drop n l ≡ drop n m → drop (n + 1) (set l n x) ≡ drop (n + 1) m
 drop_next l m n x e = drop-set-lt (n + 1) l n x (omega arith) ∙ sym (drop-drop 1 n l) ∙ ap (drop 1) e ∙ drop-drop 1 n m

@@ -1,4 +1,4 @@
--- Laws of a list whose names rise: none repeats another, and one pass says so. Assumes nothing.
+-- Laws of a list whose names rise: no name repeats another, and one pass can tell. Assumes nothing.
 use Rattle.std.specs.Prelude.{ℕ, ◌≤◌, ◌<◌, Bool, true, false, ◌&&◌, ◌≡◌, refl, length, None}
 use Rattle.std.proofs.Common.{arith, ◌∙◌}
 use mathlib.Core.List.{List, [], ◌∷◌}
@@ -42,7 +42,7 @@ module _ (skip : ℕ) (s : List ℕ) where
   unfolding before
   below_before p q e = ap (λ (o : Ordering). decided o p q) (below_key p q e)
 
-  -- where the names rise, the places are the index, and each record is the first of its owner and name
+  -- If the names rise, the places are already the index, and each record is the first with its owner and name.
   pub rise_none : names_rise skip s ≡ true → owned_repeat skip s ≡ None
   rise_none e = none_later (same_owned skip s) (places s) (places s) λ q m.
       let i = at_in (places s) q m in

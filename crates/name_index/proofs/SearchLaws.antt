@@ -48,7 +48,7 @@ module _ (stands : ℕ → Ordering) (l : List ℕ) where
     unfolding search_f
     down_f e = rw (lt-ltb lo hi h, search_f) (rw e)
 
-  -- the fuel is no part of the answer, if it is as large as what is left
+  -- Any fuel gives the same answer, if it is at least the length left.
   same : (f g lo hi c : ℕ) → hi ≤ lo + f → hi ≤ lo + g → search_f f stands l lo hi c ≡ search_f g stands l lo hi c
   same zero g lo hi c hf hg = end_f zero lo hi c (omega arith) ∙ sym (end_f g lo hi c (omega arith))
   same (suc f) zero lo hi c hf hg = end_f (suc f) lo hi c (omega arith) ∙ sym (end_f zero lo hi c (omega arith))
@@ -102,11 +102,11 @@ lookup_all skip s l owner name = lookup_first skip s l owner name ∙ lookup_fro
 
 -- ---- what is found
 module _ (skip : ℕ) (s l : List ℕ) (ix : IndexOf skip s l) (owner : ℕ) (name : List ℕ) where
-  -- those of the name stand from lo on and before hi
+  -- Records with this owner and name stand from lo on and before hi.
   abbrev Between : ℕ → ℕ → Type 0
   Between lo hi = (k : ℕ) → k < length l → key_at skip s l ix k ≡ (name, owner) → (lo ≤ k) × (k < hi)
 
-  -- none stands at a place that goes before the name, or behind it
+  -- Such a record compares Equal. So none stands at or before a record that is less, nor at or behind one that is greater.
   not_at : (k : ℕ) → key_at skip s l ix k ≡ (name, owner) → standing skip s owner name (get_or l k 0) ≡ Equal
   not_at k e = ap (λ (x : Key). key_order x (name, owner)) e ∙ key_same (name, owner)
 
@@ -146,7 +146,7 @@ module _ (skip : ℕ) (s l : List ℕ) (ix : IndexOf skip s l) (owner : ℕ) (na
       absurd (omega (arith, k))
 
   module _ (none : owned_repeat skip s ≡ None) where
-    -- no other record has the owner and name of one
+    -- No other record has the same owner and name.
     pub only : (k : ℕ) → k < length l → key_at skip s l ix k ≡ (name, owner) → first_owned skip s owner name ≡ Some (get_or l k 0)
     only k h e =
         let p = get_or l k 0 in

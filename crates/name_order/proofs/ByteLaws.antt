@@ -18,7 +18,7 @@ module _ (a b : List ℕ) (x y : ℕ) (r s : List ℕ) (p : a ≡ x ∷ r) (q : 
   byte_same f = split ∙ passes o (order r s) f
 
 module _ (m n k : ℕ) where
-  -- behind n bytes of each, one name has ended
+  -- The names agree in their first n bytes, and one of them ends there: their lengths decide.
   pub one_ended : (r s : List ℕ) → m ≡ n + length r → k ≡ n + length s → (length r ≡ 0) ⊎ (length s ≡ 0) → nat_cmp m k ≡ order r s
   unfolding order
   one_ended [] [] a b e = numbers_cmp m k ∙ numbers_same m k (omega arith)

@@ -42,7 +42,7 @@ module _ (a b : List ℕ) (i : ℕ) (h : i + 8 ≤ length a) (k : i + 8 ≤ leng
   abbrev rest : ℕ → Ordering
   rest j = order (drop j a) (drop j b)
 
-  -- a byte more is read
+  -- Reads one more byte.
   step : (x y j m : ℕ) → get_or a j 0 < 256 → get_or b j 0 < 256 → j + 1 ≡ m → m ≤ i + 8 → then_by (numbers x y) (rest j) ≡ then_by (numbers (more a x j) (more b y j)) (rest m)
   step x y j m u v e l =
       ap (then_by (numbers x y)) (here a b j (omega arith) (omega arith) ∙ ap (λ (m : ℕ). then_by (numbers (get_or a j 0) (get_or b j 0)) (rest m)) e)

@@ -32,7 +32,7 @@ numbers_same x y h =
     let l : x ≤ y = omega arith in
     rw (le-ltb x y k, numbers) (rw (le-ltb y x l))
 
--- which of the three ways two numbers stand
+-- Two numbers: less, greater or equal.
 ways : (x y : ℕ) → (x < y) ⊎ ((y < x) ⊎ (x ≡ y))
 ways x y = go (ltb x y) refl (ltb y x) refl
   where
@@ -173,7 +173,7 @@ then_then Less p q = refl
 then_then Equal p q = refl
 then_then Greater p q = refl
 
--- what `cmp` says decides, or what is left does
+-- If `cmp` finds a difference, that decides; otherwise the rest does.
 pub decides : (o p : Ordering) → is_ne o ≡ true → o ≡ then_by o p
 decides Less p f = refl
 decides Equal p f = cc
@@ -184,7 +184,7 @@ passes Less p f = cc
 passes Equal p f = refl
 passes Greater p f = cc
 
--- one byte more
+-- One more byte of each number.
 pub joined : (x y u v : ℕ) → u < 256 → v < 256 → numbers (x * 256 + u) (y * 256 + v) ≡ then_by (numbers x y) (numbers u v)
 joined x y u v a b =
     ⊎_elim
@@ -221,7 +221,7 @@ module _ (a b : List ℕ) (h : 8 ≤ length a) (k : 8 ≤ length b) (ba : Bytes 
       let v : j < length b = omega arith in
       rw (get_or-take 8 a j 0 l, get_or-take 8 b j 0 l, add-one, drop-cons a j 0 u, drop-cons b j 0 v)
 
-  -- a byte more is read
+  -- Reads one more byte.
   step : (m n j : ℕ) → get_or x j 0 < 256 → get_or y j 0 < 256 → j < 8 → then_by (numbers m n) (rest j) ≡ then_by (numbers (more x m j) (more y n j)) (rest (j + 1))
   step m n j u v l =
       ap (then_by (numbers m n)) (here j l)
@@ -239,7 +239,7 @@ module _ (a b : List ℕ) (h : 8 ≤ length a) (k : 8 ≤ length b) (ba : Bytes 
       ∙ step _ _ 6 ba.seventh bb.seventh (omega arith)
       ∙ step _ _ 7 ba.eighth bb.eighth (omega arith)
 
--- the first eight bytes of a name, and what is left
+-- A name split into its first eight bytes and the rest.
 abbrev pub IsSplit : (a x r : List ℕ) → Type 0
 IsSplit a x r = (x ≡ take 8 a) × (r ≡ drop 8 a) × (length r + 8 ≡ length a)
 
@@ -249,7 +249,7 @@ module _ (a b x y r s : List ℕ) (p : IsSplit a x r) (q : IsSplit b y s) (bx : 
       rw (p.0, p.1, q.0, q.1)
       (eight a b (omega (arith, p.2)) (omega (arith, q.2)) (subst (λ (l : List ℕ). Bytes l 0) p.0 bx) (subst (λ (l : List ℕ). Bytes l 0) q.0 by))
 
-  -- what `cmp` says of eight bytes decides, or what is left does
+  -- If `cmp` of eight bytes finds a difference, that decides; otherwise the rest does.
   pub eight_differ : (o : Ordering) → o ≡ nat_cmp (high_first x 0) (high_first y 0) → is_ne o ≡ true → o ≡ order a b
   eight_differ o e f = decides o (order r s) f ∙ sym (split ∙ ap (λ (o : Ordering). then_by o (order r s)) (sym (e ∙ numbers_cmp (high_first x 0) (high_first y 0))))
 

@@ -9,7 +9,7 @@ use Rattle.record.specs.Records.{body_len, next, whole, places, places_from, fir
 use Rattle.record.proofs.RecordsLaws.{places_step, places_end, whole_is, first_pass, first_hit, first_good, first_place, limit_good}
 use Rattle.names.specs.Names.{name_of, has_name, first_where, is_at, first_later, is_first}
 
--- what the test that a record has a name says, in facts
+-- What holds when the test passes: the record has a name.
 pub record HasNameIs (skip : ℕ) (s : List ℕ) (at : ℕ) : Type 0 where
   pub whole_at : whole s at ≡ true
   pub head : at + 4 ≤ length s
@@ -25,7 +25,7 @@ has_name_is skip s at e =
 pub has_name_lem : (skip : ℕ) (s : List ℕ) (at : ℕ) → whole s at ≡ true → skip ≤ body_len s at → has_name skip s at ≡ true
 has_name_lem skip s at w h = (and-eq-true_iff (whole s at) (leb skip (body_len s at))).1 (w, le-leb skip (body_len s at) h)
 
--- the part from the end of the fixed fields to the end of the record is its name
+-- The bytes from the end of the fixed fields to the end of the record are its name.
 pub name_part : (skip : ℕ) (s : List ℕ) (at n i : ℕ) → n ≡ body_len s at → i ≡ at + 4 + skip → part s i (at + 4 + n - i) ≡ name_of skip s at
 name_part skip s at n i e f =
     let k : at + 4 + n - i ≡ body_len s at - skip = omega arith in
@@ -39,7 +39,7 @@ name_is skip s at e i h f =
 pub name_length : (skip : ℕ) (s : List ℕ) (at : ℕ) → HasNameIs skip s at → length (name_of skip s at) ≡ body_len s at - skip
 name_length skip s at h = simp (length-take, length-drop) (omega (arith, h))
 
--- where a test that implies a name passes at each place, each record has a name
+-- A test that passes only for records with names passes everywhere: so every record has a name.
 pub all_named : (ok named : ℕ → Bool) → ((p : ℕ) → ok p ≡ true → named p ≡ true) → (ps : List ℕ) → first_bad ok ps ≡ None → first_bad named ps ≡ None
 unfolding first_bad
 all_named ok named h [] g = refl
@@ -70,7 +70,7 @@ module _ (test : ℕ → Bool) where
   pub where_next : (s : List ℕ) (at : ℕ) → at < length s → whole s at ≡ true → test at ≡ false → where_from s at ≡ where_from s (next s at)
   where_next s at h w e = ap (first_where test) (places_step s at h w) ∙ where_pass at (places_from s (next s at)) e
 
-  -- the record that is found is one of those at the places, so what holds at each of them holds at it
+  -- The record found stands at one of the places, so it has what every place has.
   pub named_ok : (ok : ℕ → Bool) (ps : List ℕ) (p : ℕ) → first_bad ok ps ≡ None → first_where test ps ≡ Some p → ok p ≡ true
   unfolding first_where
   named_ok ok [] p g e = let z : ◌≡◌ {A = ℕ} 0 1 = cc in absurd (omega arith)
@@ -82,7 +82,7 @@ module _ (test : ℕ → Bool) where
           cc (first_good ok q qs g).0
       go false t ih = ih (first_good ok q qs g).1 (sym (where_pass q qs t) ∙ e)
 
--- where two tests agree at each place, they find one record; where a test fails at each, it finds none
+-- Two tests that agree at each good place find the same record; a test that fails at each finds none.
 pub where_agree : (ok f g : ℕ → Bool) → ((p : ℕ) → ok p ≡ true → f p ≡ g p) → (ps : List ℕ) → first_bad ok ps ≡ None → first_where f ps ≡ first_where g ps
 unfolding first_where
 where_agree ok f g h [] k = refl
@@ -97,7 +97,7 @@ where_none ok f h (p ∷ ps) k =
     let t = first_good ok p ps k in
     where_pass f p ps (h p t.0) ∙ where_none ok f h ps t.1
 
--- ---- the first record that is the same as an earlier one
+-- ---- the first record that repeats an earlier one
 module _ (same : ℕ → ℕ → Bool) where
   pub later_hit : (list : List ℕ) (p : ℕ) (ps : List ℕ) → is_first same list p ≡ false → first_later same list (p ∷ ps) ≡ Some p
   unfolding first_later
@@ -107,7 +107,7 @@ module _ (same : ℕ → ℕ → Bool) where
   unfolding first_later
   later_pass list p ps e = rw (e, first_later)
 
-  -- the later of two that are the same fails the test that it is the first
+  -- A record that repeats an earlier one is not the first of its name.
   later_bad : (list ps : List ℕ) (p : ℕ) → first_later same list ps ≡ Some p → first_bad (is_first same list) ps ≡ Some p
   unfolding first_later
   later_bad list [] p e = let z : ◌≡◌ {A = ℕ} 0 1 = cc in absurd (omega arith)
@@ -119,11 +119,11 @@ module _ (same : ℕ → ℕ → Bool) where
           let h : q ≡ p = cc (later_hit list q qs f) in
           first_hit (is_first same list) q qs f ∙ ap Some h
 
-  -- and so its place is within the list
+  -- So its place is within the list.
   pub later_place : (s : List ℕ) (p : ℕ) → first_later same (places s) (places s) ≡ Some p → p ≤ length s
   later_place s p e = first_place (is_first same (places s)) s p (later_bad (places s) (places s) p e)
 
-  -- in a list within the limit it is at most the limit
+  -- If the list is within the limit, so is that place.
   pub repeat_within : (s : List ℕ) (l : Option ℕ) (p : ℕ) → within_limit s l ≡ None → first_later same (places s) (places s) ≡ Some p → p ≤ limit
   repeat_within s l p g e = omega (arith, (limit_good s l g).0, later_place s p e)
 

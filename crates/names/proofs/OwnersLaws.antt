@@ -1,4 +1,4 @@
--- Laws of records of which some have an owner. Assumes nothing.
+-- Laws of records that may have an owner. Assumes nothing.
 use Rattle.std.specs.Prelude.{ℕ, ◌+◌, ◌≤◌, ◌<◌, List, Bool, true, false, ◌≡◌, refl, length, None}
 use Rattle.std.proofs.Common.{arith}
 use Rattle.record.specs.Bytes.{le32}
@@ -6,7 +6,7 @@ use Rattle.record.proofs.RecordsLaws.{layout_from, good_ok}
 use Rattle.names.proofs.NamesLaws.{HasNameIs, has_name_is}
 use Rattle.names.specs.Owners.{has_owner, for_all, owner_of, before_name, has_owned_name}
 
--- where the record at `at` has an owner, and where it has none
+-- A record at `at` with an owner, and one without.
 pub record With (skip : ℕ) (s : List ℕ) (at : ℕ) : Type 0 where
   pub before : before_name skip s at ≡ skip + 4
   pub owner : owner_of skip s at ≡ le32 s (at + 4 + skip)
@@ -28,13 +28,13 @@ before_least skip s at = go (has_owner s at) refl
     go true e = omega (arith, with_owner skip s at e)
     go false e = omega (arith, without_owner skip s at e)
 
--- what the test that a record has a name says, in facts
+-- What holds when the test passes: the record has a name.
 abbrev pub OwnedIs : ℕ → List ℕ → ℕ → Type 0
 OwnedIs skip s at = HasNameIs (before_name skip s at) s at
 
 pub owned_is : (skip : ℕ) (s : List ℕ) (at : ℕ) → has_owned_name skip s at ≡ true → OwnedIs skip s at
 owned_is skip s at e = has_name_is (before_name skip s at) s at e
 
--- where each record from `at` on has a name, the one at `at` has one
+-- Every record from `at` on has a name, so the one at `at` has.
 pub good_owned : (skip : ℕ) (s : List ℕ) (at : ℕ) → at < length s → layout_from (has_owned_name skip s) s at ≡ None → OwnedIs skip s at
 good_owned skip s at h g = owned_is skip s at (good_ok (has_owned_name skip s) s at h g)

@@ -1,4 +1,4 @@
--- On a list without owners, owners are no part of an answer. Assumes nothing.
+-- In a list without owners, the owner asked for makes no difference. Assumes nothing.
 use Rattle.std.specs.Prelude.{ℕ, List, Bool, true, ◌&&◌, not, ◌≡◌, eqb, None}
 use Rattle.std.proofs.Common.{ap, ap₂, ◌∙◌, ne_eqb}
 use Rattle.std.proofs.lemmas.Bool.{not-true}

@@ -1,4 +1,4 @@
--- Laws of what an operand holds: it is what was read where that was asked for. Assumes nothing.
+-- Laws of what an operand holds: if a kind of operand is asked for, it holds what was read. Assumes nothing.
 use Rattle.std.specs.Prelude.{◌≡◌, refl, Result, None, Some}
 use Rattle.std.proofs.Common.{sym, ap, ◌∙◌}
 use Rattle.operand.specs.declared.OffsetOrLabel.TheVariants.{Label as LabelAlone, Offset as Based}
@@ -9,7 +9,7 @@ use Rattle.operand.specs.Held.{held, held_answer}
 use Rattle.operand.specs.declared.Miss.{Miss}
 use Rattle.operand.specs.declared.Operand.{Operand}
 
--- no zero is taken for what was read
+-- An operand holds the value that was read, not a zero in its place.
 pub held_given : (w : Want) (x : Asked w) → held w (operand_of w x) ≡ x
 held_given a_register r = refl
 held_given an_fp_register r = refl
@@ -27,6 +27,6 @@ pub answer_given : (w : Want) (a : Answer (Asked w)) → held_answer w (answer_o
 answer_given w (Got x) = ap Got (held_given w x)
 answer_given w (Missed m) = refl
 
--- a reader's answer is the one that its operand, or its miss, says
+-- A reader's answer follows from its operand or its miss.
 pub answer_held : (w : Want) {given : (Result Operand Miss)} {a : Answer (Asked w)} → given ≡ answer_of w a → a ≡ held_answer w given
 answer_held w {given} {a} e = sym (answer_given w a) ∙ ap (held_answer w) (sym e)

@@ -1,4 +1,4 @@
--- Laws of what a line's operands hold: it is what was read. Assumes nothing.
+-- Laws of what a line's operands hold: the values that were read. Assumes nothing.
 use Rattle.std.specs.Prelude.{ℕ, ◌≡◌, List, Err, Ok, Result}
 use Rattle.std.proofs.Common.{arith, sym, ap, subst, ◌∙◌}
 use Rattle.lexer.specs.Tokens.{tokens}
@@ -14,7 +14,7 @@ use Rattle.operand_list.specs.declared.Operands.{Operands}
 use Rattle.operand_list.specs.OperandLists.{AskedAll, read_operands, operands_of, operands_answer, given_all}
 use Rattle.operand_list.specs.HeldOperands.{held_values}
 
--- no zero is taken for what was read
+-- Operands hold the values that were read, not zeros in their place.
 held_all : (w : Wants) (x : AskedAll w) → held_values w (operands_of w x) ≡ x
 held_all w x =
     let o = held_values w (operands_of w x) in
@@ -40,12 +40,12 @@ module _ (w : Wants) {before after : CursorIn} (x : At (Answer (AskedAll w))) {a
   none_given m e =
       ap (λ (a : Answer (AskedAll w)). here a x.index) (all_missed w x.answer m (sym e ∙ r.answer_is)) ∙ ap (here (Missed m)) (sym (ap (λ (c : CursorIn). c.index) r.after_is))
 
--- what is read is what was asked for
+-- Equal wants: what was read for one was read for the other.
 pub asked_for : {w v : Wants} {before after : CursorIn} {answer : (Result Operands Miss)} → w ≡ v → Reads before (given_all w (read_operands w (tokens before.list) before.index)) answer after
     → Reads before (given_all v (read_operands v (tokens before.list) before.index)) answer after
 asked_for {before = before} {after} {answer} e r = subst (λ (u : Wants). Reads before (given_all u (read_operands u (tokens before.list) before.index)) answer after) e r
 
--- what is read from a position on is what was asked for
+-- The same for a read that starts at a position.
 pub asked_as : {s : List ℕ} {w v : Wants} {before after : CursorIn} {answer : (Result Operands Miss)} {position : Cursor} (i : ℕ) → w ≡ v → before ≡ record { list = s; index = i }
     → Reads before (given_all w (read_operands w (tokens before.list) before.index)) answer after → (position ≡ cursor_at after.list after.index) × Placed after.list position
     → ReadAs s (given_all v (read_operands v (tokens s) i)) answer position

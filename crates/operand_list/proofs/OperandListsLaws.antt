@@ -18,19 +18,19 @@ use Rattle.operand_list.specs.declared.Wants.{Wants}
 use Rattle.operand_list.specs.declared.Operands.{Operands}
 use Rattle.operand_list.specs.OperandLists.{read_operand, AskedAll, then_read, third_from, second_from, read_operands, given_all}
 
--- what is read is what was asked for
+-- Equal wants: what was read for one was read for the other.
 pub wanted : {s : List ℕ} {want is : Want} {answer : (Result Operand Miss)} {cursor : Cursor} (i : ℕ) → want ≡ is → ReadAs s (given is (read_operand is (tokens s) i)) answer cursor
     → ReadAs s (given want (read_operand want (tokens s) i)) answer cursor
 wanted {s} {answer = answer} {cursor} i e r = subst (λ (w : Want). ReadAs s (given w (read_operand w (tokens s) i)) answer cursor) (sym e) r
 
--- an operand that was given holds what it is
+-- An operand's held value gives the operand back.
 operand_held : (w : Want) (o : Operand) (a : Answer (Asked w)) → Ok o ≡ answer_of w a → operand_of w (held w o) ≡ o
 operand_held w o (Got x) e =
     let p : o ≡ operand_of w x = cc in
     ap (λ (y : Operand). operand_of w (held w y)) p ∙ ap (operand_of w) (held_given w x) ∙ sym p
 operand_held w o (Missed m) e = let z : ◌≡◌ {A = ℕ} 0 1 = cc in absurd (omega arith)
 
--- what a reader gave, and the operand that it is
+-- What a reader gave, and the operand made of it.
 pub record Gives (w : Want) (x : At (Answer (Asked w))) (o : Operand) (i : ℕ) : Type 0 where
   pub read : x ≡ here (Got (held w o)) i
   pub is : operand_of w (held w o) ≡ o
@@ -42,7 +42,7 @@ module _ (w : Want) {s : List ℕ} {x : At (Answer (Asked w))} {answer : (Result
   pub misses : (m : Miss) → answer ≡ Err m → x ≡ here (Missed m) cursor.index
   misses m e = reader_is w r (Err m) e
 
--- ---- the operands of a line, by what each place gives
+-- ---- the operands of a line, from what each place gives
 
 module _ (w : Wants) (ts : List Token) where
   abbrev next : {A : Type 0} → (A → ℕ → At (Answer (AskedAll w))) → At (Answer A) → At (Answer (AskedAll w))

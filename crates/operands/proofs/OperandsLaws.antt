@@ -1,4 +1,4 @@
--- Laws of the operand readers: a reading as an equation, and what each reader answers, case by case. Assumes nothing.
+-- Laws of the operand readers: a read as an equation, and each reader's answer case by case. Assumes nothing.
 use Rattle.std.specs.Prelude.{◌≡◌, ℕ, Bool, true, false, List, ◌≢◌, refl, Err, Ok, Option, Result, None, Some, MatchOption, is_ok}
 use Rattle.std.proofs.Common.{arith, sym, ◌∙◌}
 use Rattle.std.proofs.Math.Path.{ap}
@@ -24,7 +24,7 @@ use Rattle.operands.specs.Operands.{signed, literal_met, literal_seen, get_integ
 
 -- ---- readings
 
--- an answer and a cursor that stands in the list are a reading of what says so
+-- An answer, with a cursor that stands in the list, is a read if both match x.
 pub read_at : {A : Type 0} (s : List ℕ) (x : At A) (answer : A) (cursor : Cursor) → Placed s cursor → x ≡ here answer cursor.index → ReadAs s x answer cursor
 read_at {A} s x answer cursor p e =
     record { answer_is = sym (ap (λ (y : At A). y.answer) e); cursor_is = cursor_is s cursor x.index p (sym (ap (λ (y : At A). y.index) e)); placed = p }
@@ -36,22 +36,22 @@ module _ {A : Type 0} {s : List ℕ} {x : At A} {answer : A} {cursor : Cursor} (
   pub read_is : (b : A) → answer ≡ b → x ≡ here b cursor.index
   read_is b e = ap (λ (a : A). here a x.index) (sym r.answer_is ∙ e) ∙ ap (here b) (sym read_index)
 
-  -- what is made of an answer is read with it
+  -- A function of the answer is read together with the answer.
   pub read_made : {B : Type 0} (f : A → B) (b : B) → b ≡ f answer → ReadAs s (here (f x.answer) x.index) b cursor
   read_made f b e = record { answer_is = e ∙ ap f r.answer_is; cursor_is = r.cursor_is; placed = r.placed }
 
--- what was read where this was asked for, by the operand that the reader gives
+-- What was read for this want, from the operand that the reader gives.
 pub reader_is : (w : Want) {s : List ℕ} {x : At (Answer (Asked w))} {answer : (Result Operand Miss)} {cursor : Cursor} → ReadAs s (given w x) answer cursor
     → (b : Result Operand Miss) → answer ≡ b → x ≡ here (held_answer w b) cursor.index
 reader_is w {x = x} r b e =
     ap (λ (a : Answer (Asked w)). here a x.index) (answer_held w (sym e ∙ r.answer_is)) ∙ ap (here (held_answer w b)) (sym (read_index r))
 
--- what is made of what was read
+-- A function of what was read.
 pub held_made : (w : Want) {B : Type 0} {s : List ℕ} {x : At (Answer (Asked w))} {answer : (Result Operand Miss)} {cursor : Cursor} → ReadAs s (given w x) answer cursor
     → (f : Answer (Asked w) → B) (b : B) → b ≡ f (held_answer w answer) → ReadAs s (here (f x.answer) x.index) b cursor
 held_made w r f b e = record { answer_is = e ∙ ap f (sym (answer_held w r.answer_is)); cursor_is = r.cursor_is; placed = r.placed }
 
--- ---- by what is met
+-- ---- by the token met
 
 pub plus_of : (k : TokenKind) → strip k ≡ 9 → k ≡ Plus
 plus_of k e = grind arith
@@ -59,7 +59,7 @@ plus_of k e = grind arith
 pub minus_of : (k : TokenKind) → strip k ≡ 10 → k ≡ Minus
 minus_of k e = grind arith
 
--- what a literal is made of, by what the token that is met gives
+-- The literal, from the number that the token met gives.
 pub literal_of : (minus : Bool) (back next : ℕ) (seen : Option Token) (n : Option ℕ) {post : Token → Type 0} → MatchOption seen (n ≡ None) post → ((t : Token) → post t → n ≡ as_integer t.kind)
     → literal_seen minus back next seen ≡ literal_met minus back next n
 literal_of minus back next None n h each = ap (literal_met minus back next) (sym h)
@@ -92,7 +92,7 @@ module _ (ts : List Token) (i : ℕ) where
     unfolding get_integer
     integer_bare g h = rw (ne_eqb (strip t.kind) 9 g, ne_eqb (strip t.kind) 10 h, get_integer)
 
--- ---- the optional operand, by what was read as a value
+-- ---- the optional operand, from what was read as a value
 
 some_made : (j i : ℕ) (a : Answer InstructionValue) {o : Operand} → Ok o ≡ answer_of Value a → given MaybeValue (maybe_met j i a) ≡ given Value (here a i)
 some_made j i (Got v) e = refl

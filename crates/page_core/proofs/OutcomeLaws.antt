@@ -15,7 +15,7 @@ use Rattle.page_outcome.specs.Page.{page_of, line_count}
 use Rattle.page_outcome.proofs.Length.{page_length}
 use Rattle.page_outcome.specs.Outcome.{PageOutcome, page_layout, layout_verdicts, room_verdict, page_verdict, outcome_by, page_outcome}
 
--- where the layouts pass, both lists are good
+-- If the layouts pass, both lists are good.
 pub lists_good : (labels regions : List ℕ) (size : ℕ) → layout_verdicts labels regions size ≡ Ok tt → (label_layout labels ≡ None) × (region_layout regions ≡ None)
 unfolding layout_verdicts
 lists_good labels regions size p =
@@ -27,7 +27,7 @@ module _ (labels regions page : List ℕ) where
   abbrev refused : Refusal → PageOutcome
   refused r = record { answer = Err r; page = page }
 
-  -- what is looked at behind the layouts
+  -- The checks behind the layouts.
   abbrev behind : Verdict
   behind = and_then (name_verdict 0 (label_repeat labels)) (room_verdict (page_of labels regions) (length page))
 

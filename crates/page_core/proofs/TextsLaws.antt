@@ -40,7 +40,7 @@ module _ (label : ℕ → List ℕ) (address i : ℕ) (bytes : List ℕ) where
       let pc = wrap32 (address + i) in
       rw (rows_part address i bytes g h) (append-nil (row_line label (row address i bytes)) ∙ ap (λ (word : List ℕ). word_line pc word (label pc)) (text_part bytes (λ e. omega arith)))
 
--- the next four bytes, or the last part word, and then the others
+-- The next four bytes, or the last part word, and then the rest.
 pub data_next : (label : ℕ → List ℕ) (address i : ℕ) (rest bytes after : List ℕ) → rest ≡ bytes ++ after → length bytes ≡ min 4 (length rest) → 0 < length rest
     → let pc = wrap32 (address + i) in data_text label address i rest ≡ word_line pc (word_text bytes) (label pc) ++ data_text label address (i + 4) after
 unfolding data_text flatten
@@ -50,7 +50,7 @@ pub data_end : (label : ℕ → List ℕ) (address i : ℕ) (rest : List ℕ) �
 unfolding data_text flatten
 data_end label address i rest h = rw (rows_end address i rest h)
 
--- the name in the slot of the word at an offset
+-- A word's slot holds the name that is shown at its offset.
 pub name_at : (labels : List ℕ) (address size : ℕ) (slots : List ℕ) → Shows labels address size slots → (i : ℕ) → i % 4 ≡ 0 → i < size
     → SlotOk labels (slice_index slots (i / 4)) × (name_in labels (slice_index slots (i / 4)) ≡ label_at labels (wrap32 (address + i)))
 name_at labels address size slots s i e h =

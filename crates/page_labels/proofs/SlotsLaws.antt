@@ -1,4 +1,4 @@
--- The slots on their way: the labels of an index are put in from the last to the first, so that the smallest name is the last. Assumes nothing.
+-- Filling the slots: the labels of an index go in from last to first, so the smallest name is put in last. Assumes nothing.
 use Rattle.std.specs.Prelude.{◌≡◌, ℕ, zero, suc, ◌+◌, ◌-◌, ◌*◌, ◌<◌, ◌≤◌, Bool, true, false, List, [], ◌∷◌, length, ◌==◌, ◌≢◌, slice_index, slice_index_or, slice_set, refl, None, take}
 use Rattle.std.specs.List.{push}
 use Rattle.std.proofs.lemmas.List.{length_push, get_or_push, get_or-take, take-take}
@@ -27,7 +27,7 @@ use Rattle.std.specs.declared.cmp.Ordering.{Ordering}
 never : {A : Type 0} → ◌≡◌ {A = ℕ} 0 1 → A
 never z = absurd (omega arith)
 
--- ---- what is in a slot that is not 0
+-- ---- a slot that is not 0
 pub slot_named : (labels : List ℕ) (slot : ℕ) → 0 < slot → SlotOk labels slot → has_owned_name 4 labels (slot - 1) ≡ true
 slot_named labels zero h s = absurd (omega arith)
 slot_named labels (suc p) h s = let q : suc p - 1 ≡ p = omega arith in rw q s
@@ -49,7 +49,7 @@ in_mem : (l : List ℕ) (p : ℕ) → In p l → Memᴰ p l
 in_mem [] p h = absurd (not_in p h)
 in_mem (x ∷ l) p h = ⊎_elim (λ e. Memᴰ.head e) (λ t. Memᴰ.tail (in_mem l p t)) (in_cons p x l h)
 
--- ---- what the labels from i of the index on have put into the slot of a pc: nothing, or the first of those with that address
+-- ---- a pc's slot after the labels from i of the index on: empty, or the first of them with that address
 abbrev address_at : (labels l : List ℕ) (k : ℕ) → ℕ
 address_at labels l k = le32 labels (slice_index l k + 4)
 
@@ -68,11 +68,11 @@ module _ (labels l : List ℕ) (g : label_layout labels ≡ None) (ix : IndexOf 
   stands : (k pc : ℕ) → k < length l → address_at labels l k ≡ pc → Stands labels pc (slice_index l k)
   stands k pc h e = record { listed = in_mem (places labels) (slice_index l k) (at_list 4 labels l ix k h); there = e }
 
-  -- where a label of the list stands in the index
+  -- A label of the list stands somewhere in the index.
   found : (pc p : ℕ) → Stands labels pc p → (k : ℕ) × (k < length l) × (slice_index l k ≡ p)
   found pc p s = at_in l p (in_index 4 labels l ix p (mem_in (places labels) p s.listed))
 
-  -- of two labels the one that stands first in the index has no larger name
+  -- Of two labels, the earlier one in the index has no larger name.
   not_larger : (m k : ℕ) → m ≤ k → k < length l → order (owned_name 4 labels (slice_index l k)) (owned_name 4 labels (slice_index l m)) ≡ Less → ◌≡◌ {A = ℕ} 0 1
   not_larger m k h n o = go (m == k) refl
     where
@@ -94,7 +94,7 @@ module _ (labels l : List ℕ) (g : label_layout labels ≡ None) (ix : IndexOf 
           (λ f. irreflexive (ap (λ (x : Key). key_order x a) f.0 ∙ less))
           (goes 4 labels l ix m k (omega (arith, d)) n)
 
-  -- so the first of those with an address is the one that is shown
+  -- So the first label with an address is the one shown.
   first_shown : (m pc : ℕ) → m < length l → address_at labels l m ≡ pc → ((k : ℕ) → k < length l → address_at labels l k ≡ pc → m ≤ k)
       → owned_name 4 labels (slice_index l m) ≡ label_at labels pc
   first_shown m pc h e least =
@@ -124,7 +124,7 @@ module _ (labels l : List ℕ) (g : label_layout labels ≡ None) (ix : IndexOf 
         record { name_is = λ j k. (slot_shows (pc_of address j) (slice_index slots j) (s.each j k)).0; slot_ok = λ j k. (slot_shows (pc_of address j) (slice_index slots j) (s.each j k)).1 }
 
     module _ (slots : List ℕ) (i : ℕ) (s : Slotted labels l address size slots i) (p : 0 < i) where
-      -- the label before is not of that pc
+      -- The label before has another address.
       other : (pc slot : ℕ) → (address_at labels l (i - 1) ≢ pc) → Slot labels l pc i slot → Slot labels l pc (i - 1) slot
       other pc slot d (none e f) = none e more
         where
@@ -143,14 +143,14 @@ module _ (labels l : List ℕ) (g : label_layout labels ≡ None) (ix : IndexOf 
               go true t = absurd (d (ap (address_at labels l) (sym (eqb-true k (i - 1) t)) ∙ c))
               go false t = let x = eqb-false k (i - 1) t in f k (omega (arith, x)) b c
 
-      -- its address is that of no word
+      -- Its address is no word's.
       pub slotted_pass : (k : ℕ) → size ≤ 65536 → WordOf address size (address_at labels l (i - 1)) k → 16384 ≤ k → Slotted labels l address size slots (i - 1)
       slotted_pass k z w m = record {
         within = omega (arith, s.within);
         each = λ j h. other (pc_of address j) (slice_index slots j) (λ e. let q = w.only j h (sym e) in omega arith) (s.each j h);
       }
 
-      -- it is that of the word k
+      -- Its address is word k's.
       pub slotted_hit : (k : ℕ) → WordOf address size (address_at labels l (i - 1)) k → k < 16384 → k < length slots
           → Slotted labels l address size (slice_set slots k (slice_index l (i - 1) + 1)) (i - 1)
       slotted_hit k w m r = record { within = omega (arith, s.within); each = λ j h. go j h (j == k) refl }
@@ -168,7 +168,7 @@ module _ (labels l : List ℕ) (g : label_layout labels ≡ None) (ix : IndexOf 
               subst (Slot labels l (pc_of address j) (i - 1)) (sym (get_or-set_other slots k j new 0 d))
               (other (pc_of address j) (slice_index slots j) (λ a. d (w.only j h (sym a))) (s.each j h))
 
--- the last of what is left of an index, and what is left then
+-- The last of the index's places that are left, and what is left without it.
 pub record Last (order left rest : List ℕ) (x : ℕ) : Type 0 where
   pub some : 0 < length left
   pub within : length left ≤ length order

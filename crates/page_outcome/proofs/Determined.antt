@@ -31,7 +31,7 @@ lines_same (x ∷ xs) (y ∷ ys) f g e =
     let r = front_same x y (flatten xs) (flatten ys) (f.0 ∙ sym g.0) e in
     ap₂ (λ (u : List ℕ) (v : List (List ℕ)). u ∷ v) r.0 (lines_same xs ys f.1 g.1 r.1)
 
--- ---- the lines of a region's words, and what is behind them: nothing, or a region's line
+-- ---- the lines of a region's words; behind them comes nothing or the next region's line
 abbrev Behind : List (List ℕ) → Type 0
 Behind [] = Unit
 Behind (l ∷ ls) = get_or l 2 0 ≡ 32

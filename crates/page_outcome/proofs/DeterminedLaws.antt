@@ -37,7 +37,7 @@ glyph_same c d h k e = go (ltb c 10) refl (ltb d 10) refl
     go false f true g = let m = ltb-true d 10 g in absurd (omega (arith, m, glyph_low d m, glyph_high c (ltb-false c 10 f), e))
     go false f false g = omega (arith, glyph_high c (ltb-false c 10 f), glyph_high d (ltb-false d 10 g), e)
 
--- as many digits as a number needs determine it
+-- A number's digits determine it, if there are enough of them.
 digits_same : (k m n : ℕ) → m < 16 ^ k → n < 16 ^ k → last_digits 16 k m ≡ last_digits 16 k n → m ≡ n
 digits_same zero m n h g e = omega arith
 digits_same (suc k) m n h g e =

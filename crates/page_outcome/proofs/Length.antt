@@ -1,4 +1,4 @@
--- Every line of a page has 73 bytes, so a page has 73 for each region and each word, part words too, and 1,195,959 at most. Assumes nothing.
+-- Every line of a page has 73 bytes. So a page has 73 for each region and each word, part words included, and at most 1,195,959. Assumes nothing.
 use Rattle.std.specs.Prelude.{ℕ, ◌+◌, ◌-◌, ◌*◌, ◌/◌, ◌≤◌, ◌≡◌, refl, length, None}
 use Rattle.std.proofs.Common.{arith, ⊎_elim, sym, ap, ◌∙◌, length-append, length-take}
 use mathlib.Core.List.Memᴰ
@@ -21,7 +21,7 @@ use Rattle.page_outcome.proofs.LinesLaws.{region_length, word_length}
 abbrev pub Is73 : List ℕ → Type 0
 Is73 line = length line ≡ 73
 
--- the lines of words, and lines behind them
+-- Each line of the words has 73 bytes, and so has each line behind them.
 words_73 : (label : ℕ → List ℕ) (rs : List Row) (lines : List (List ℕ)) → Each RowIs rs → Each Is73 lines → Each Is73 (map (row_line label) rs ++ lines)
 words_73 label [] lines f g = g
 words_73 label (r ∷ rs) lines f g =

@@ -53,7 +53,7 @@ module _ (bytes : List ℕ) (h : length bytes ≡ 65528) where
   full_page : (labels : List ℕ) → length (page_of labels full) ≡ 1195959
   full_page labels = omega (arith, page_length labels full, full_count)
 
--- whatever the labels are, a region list that is no refusal 1 reaches the limit
+-- Whatever the labels are, some region list that keeps its layout reaches the limit.
 pub longest : (labels : List ℕ) → (regions : List ℕ) × (region_layout regions ≡ None) × (length (page_of labels regions) ≡ 1195959)
 longest labels =
     let zeros : length (replicate {A = ℕ} 65528 0) ≡ 65528 = length-replicate {A = ℕ} 65528 0 in

@@ -14,7 +14,7 @@ use Rattle.page_outcome.specs.Page.{blanks, columns, cut, names_at, smaller, sma
 use Rattle.std.specs.declared.cmp.Ordering.TheVariants.{Less, Equal, Greater}
 use Rattle.std.specs.declared.cmp.Ordering.{Ordering}
 
--- the one name is the other, or goes before it
+-- One name is the other, or goes before it.
 abbrev pub AtMost : List ℕ → List ℕ → Type 0
 AtMost a b = (a ≡ b) ⊎ (order a b ≡ Less)
 
@@ -23,7 +23,7 @@ pub record Stands (labels : List ℕ) (pc p : ℕ) : Type 0 where
   pub listed : Memᴰ p (places labels)
   pub there : le32 labels (p + 4) ≡ pc
 
--- the name is that of such a label, and no such label has a smaller one
+-- The name belongs to such a label, and no such label has a smaller name.
 pub record Smallest (labels : List ℕ) (pc : ℕ) (name : List ℕ) : Type 0 where
   pub place : ℕ
   pub stands : Stands labels pc place

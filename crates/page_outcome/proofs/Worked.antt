@@ -1,5 +1,5 @@
--- Pages computed: two regions, one whose pc wraps and that ends in a part word; labels of both kinds at one pc, one inside a word and one at a
--- region's end, names of 20 and 21 bytes. Accepted at the exact length and with bytes behind it, 18 one byte short of it, 2 before 18. Assumes nothing.
+-- Pages computed: two regions (one wraps its pc and ends in a part word); labels: both kinds at one pc, one inside a word, one at a region's
+-- end, names of 20 and 21 bytes. The exact length is accepted, a longer one too; one byte short gives 18; 2 comes before 18. Assumes nothing.
 use Rattle.std.specs.Prelude.{ℕ, ◌≡◌, refl, replicate, Err, Ok}
 use mathlib.Core.List.{List, [], ◌∷◌, ◌++◌, flatten}
 use Rattle.record.specs.Bytes.{all, same_bytes}
@@ -53,7 +53,7 @@ text =
     ++ bytes_of "00400000  00094025  loop                                                \n"
     ++ bytes_of "00400004  00000000                                                      \n"
 
--- a page buffer of so many bytes, each 7
+-- A page buffer of n bytes, each 7.
 abbrev sevens : ℕ → List ℕ
 sevens n = replicate n 7
 
@@ -65,7 +65,7 @@ pub record Worked : Type 0 where
   pub laid_out : page_outcome labels regions (sevens 514) ≡ record { answer = Ok 511; page = text ++ sevens 3 }
   pub exact : page_outcome labels regions (sevens 511) ≡ record { answer = Ok 511; page = text }
   pub one_short : page_outcome labels regions (sevens 510) ≡ record { answer = Err NoPageSpace; page = sevens 510 }
-  -- one name twice for all, and no room for the page: 2
+  -- One shared name twice, and no room for the page: refusal 2 comes first.
   pub twice : page_outcome (for_all 0 (bytes_of "a") ++ for_all 4 (bytes_of "a")) regions (sevens 1) ≡ record { answer = Err (DuplicateName 0 9); page = sevens 1 }
   pub no_region : page_outcome labels [] (sevens 1) ≡ record { answer = Err (BadLayout 1 0); page = sevens 1 }
 
@@ -73,7 +73,7 @@ pub worked : Worked
 unfolding page_outcome page_verdict layout_verdicts page_layout append page_of flatten page_lines label_at names_at smallest smaller order rows word_text word_line region_line blanks image_of places places_from places_f hex_bytes label_layout label_ok region_layout region_records region_ok first_bad first_bad_of within_limit first_later first_where all same_bytes
 worked = record { laid_out = refl; exact = refl; one_short = refl; twice = refl; no_region = refl }
 
--- ---- an instance of two lists of bytes with one page: the address of a region without data is not on it
+-- ---- two lists of bytes with one page: a region without data does not show its address
 abbrev no_data : (address : ℕ) → List ℕ
 no_data address = record_bytes 35 (le32_bytes address)
 

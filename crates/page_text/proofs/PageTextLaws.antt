@@ -1,4 +1,4 @@
--- What is printed depends on the page buffer by its length alone, and one byte more than the limit is as good as any more. Assumes nothing.
+-- What is printed depends only on the page buffer's length, and every length over the limit prints the same. Assumes nothing.
 use Rattle.std.specs.Prelude.{ℕ, ◌+◌, ◌≤◌, ◌<◌, min, Bool, take, replicate, Err, Ok, Option}
 use Rattle.std.proofs.Common.{arith, sym, ◌∙◌, length-take-le}
 use mathlib.Core.List.{List, ◌++◌, append_assoc}
@@ -48,7 +48,7 @@ append_part space text room h =
     append_assoc text (drop (0 + length text) (take room space)) (drop room space)
     ∙ ap (λ (l : List ℕ). text ++ l) (sym (drop-append-le (0 + length text) (take room space) (drop room space) (omega arith)) ∙ ap (drop (0 + length text)) (take-append-drop room space))
 
--- a refusal of the page, behind which nothing is looked at
+-- A refusal of the page ends the checks.
 stopped : (a b : Verdict) (r : Refusal) (x y : Verdict) → and_then (and_then a (and_then b (Err r))) x ≡ and_then (and_then a (and_then b (Err r))) y
 stopped (Ok _) (Ok _) r x y = refl
 stopped (Ok _) (Err q) r x y = refl
@@ -74,7 +74,7 @@ module _ (labels regions : List ℕ) where
   over_limit m n h k =
       over m h ∙ stopped (layout_verdict 0 (label_layout labels)) (layout_verdict 1 (region_layout regions)) (BadLayout 2 page_limit) (behind m) (behind n) ∙ sym (over n k)
 
-  -- ---- so much of a buffer as there is room for
+  -- ---- the part of a buffer that there is room for
   pub held_text : (space : List ℕ) (n room : ℕ) → length space ≡ 1195960 → room ≡ min n 1195960
       → outcome_text (page_outcome labels regions (take room space)) ≡ outcome_text (page_outcome labels regions (replicate n 0))
   held_text space n room z e =

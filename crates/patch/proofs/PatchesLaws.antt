@@ -1,5 +1,5 @@
--- Laws of one patch: its field fits and reads back by its kind, its destination by its label, its word by its kind, and what it has that passes
--- its checks. Assumes nothing.
+-- Laws of one patch: its field fits and reads back by its kind; its label gives its destination, its kind its word; and what a patch has
+-- that passes its checks. Assumes nothing.
 use Rattle.std.specs.Prelude.{◌≡◌, ℕ, ◌+◌, ◌-◌, ◌*◌, ◌/◌, ◌%◌, ◌^◌, ◌<◌, ◌≤◌, Bool, true, false, List, nat_le, refl, Err, None, Ok, Option, Some}
 use native.Mathlib.Omega.{arith}
 use Rattle.std.proofs.Math.Bool.{and-eq-true_iff}
@@ -23,7 +23,7 @@ use Rattle.pending.specs.declared.Pending.{Pending}
 use Rattle.regions.specs.declared.Region.{Region}
 use Rattle.patch.specs.Patches.{pc_of, after, field_width, field_value, branch_in_range, jump_in_range, in_range, patched_word, plus_offset, destination, name_location, reach_verdict, patch_stop, pending_verdict}
 
--- a destination of 32 bits has a field of the kind's width
+-- The field of a 32-bit destination fits the kind's width.
 pub value_fits : (kind : InstructionLabelKind) (pc dest : ℕ) → dest < 2 ^ 32 → field_value kind pc dest < 2 ^ field_width kind
 unfolding field_width field_value
 value_fits Branch pc dest h = omega arith
@@ -117,7 +117,7 @@ module _ (pc dest word : ℕ) where
 
 -- ---- the checks
 
--- what a patch that passes its checks says
+-- What is known of a patch that passes its checks.
 pub record Reached (job : Job) (labels : Table) (pending : List ℕ) (g : Region) (p : Pending) : Type 0 where
   pub dest : ℕ
   pub inside : p.offset + 4 ≤ g.size

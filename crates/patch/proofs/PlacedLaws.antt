@@ -1,4 +1,4 @@
--- A destination by the place of its label is the destination. Assumes nothing.
+-- The destination found through its label's place is the destination. Assumes nothing.
 use Rattle.std.specs.Prelude.{◌≡◌, ℕ, ◌+◌, ◌≤◌, List, length, ◌≢◌, None, Option, Some}
 use Rattle.std.proofs.Common.{arith, sym, ◌∙◌, ne_eqb}
 use Rattle.std.proofs.Math.Path.{refl, ap}
@@ -34,7 +34,7 @@ module _ (labels s : List ℕ) (good : label_layout labels ≡ None) where
       go (Some p) e n = found_within _ _ p e
       go None e n = absurd (n refl)
 
-  -- what is read at the place is what the name resolves to
+  -- The address read at the place is the one that the name resolves to.
   address_at_lem : (source : ℕ) (name : List ℕ) (x : Option ℕ) → labelled labels source name ≡ x → address_at labels (place_of x) ≡ resolve labels source name
   address_at_lem source name (Some p) e =
       let w = found_within source name p e in

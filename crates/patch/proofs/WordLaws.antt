@@ -25,7 +25,7 @@ module _ (d : List ℕ) (i w : ℕ) (room : i + 4 ≤ length d) where
   pub length_put : length (append d i (le32_bytes w)) ≡ length d
   length_put = ap length stores ∙ simp length-set
 
-  -- a byte that is none of the word's
+  -- A byte outside the word stays.
   pub byte_out : (j : ℕ) → (j < i) ⊎ (i + 4 ≤ j) → byte_at (append d i (le32_bytes w)) j ≡ byte_at d j
   byte_out j a = ap (λ (l : List ℕ). byte_at l j) stores ∙ go a
     where
@@ -67,11 +67,11 @@ module _ (d : List ℕ) (i w : ℕ) (room : i + 4 ≤ length d) where
       let k₃ : i + 2 ≢ i + 3 = omega arith in
       rw stores (simp (get_or-set_other, get_or-set_same), simp (get_or-set_other, get_or-set_same), simp (get_or-set_other, get_or-set_same), simp get_or-set_same)
 
-  -- the word that was stored is read, by its low 32 bits
+  -- Reading the stored word gives its low 32 bits.
   pub read_same : le32 (append d i (le32_bytes w)) i ≡ w % 4294967296
   read_same = omega (arith, digits w, bytes_in)
 
-  -- a word that shares no byte with it
+  -- A word that shares no byte with it reads as before.
   pub read_other : (j : ℕ) → (i + 4 ≤ j) ⊎ (j + 4 ≤ i) → le32 (append d i (le32_bytes w)) j ≡ le32 d j
   read_other j (inl h) =
       simp (

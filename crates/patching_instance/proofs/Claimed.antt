@@ -1,5 +1,5 @@
--- The claims' premises can be met: the computed scripts keep them, and the refusal of the first and the end of the second are a whole build's
--- after their accepted line. Assumes nothing.
+-- The claims' premises can be met: the computed scripts keep them. The first script's refusal and the second script's end are those of a whole
+-- build after their accepted line. Assumes nothing.
 use mathlib.Core.List.Memᴰ
 use Rattle.std.proofs.Common.{⊎_elim, arith, sym, subst}
 use mathlib.Core.List.{[], ◌∷◌, Memᴰ}

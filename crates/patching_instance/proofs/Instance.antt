@@ -1,4 +1,4 @@
--- Two scripts computed: two regions, overlapping patches, a line between the steps; the first is refused and gives all back, the second ends.
+-- Two scripts computed: two regions, overlapping patches, a line between the steps. The first is refused and puts all back; the second ends.
 -- Assumes nothing.
 use Rattle.std.specs.Prelude.{ℕ, ◌≡◌, refl, List, [], ◌∷◌, ◌++◌, Err, Ok}
 use Rattle.field.specs.Field.{set_field}
@@ -65,7 +65,7 @@ first = record_bytes 35 (le32_bytes 0x00400000 ++ le32_bytes 0x10000000)
 abbrev pub second : List ℕ
 second = record_bytes 35 (le32_bytes 0x10010000 ++ (1 ∷ 2 ∷ 3 ∷ 4 ∷ []))
 
--- region 1 past its data; then two in region 0, at offsets 0 and 0: they overlap
+-- One of region 1, past its data; then two of region 0, both at offset 0: they overlap.
 abbrev pub waiting : List ℕ
 waiting = to 1 8 4 0 90 ++ to 0 0 0 0x00400000 91 ++ to 0 0 4 0x11223344 92
 
@@ -100,7 +100,7 @@ two = Step ∷ Step ∷ []
 abbrev pub three : List Turn
 three = Step ∷ Step ∷ Line Commit (b 0) ∷ Step ∷ []
 
--- the same without the pending that is refused
+-- The same without the refused pending.
 abbrev pub good : Patching
 good = record {
   regions = first ++ second ++ free;

@@ -1,4 +1,4 @@
--- A line that is not late is answered as by the accepted lines alone: 29 is all that patching adds (document 02, P12). Assumes nothing.
+-- A line that is not late gets the answer that the accepted lines alone give: patching adds only 29 (document 02, P12). Assumes nothing.
 use Rattle.std.specs.Prelude.{ℕ, ◌+◌, ◌≤◌, ◌<◌, Bool, ◌||◌, ◌≡◌, refl, length, take, drop, Err, Ok, Option, Some}
 use Rattle.std.proofs.Common.{arith, ◌∙◌, length-append, length-drop, length-take-le}
 use mathlib.Core.List.{List, []}

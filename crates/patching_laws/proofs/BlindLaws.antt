@@ -1,5 +1,5 @@
--- An emit call is blind to the data that stands in its region: calls that differ in data bytes only have one answer, and append the same
--- (document 02, P12). And an accepted call, taken apart. Assumes nothing.
+-- An emit call does not see its region's data: calls that differ only in data bytes get the same answer and append the same
+-- (document 02, P12). Also: an accepted call, taken apart. Assumes nothing.
 use Rattle.std.specs.Prelude.{ℕ, ◌+◌, ◌-◌, ◌*◌, ◌≤◌, ◌<◌, List, true, false, ◌&&◌, ◌≡◌, refl, take, Err, None, Ok, Option, Some}
 use Rattle.std.proofs.Common.{arith, sym, subst, ◌∙◌}
 use Rattle.std.proofs.Math.Path.{ap}

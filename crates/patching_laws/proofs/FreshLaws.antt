@@ -1,5 +1,5 @@
--- Before the first step that passes its checks the two are one; a step then passes a build's checks, or is refused as a build is
--- (document 02, P12). Assumes nothing.
+-- Before the first step that passes its checks, the script is where its accepted lines alone are. A step then passes as a build does, or is
+-- refused as a build is (document 02, P12). Assumes nothing.
 use Rattle.std.specs.Prelude.{ℕ, ◌≡◌, take, Err, None, Ok, Option, Some}
 use Rattle.std.proofs.Common.{arith, subst, ◌∙◌, length-take}
 use mathlib.Core.List.{List, [], Memᴰ}
@@ -22,7 +22,7 @@ use Rattle.patching_laws.proofs.HeldLaws.{Held}
 use Rattle.build_outcome.proofs.BuildLaws.{then_pass}
 use Rattle.patching_laws.proofs.StepLaws.{Opened, regions_pass, pendings_pass, kept_pass}
 
--- a check that stops, whatever follows the last
+-- If the checks stop with r, they still do with another check behind them.
 stop_then : (l n e x : Verdict) (r : Refusal) → and_then l (and_then n e) ≡ Err r → and_then l (and_then n (and_then e x)) ≡ Err r
 stop_then (Err s) n e x r h = h
 stop_then (Ok tt) (Err s) e x r h = h
@@ -30,7 +30,7 @@ stop_then (Ok _) (Ok _) (Err s) x r h = h
 stop_then (Ok _) (Ok _) (Ok _) x r h = let z : ◌≡◌ {A = ℕ} 0 1 = cc in absurd (omega arith)
 
 module _ (job : Job) (labels : Table) (entry : List ℕ) where
-  -- a step's checks, by the layouts of the lists
+  -- A step's checks, given the layouts of the lists.
   abbrev checks_by : Option ℕ → Option ℕ → Option ℕ → Verdict
   checks_by regions pending kept =
       and_then
@@ -44,7 +44,7 @@ module _ (job : Job) (labels : Table) (entry : List ℕ) where
   unfolding step_checks step_layouts
   checks_are q = refl
 
-  -- lists that keep their layouts have no part in them
+  -- When the lists keep their layouts, only the other checks are left.
   pub checks_same : (q b : Patching) → Held job labels entry q b → step_checks labels entry q ≡ checks_by None None None
   checks_same q b h =
       checks_are q ∙ ap₂ (λ (x y : Option ℕ). checks_by x y (kept_layout q)) (regions_pass job labels entry q b h) (pendings_pass job labels entry q b h)
@@ -66,7 +66,7 @@ module _ (job : Job) (labels : Table) (entry : List ℕ) where
     kept_no_part None e = ap (layout_verdict 4) (kept_enough e)
     kept_no_part (Some place) e = refl
 
-    -- a step's layouts are a build's
+    -- A step checks the layouts that a build checks.
     layouts_same : step_layouts labels entry q ≡ layout_verdicts labels entry (regions_of q) (pendings_of q)
     unfolding step_layouts layout_verdicts
     layouts_same =
@@ -74,14 +74,14 @@ module _ (job : Job) (labels : Table) (entry : List ℕ) where
         ∙ ap (λ (v : Verdict). and_then (layout_verdict 0 labels.layout) (and_then (layout_verdict 1 (entry_layout entry)) (and_then (layout_verdict 2 (region_layout (regions_of q))) v)))
         (kept_no_part (pending_layout (region_count (regions_of q)) (pendings_of q)) refl)
 
-    -- refused as a build is
+    -- If the step's checks refuse, a build refuses alike.
     pub checks_stop : (r : Refusal) → step_checks labels entry q ≡ Err r → build_verdict job labels entry (regions_of q) (pendings_of q) ≡ Err r
     unfolding step_checks build_verdict
     checks_stop r e =
         stop_then (layout_verdicts labels entry (regions_of q) (pendings_of q)) (name_verdict 0 labels.repeat) (entry_verdict labels entry (entry_of entry (places entry))) (patches_verdict job labels (regions_of q) (pendings_of q)) r
         (sym (ap (λ (v : Verdict). and_then v (and_then (name_verdict 0 labels.repeat) (entry_verdict labels entry (entry_of entry (places entry))))) layouts_same) ∙ e)
 
-    -- passed as a build's are
+    -- What is known once the step's checks pass: a build's checks pass too.
     pub record Passed : Type 0 where
       pub opened : Opened job labels entry
       pub good : region_layout (regions_of q) ≡ None
@@ -131,11 +131,11 @@ module _ (job : Job) (labels : Table) (entry : List ℕ) where
       undo = ap (λ (ps : List ℕ). put_back (regions_of q) (pendings_of q) q.kept 0 ps q.regions) nothing_done;
     }
 
-  -- what holds of one and the same is a start
+  -- A state that holds with itself is a start.
   pub held_start : (q : Patching) → Held job labels entry q q → Start q
   held_start q h = record { none_patched = h.none_patched; running = h.base_runs; regions_within = h.regions_within; pending_within = h.pending_within; kept_within = h.kept_within }
 
-  -- a build's verdict once its checks before the first patch have passed
+  -- A build's verdict once all checks before the patches have passed.
   pub build_is : (q b : Patching) → Held job labels entry q b → Opened job labels entry → build_verdict job labels entry (regions_of b) (pendings_of b) ≡ patches_verdict job labels (regions_of b) (pendings_of b)
   unfolding build_verdict layout_verdicts
   build_is q b h o =

@@ -1,5 +1,5 @@
--- A region list of which one region's data has grown: it keeps its layout and its regions, the grown one's size and the places of those
--- behind it apart (document 02, P12). Assumes nothing.
+-- A region list in which one region's data has grown: its layout and its regions stay. Only the grown region's size changes, and the places
+-- of the regions behind it (document 02, P12). Assumes nothing.
 use Rattle.std.specs.Prelude.{ℕ, zero, suc, ◌+◌, ◌-◌, ◌^◌, ◌≤◌, ◌<◌, Bool, true, false, ◌&&◌, ◌≡◌, refl, get_or, ltb, eqb, None}
 use native.Mathlib.Omega.{arith}
 use mathlib.Core.List.{List, [], ◌∷◌, map, Memᴰ}
@@ -66,7 +66,7 @@ get_d_map f [] n h = absurd (omega arith)
 get_d_map f (p ∷ ps) zero h = refl
 get_d_map f (p ∷ ps) (suc n) h = get_d_map f ps n (omega arith)
 
--- where each passes and there are no more than may be, all pass
+-- If each place passes and there are at most n of them, all pass.
 of_each : (n : ℕ) (ok : ℕ → Bool) (ps : List ℕ) → length ps ≤ n → ((k : ℕ) → k < length ps → ok (get_or ps k 0) ≡ true) → first_bad_of n ok ps ≡ None
 unfolding first_bad_of
 of_each zero ok [] l e = refl
@@ -118,7 +118,7 @@ module _ (s t : List ℕ) (r k : ℕ) (good : region_layout s ≡ None) (hr : r 
   place_is : (n : ℕ) → n < region_count s → region_place t n ≡ shift from k (region_place s n)
   place_is n h = ap (λ (ps : List ℕ). get_or ps n 0) places_are ∙ get_d_map (shift from k) (places s) n h
 
-  -- where a region stands to the one that grew
+  -- How region n stands to the region that grew.
   data Stands (n : ℕ) : Type 0 where
     below : n < r → next s (region_place s n) ≤ from → region_place t n ≡ region_place s n → Stands n
     here : n ≡ r → region_place t n ≡ region_place s n → Stands n
@@ -190,7 +190,7 @@ module _ (s t : List ℕ) (r k : ℕ) (good : region_layout s ≡ None) (hr : r 
       let z : p + k + 1 ≡ p + 1 + k = omega arith in
       omega (arith, g.behind p a, ap (byte_at t) z ∙ g.behind (p + 1) (omega arith))
 
-  -- each record passes: whole, of its kind, with an address
+  -- A record passes if it is whole, is a region, and has an address.
   passes : (q : ℕ) → q + 4 ≤ length t → next t q ≤ length t → kind_at t q ≡ 35 → 4 ≤ body_len t q → region_ok t q ≡ true
   unfolding region_ok
   passes q h n e l =

@@ -1,4 +1,4 @@
--- Where a script has come to and the accepted lines alone: what holds between the two once a step has passed its checks (document 02, P12).
+-- The script's state and the state of its accepted lines alone: what holds between the two once a step has passed its checks (document 02, P12).
 -- Assumes nothing.
 use Rattle.std.specs.Prelude.{ℕ, zero, suc, ◌+◌, ◌*◌, ◌/◌, ◌≤◌, ◌<◌, ◌≡◌, length, get_or, take, drop, None, Ok}
 use mathlib.Core.List.Memᴰ
@@ -23,7 +23,7 @@ use Rattle.patching_laws.specs.Claims.{ImageIs}
 use Rattle.patching_outcome.proofs.LayoutLaws.{Within}
 use Rattle.patching_laws.proofs.UndoLaws.{Holds, Wrote, wrote, write_taken}
 
--- the place of a pending in patch order is one of the list's, so its region is listed
+-- A place in patch order is a place of the list, so its pending's region is listed.
 pub order_listed : (regions pending : List ℕ) → pending_layout (region_count regions) pending ≡ None → (at : ℕ) → Memᴰ at (order_from (region_count regions) pending 0)
     → Memᴰ at (places pending) × ((pending_at pending at).region < region_count regions)
 order_listed regions pending g at m =
@@ -36,7 +36,7 @@ take_member (suc n) [] p m = elim m [ ]
 take_member (suc n) (q ∷ ps) p m = ⊎_elim (λ (e : p ≡ q). Memᴰ.head e) (λ t. Memᴰ.tail (take_member n ps p t)) (Memᴰ.cases_cons m)
 
 module _ (job : Job) (labels : Table) (entry : List ℕ) where
-  -- those of the accepted lines' patches that are written
+  -- The accepted lines' patches that are already written.
   abbrev pub done_in : Patching → Patching → List ℕ
   done_in q b = take q.counts.patches (order_of b)
 
@@ -86,7 +86,7 @@ module _ (job : Job) (labels : Table) (entry : List ℕ) where
     regions_taken : regions_of q ≡ take b.counts.regions q.regions
     regions_taken = ap (λ (n : ℕ). take n q.regions) h.regions_fill
 
-    -- the image has the base's regions
+    -- The image keeps the regions of the accepted lines' list.
     pub image_kept : Kept (regions_of b) (regions_of q)
     image_kept = subst (Kept base) (sym regions_taken) wrote_all.holds.heads
 
@@ -105,7 +105,7 @@ module _ (job : Job) (labels : Table) (entry : List ℕ) where
     pub done_same : done_of q ≡ done_in q b
     done_same = ap (take q.counts.patches) order_same
 
-    -- 14 to 16 are the same
+    -- The checks 14 to 16 give both the same verdict.
     pub verdict_same : (at : ℕ) → Memᴰ at (order_of b) → patch_verdict job labels (regions_of q) (pendings_of q) at ≡ patch_verdict job labels (regions_of b) (pendings_of b) at
     verdict_same at m =
         ap (λ (s : List ℕ). patch_verdict job labels (regions_of q) s at) pendings_same

@@ -1,4 +1,4 @@
--- An accepted line is accepted by the accepted lines alone too, appends the same there, and keeps what holds (document 02, P12). Assumes nothing.
+-- A line that the script accepts is accepted by the accepted lines alone too; it appends the same, and what holds stays (document 02, P12). Assumes nothing.
 use Rattle.std.specs.Prelude.{ℕ, ◌+◌, ◌-◌, ◌*◌, ◌/◌, ◌≤◌, ◌<◌, Bool, true, false, ◌&&◌, ◌||◌, not, ◌≡◌, refl, length, get_or, take, drop, ltb, eqb, None}
 use Rattle.std.proofs.Common.{arith, inl, inr, sym, ap, ap₂, subst, ◌∙◌, length-append, length-take, length-drop, length-take-le, ltb-true, ltb-false, lt-ltb, eq-eqb, eqb-true}
 use mathlib.Core.List.{List, ◌++◌, Memᴰ}
@@ -119,7 +119,7 @@ module _ (job : Job) (labels : Table) (entry : List ℕ) (of : Job) (g : LineGiv
     breakpoints_good = sym (ap₂ (λ (n : ℕ) (s : List ℕ). breakpoint_buffer_layout n s) h.breakpoints_fill h.breakpoints_are) ∙ lists_q.breakpoints_good;
   }
 
-  -- the two calls differ in data bytes only
+  -- The two calls differ only in data bytes.
   abbrev on : Call
   on = emit_call g b
 
@@ -184,7 +184,7 @@ module _ (job : Job) (labels : Table) (entry : List ℕ) (of : Job) (g : LineGiv
   same_outcome : emitted of g q ≡ emit_outcome of (with_data (emit_call g b) (data_on q (region_on q g.region)))
   same_outcome = ap (emit_outcome of) calls
 
-  -- a buffer with the line in it, and the counts
+  -- The lists with the line appended, and the counts.
   abbrev target : Patching → Patching
   target p = record {
     regions = append p.regions 0 (grown (take b.counts.regions p.regions) (region_place (regions_of b) g.region) (word_bytes (call_pairs of (emit_call g b))));
@@ -255,7 +255,7 @@ module _ (job : Job) (labels : Table) (entry : List ℕ) (of : Job) (g : LineGiv
     };
   }
 
-  -- ---- the region list then
+  -- ---- the region list after the line
 
   room : b.counts.regions + length (word_bytes (call_pairs of (emit_call g b))) ≤ length b.regions
   room =
@@ -301,7 +301,7 @@ module _ (job : Job) (labels : Table) (entry : List ℕ) (of : Job) (g : LineGiv
       let w = h.regions_within in
       subst (λ (t : List ℕ). GrownList base t r (length ws)) (sym new_is) (grown_list base big r (length ws) h.good below grows_big (omega (arith, big_length, room)))
 
-  -- ---- the pendings then
+  -- ---- the pendings after the line
 
   keeps_old : Keeps (region_count (regions_of b)) (pendings_of b)
   keeps_old = (pending_good (region_count base) waiting h.pendings_good).1
@@ -316,7 +316,7 @@ module _ (job : Job) (labels : Table) (entry : List ℕ) (of : Job) (g : LineGiv
       ∙ build_passes (b.counts.pending + length waits) (append b.pending b.counts.pending waits)
       (still_short b.pending b.counts.pending waits done_b.pending_room w.0) (filled_within b.pending b.counts.pending waits done_b.pending_room) (region_count base) more.keeps
 
-  -- ---- patch order then
+  -- ---- patch order after the line
 
   abbrev n : ℕ
   n = q.counts.patches
@@ -344,7 +344,7 @@ module _ (job : Job) (labels : Table) (entry : List ℕ) (of : Job) (g : LineGiv
   count_then : q.counts.patches ≤ length (order_of (target b))
   count_then = omega (arith, ap length done_then, length-take n (order_of (target b)), length-take n (order_of b), h.count)
 
-  -- a patched pending is of a region up to the line's
+  -- A patched pending belongs to a region up to the line's.
   up_to_lem : (at : ℕ) → Memᴰ at (done_in job labels entry q b) → (pending_at (pendings_of b) at).region ≤ g.region
   up_to_lem at m =
       let first = up_to waiting (pendings_of (target b)) r more.added more.adds waiting in
@@ -394,7 +394,7 @@ module _ (job : Job) (labels : Table) (entry : List ℕ) (of : Job) (g : LineGiv
             clear = inl (omega (arith, i.from, z), omega (arith, i.to, z, ap (next base) z));
           }
 
-  -- ---- what holds then
+  -- ---- what holds after the line
 
   held_target : Held job labels entry (target q) (target b)
   held_target = record {
@@ -427,13 +427,13 @@ module _ (job : Job) (labels : Table) (entry : List ℕ) (of : Job) (g : LineGiv
         ∙ ap (grow f from body ws inner) h.undo;
   }
 
-  -- 2. the two hold as before
+  -- 2. What held between the two still holds.
   pub held_line : Held job labels entry (lined q g.region (emitted of g q)) (lined b g.region (emitted of g b))
   held_line =
       subst (λ (x : Patching). Held job labels entry x (lined b g.region (emitted of g b))) (sym lined_q)
       (subst (λ (x : Patching). Held job labels entry (target q) x) (sym lined_b) held_target)
 
-  -- 3. its pendings join the end of their region's part
+  -- 3. The line's pendings join the end of their region's part.
   joins_target : JoinsEnd q (target q) g.region
   joins_target =
       let s = pendings_same job labels entry q b h in

@@ -1,5 +1,5 @@
--- What a late line answers: 29 where it would be accepted or get 11 or 12, at the position behind its operands, and else what it would get;
--- nothing changes (document 02, P12). Assumes nothing.
+-- What a late line answers: 29, at the position behind its operands, if it would be accepted or get 11 or 12; any other refusal stays.
+-- Nothing changes (document 02, P12). Assumes nothing.
 use Rattle.std.specs.Prelude.{ℕ, zero, suc, ◌+◌, ◌*◌, ◌-◌, ◌^◌, Bool, ◌&&◌, length, leb, eqb, Err, None, Ok, Option, Some}
 use Rattle.std.proofs.Common.{arith, subst, ◌∙◌}
 use mathlib.Core.List.{List, []}
@@ -37,7 +37,7 @@ use Rattle.patching_laws.specs.Claims.{is_room, instead}
 use Rattle.patching_laws.proofs.LineLaws.{line_late}
 use Rattle.build_outcome.proofs.BuildLaws.{then_pass}
 
--- ---- of the checks of room with a region selected, each refusal is 11 or 12
+-- ---- with a region selected, a check of room refuses only with 11 or 12
 
 abbrev OfRoom : Verdict → Type 0
 OfRoom (Ok tt) = Unit {0}
@@ -81,7 +81,7 @@ module _ (job : Job) (g : LineGiven) (p : Patching) (pass : line_layouts g p ≡
   abbrev line : Location
   line = mnemonic_location g.mnemonic
 
-  -- the answer of a line that was read, of either call
+  -- The answer, in either call, of a line that was read.
   abbrev answer_of : Call → Line → LineAnswer → EmitAnswer
   answer_of c made a = (accept_or g.token_list line c.numbers c.lent made (answer_stop g.token_list line c.numbers c.lent made.pairs a)).answer
 
@@ -119,7 +119,7 @@ module _ (job : Job) (g : LineGiven) (p : Patching) (pass : line_layouts g p ≡
   by_line (Some made) = line_instead made
   by_line None = refl
 
-  -- its lists pass too
+  -- With no region selected the lists pass too.
   none_passes : call_stop (emit_call g p) ≡ Ok tt → call_stop (none_call g p) ≡ Ok tt
   unfolding list_stop layout_stop
   none_passes s =
@@ -134,7 +134,7 @@ module _ (job : Job) (g : LineGiven) (p : Patching) (pass : line_layouts g p ≡
       (then_pass (layout_verdict 4 (pending_buffer_layout p.counts.pending p.pending)) _ (ap (layout_verdict 4) c.pending_good) (ap (layout_verdict 5) l.breakpoints_good))))))
       n
 
-  -- the law, of a line whose lists pass: 1 and 2 are not due
+  -- The law for a line whose lists pass: neither 1 nor 2 comes up.
   pub late_answer_lem : call_stop (emit_call g p) ≡ Ok tt → is_late p g.region ≡ true
       → line_outcome job g p ≡ (record { answer = instead (mnemonic_location g.mnemonic) (emit_outcome job (emit_call g p)).answer; after = p })
   unfolding emit_outcome
@@ -144,7 +144,7 @@ module _ (job : Job) (g : LineGiven) (p : Patching) (pass : line_layouts g p ≡
       (ap (λ (v : Verdict). late_answer (list_outcome job (none_call g p) v).answer) (none_passes s)
       ∙ by_line (call_made job on) ∙ sym (ap (λ (v : Verdict). instead line (list_outcome job (emit_call g p) v).answer) s))
 
-  -- one that would be accepted
+  -- A late line that would be accepted gets 29.
   pub late_instead : (position : ℕ) (loaded : LoadForm) → (emit_outcome job (emit_call g p)).answer ≡ done_at position loaded → is_late p g.region ≡ true
       → line_outcome job g p ≡ (record { answer = refused_at (LateLine (mnemonic_location g.mnemonic)) position; after = p })
   unfolding emit_outcome

@@ -24,7 +24,7 @@ module _ (job : Job) (g : LineGiven) (p : Patching) where
   abbrev none : EmitAnswer
   none = (emit_outcome job (none_call g p)).answer
 
-  -- what passes its layouts, by whether no region is selected and whether the line is late
+  -- The outcome when the layouts pass: is no region selected, and is the line late?
   abbrev chosen : Bool → Bool → LineOutcome
   chosen nowhere late =
       elim nowhere [
@@ -42,7 +42,7 @@ module _ (job : Job) (g : LineGiven) (p : Patching) where
   unfolding line_outcome
   line_from position loaded d = ap (line_by job g p) d.lists_pass ∙ ap₂ chosen d.selected d.timely ∙ ap (lined_by p g.region emitted) d.answers
 
-  -- a late line answers as with no region selected, 29 for 10, and changes nothing
+  -- A late line answers as if no region were selected, but with 29 for 10; nothing changes.
   pub line_late : line_layouts g p ≡ Ok tt → eqb g.region no_region ≡ false → is_late p g.region ≡ true
       → line_outcome job g p ≡ (record { answer = late_answer (emit_outcome job (none_call g p)).answer; after = p })
   unfolding line_outcome
@@ -93,7 +93,7 @@ module _ (job : Job) (g : LineGiven) (p : Patching) where
       by_lists (Ok tt) x = by_choice (eqb g.region no_region) (is_late p g.region) x
 
   module _ (tokens : Bytes g.token_list) (mnemonic : Bytes g.mnemonic) where
-    -- with no region selected no line is accepted
+    -- Without a selected region no line is accepted.
     none_refused : (position : ℕ) (loaded : LoadForm) → none ≡ done_at position loaded → ⊥
     none_refused position loaded e = let h = (line_fits job (none_call g p) position loaded tokens mnemonic e).region_below in omega (arith, h)
 

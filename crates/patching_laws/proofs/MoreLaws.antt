@@ -1,4 +1,4 @@
--- The pendings of an accepted line stand behind the list and are of its region; the others read as before (document 02, P12). Assumes nothing.
+-- An accepted line's pendings stand behind the list and belong to its region; the others read as before (document 02, P12). Assumes nothing.
 use Rattle.std.specs.Prelude.{ℕ, ◌+◌, ◌*◌, ◌^◌, ◌≤◌, ◌<◌, ◌≡◌, refl, length, None, Option, Some}
 use Rattle.std.proofs.Common.{arith, ⊎_elim, sym, ap, ◌∙◌}
 use mathlib.Core.List.Memᴰ
@@ -22,7 +22,7 @@ module _ (regions : ℕ) where
   abbrev pub Keeps : List ℕ → Type 0
   Keeps s = first_bad (pending_ok regions s) (places s) ≡ None
 
-  -- new is old with pendings of region r behind it
+  -- `new` is `old` with pendings of region r behind it.
   pub record More (old new : List ℕ) (r : ℕ) : Type 0 where
     pub added : List ℕ
     pub adds : Added old new r added

@@ -1,5 +1,5 @@
--- Patch order with pendings of one region behind the list: those of the regions up to it, the new ones, the rest; so what is patched stays
--- first where the region is not below that of the last patched pending (document 02, P12). Assumes nothing.
+-- Patch order when pendings of one region are added behind the list: first the pendings of the regions up to it, then the new ones, then the rest.
+-- So what is patched stays first, if that region is not below the region patched last (document 02, P12). Assumes nothing.
 use Prim.Native.Nat.{ℕ, zero, suc, ◌+◌, ◌-◌, ◌≤◌, ◌<◌}
 use native.Mathlib.Omega.{arith}
 use mathlib.Core.List.Memᴰ
@@ -91,7 +91,7 @@ order_split (suc m) n pending r =
     ∙ ap (λ (l : List ℕ). keep pending r (places pending) ++ l) (order_split m n pending (r + 1) ∙ ap (λ (q : ℕ). order_from m pending (r + 1) ++ order_from n pending q) f)
     ∙ sym (append_assoc (keep pending r (places pending)) (order_from m pending (r + 1)) (order_from n pending (r + suc m)))
 
--- new is old with pendings of region r behind it, at the places `added`
+-- `new` is `old` with pendings of region r behind it, at the places `added`.
 pub record Added (old new : List ℕ) (r : ℕ) (added : List ℕ) : Type 0 where
   pub places_are : places new ≡ places old ++ added
   pub regions_same : (p : ℕ) → Memᴰ p (places old) → region_of new p ≡ region_of old p
@@ -111,7 +111,7 @@ module _ (old new : List ℕ) (r : ℕ) (added : List ℕ) (a : Added old new r 
       keep_both j ∙ ap (λ (l : List ℕ). keep old j (places old) ++ l) (keep_none new j added (λ p m e. n (sym (a.regions_new p m) ∙ e)))
       ∙ append-nil (keep old j (places old))
 
-  -- regions that are not r have the same order
+  -- Every region but r keeps its order.
   order_not : (n j : ℕ) → (r < j) ⊎ (j + n ≤ r) → order_from n new j ≡ order_from n old j
   unfolding order_from
   order_not zero j h = refl
@@ -159,7 +159,7 @@ module _ (old new : List ℕ) (r : ℕ) (added : List ℕ) (a : Added old new r 
       ∙ ap₂ (λ (x : List ℕ) (q : ℕ). x ++ order_from (n - (r + 1)) new q) up_to_new z
       ∙ ap (λ (l : List ℕ). up_to old ++ added ++ l) (order_not (n - (r + 1)) (r + 1) (inl (omega arith)))
 
-  -- what is patched is of a region up to r
+  -- A patched pending belongs to a region up to r.
   in_list : (ps : List ℕ) (i : ℕ) → i < length ps → Memᴰ (get_or ps i 0) ps
   in_list [] i h = absurd (omega arith)
   in_list (p ∷ ps) zero h = Memᴰ.head refl

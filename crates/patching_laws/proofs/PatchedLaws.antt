@@ -1,5 +1,5 @@
--- Patches of pendings that read as before, in regions that stand as before: growing and writing them, growing and putting them back, may
--- change places, and what passed 14 to 16 passes still; and the kept words put back undo the writes (document 02, P12). Assumes nothing.
+-- Patches whose pendings read as before, in regions that stand as before. Growing may come before or after writing them, and before or after
+-- putting them back. What passed 14 to 16 still passes. The kept words put back undo the writes (document 02, P12). Assumes nothing.
 use Rattle.std.specs.Prelude.{ℕ, ◌+◌, ◌*◌, ◌^◌, ◌%◌, ◌≤◌, ◌≡◌, refl, length, drop, Ok, Option, Some}
 use Rattle.std.proofs.Common.{arith, inl, inr, sym, subst, ◌∙◌, length-take, le-leb}
 use mathlib.Core.List.{List, [], ◌∷◌, Memᴰ}
@@ -28,18 +28,18 @@ put_back_inside regions pending kept i at ps d h =
     let x = pending_at pending at in
     rw (le-leb (x.offset + 4) (region_for regions x).size h, put_back)
 
--- a destination reads its name only
+-- A destination depends on its record only by the name.
 destination_name : (labels : Table) (s t : List ℕ) (l : AddressLabel) → name_bytes t l ≡ name_bytes s l → destination labels t l ≡ destination labels s l
 unfolding destination
 destination_name labels s t (Constant value) e = refl
 destination_name labels s t (Label name) e = ap (λ (x : List ℕ). plus_offset (labels.address name.location.source x) name.offset) e
 
--- the word of a patch, by where its region's data stands and its address
+-- A patch writes its word; its place and pc come from the region's start and address.
 abbrev word_at : (start address : ℕ) → Pending → Option ℕ → List ℕ → List ℕ
 word_at start address p to d = append d (start + p.offset) (le32_bytes (patched_word p.kind ((address + p.offset) % 2 ^ 32) (address_or 0 to) (le32 d (start + p.offset))))
 
 module _ (labels : Table) (old new pold pnew : List ℕ) (f from b : ℕ) (ws : List ℕ) (inner : from + 4 + b ≤ f) where
-  -- the pending at `at` reads as before, its region stands as before and is no shorter, and its patch is inside it, clear of what grows
+  -- The pending at `at` reads as before; its region stands as before and is no shorter; its patch lies inside it, clear of what grows.
   pub record Steady (at : ℕ) : Type 0 where
     pub reads : pending_at pnew at ≡ pending_at pold at
     pub name_same : name_bytes pnew (pending_at pnew at).label ≡ name_bytes pold (pending_at pold at).label
@@ -54,7 +54,7 @@ module _ (labels : Table) (old new pold pnew : List ℕ) (f from b : ℕ) (ws : 
     same_destination =
         destination_name labels pold pnew (pending_at pold at).label (ap (λ (p : Pending). name_bytes pnew p.label) (sym s.reads) ∙ s.name_same)
 
-    -- what passed passes
+    -- What passed still passes.
     pub verdict_stays : (job : Job) → patch_verdict job labels old pold at ≡ Ok tt → patch_verdict job labels new pnew at ≡ Ok tt
     verdict_stays job e =
         let p = pending_at pold at in
@@ -72,7 +72,7 @@ module _ (labels : Table) (old new pold pnew : List ℕ) (f from b : ℕ) (ws : 
         ∙ ap₂ (λ (start address : ℕ). word_at start address p (destination labels pnew p.label) d) s.start_same s.address_same
         ∙ ap (λ (to : Option ℕ). word_at (region_for old p).start (region_for old p).address p to d) same_destination
 
-    -- written, then grown
+    -- Writing and growing may change places.
     one_grown : (d : List ℕ) → Fits f from b ws inner d
         → (write_pending labels pold (region_for old (pending_at pold at)) (pending_at pold at) (grow f from b ws inner d) ≡ grow f from b ws inner (write_pending labels pold (region_for old (pending_at pold at)) (pending_at pold at) d))
         × Fits f from b ws inner (write_pending labels pold (region_for old (pending_at pold at)) (pending_at pold at) d)
@@ -101,7 +101,7 @@ module _ (labels : Table) (old new pold pnew : List ℕ) (f from b : ℕ) (ws : 
   shorter i n h (inl c) = inl (c.0, omega (arith, c.1))
   shorter i n h (inr c) = inr (omega arith)
 
-  -- put back, then grown
+  -- Putting back and growing may change places.
   pub put_back_grown : (kept : List ℕ) (i : ℕ) (ps : List ℕ) (d : List ℕ) → ((at : ℕ) → Memᴰ at ps → Steady at) → Fits f from b ws inner d
       → (put_back new pnew kept i ps (grow f from b ws inner d) ≡ grow f from b ws inner (put_back old pold kept i ps d)) × Fits f from b ws inner (put_back old pold kept i ps d)
   unfolding put_back

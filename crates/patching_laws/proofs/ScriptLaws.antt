@@ -1,5 +1,5 @@
--- P12's claims on every script, proved (document 02): after each call the image is the accepted lines' with the patches so far, each accepted
--- line is accepted where all come first, and the finished image or the first refusal is that of a whole build after them. Assumes nothing.
+-- P12's claims on every script, proved (document 02). After each call the image is that of the accepted lines, with the patches so far. A line
+-- accepted is also accepted if all lines come first. The finished image or the first refusal is a whole build's after them. Assumes nothing.
 use Rattle.std.specs.Prelude.{ℕ, ◌+◌, ◌<◌, ◌⊎◌, Bool, ◌≡◌, length, take, Err, Ok, Result}
 use native.Mathlib.Omega.{arith}
 use mathlib.Core.List.{List, [], ◌∷◌, ◌++◌, append_assoc, append-nil, Memᴰ}
@@ -47,13 +47,13 @@ module _ (job : Job) (labels : Table) (entry : List ℕ) where
       ap (λ (l : List Turn). xs ++ l) (accepted_append ts us q)
       ∙ sym (append_assoc xs (accepted_lines job labels entry ts q) (accepted_lines job labels entry us (run job labels entry ts q)))
 
-  -- ---- what holds between where a script has come to and its accepted lines alone
+  -- ---- what holds between the script's state and the state of its accepted lines alone
 
   pub data Between (q b : Patching) : Type 0 where
     fresh : q ≡ b → Start q → Between q b
     going : Held job labels entry q b → Opened job labels entry → Mode job labels entry q b → Between q b
 
-  -- a step's checks pass, or nothing has been patched and it is refused by them
+  -- A step's checks pass, or they refuse before anything is patched.
   pub data Open (q b : Patching) : Type 0 where
     shut : (r : Refusal) → step_checks labels entry q ≡ Err r → q ≡ b → Start q → Open q b
     passes : Held job labels entry q b → Opened job labels entry → Mode job labels entry q b → Open q b
@@ -88,7 +88,7 @@ module _ (job : Job) (labels : Table) (entry : List ℕ) where
       let l = line_lists g q d.lists_pass in
       held_line job labels entry of g tokens mnemonic q q (fresh_held job labels entry q s l.regions_listed.good l.pendings_good.good) position loaded d
 
-  -- what a line does: it is refused and changes nothing, or the accepted lines alone accept it too
+  -- A line is refused and changes nothing, or the accepted lines alone accept it too.
   pub record Lines (of : Job) (g : LineGiven) (q b : Patching) : Type 0 where
     pub between : Between (line_outcome of g q).after (run job labels entry (accepted_turn job labels entry (Line of g) q) b)
     pub again : accepted_lines job labels entry (accepted_turn job labels entry (Line of g) q) b ≡ accepted_turn job labels entry (Line of g) q
@@ -211,7 +211,7 @@ module _ (job : Job) (labels : Table) (entry : List ℕ) where
   pub accepted_first : AcceptedFirst job labels entry
   accepted_first ts p bytes s = (runs ts bytes p p (fresh refl s)).again
 
-  -- 2. a step that finds a pending does what 14 to 16 say of it
+  -- 2. A step that finds a pending does what the checks 14 to 16 say.
   pub step_next : (p : Patching) → step_checks labels entry p ≡ Ok tt → p.counts.state ≡ 0 → p.counts.patches < length (order_of p)
       → step_outcome job labels entry p
       ≡ next_by labels p (get_or (order_of p) p.counts.patches 0) (patch_verdict job labels (regions_of p) (pendings_of p) (get_or (order_of p) p.counts.patches 0))
@@ -299,7 +299,7 @@ module _ (job : Job) (labels : Table) (entry : List ℕ) where
 
   -- ---- later steps answer the same
 
-  -- refused by its checks: lines that are accepted leave them as they are
+  -- A step is refused by its checks: an accepted line does not change that.
   pub record Shut (r : Refusal) (q : Patching) : Type 0 where
     pub start : Start q
     pub stop : step_checks labels entry q ≡ Err r
@@ -404,7 +404,7 @@ module _ (job : Job) (labels : Table) (entry : List ℕ) where
         first_refusal = λ r x. ap (λ (o : BuildOutcome). o.answer) (f.refused r x);
       }
 
-  -- ---- one more for each step that finds one
+  -- ---- the count of patches grows by one for each step that finds a pending
 
   abbrev Counts : Patching → ℕ → Type 0
   Counts q m = (q.counts.state ≡ 2) ⊎ (q.counts.patches ≡ m)

@@ -1,4 +1,4 @@
--- A step keeps what holds, and answers by it: one more, the end, or a build's refusal (document 02, P12). Assumes nothing.
+-- A step keeps what holds, and answers accordingly: one more, the end, or a build's refusal (document 02, P12). Assumes nothing.
 use Rattle.std.specs.Prelude.{ℕ, zero, suc, ◌+◌, ◌*◌, ◌≤◌, ◌<◌, Bool, true, false, ◌≡◌, refl, length, get_or, take, drop, ltb, eqb, Err, None, Ok}
 use Rattle.std.proofs.Common.{add-one, arith, ⊎_elim, sym, ap₂, subst, ◌∙◌, length-take, length-drop, length-take-le, take-suc, ltb-true, ltb-false, eq-eqb, ne_eqb}
 use mathlib.Core.List.Memᴰ
@@ -51,7 +51,7 @@ module _ (job : Job) (labels : Table) (entry : List ℕ) where
   abbrev pub the_entry : ℕ
   the_entry = entry_address labels entry (entry_of entry (places entry))
 
-  -- a build's checks that read neither list
+  -- A build's checks that read neither the regions nor the pendings.
   pub record Opened : Type 0 where
     pub labels_good : labels.layout ≡ None
     pub entry_good : entry_layout entry ≡ None
@@ -63,7 +63,7 @@ module _ (job : Job) (labels : Table) (entry : List ℕ) where
     ended : q.counts.state ≡ 1 → q.counts.patches ≡ length (order_of b) → Mode q b
     refused : (r : Refusal) → q.counts.state ≡ 2 → q.counts.patches ≡ 0 → patches_verdict job labels (regions_of b) (pendings_of b) ≡ Err r → Mode q b
 
-  -- what a step says
+  -- What a step may say: one more patch, the end, or a refusal.
   pub data Says (q b : Patching) (o : StepOutcome) : Type 0 where
     more : o.answer ≡ Ok (Patched (q.counts.patches + 1)) → o.after.counts.patches ≡ q.counts.patches + 1 → Says q b o
     ends : o.answer ≡ Ok (Ended the_entry) → o.after.counts.patches ≡ length (order_of b) → o.after.counts.patches ≡ q.counts.patches → o.after.regions ≡ q.regions → o.after.counts.regions ≡ q.counts.regions → o.after.counts.state ≡ 1 → Says q b o
@@ -169,7 +169,7 @@ module _ (job : Job) (labels : Table) (entry : List ℕ) where
         undo = put_back_lem;
       }
 
-      -- accepted: one more is written
+      -- Accepted: the patch is written.
       module _ (pass : patch_verdict job labels (regions_of b) (pendings_of b) at ≡ Ok tt) where
         fits : (pending_at (pendings_of b) at).offset + 4 ≤ (region_for (regions_of b) (pending_at (pendings_of b) at)).size
         fits = let p = pending_at waiting at in (reached job labels waiting (region_for base p) p pass).inside
@@ -258,7 +258,7 @@ module _ (job : Job) (labels : Table) (entry : List ℕ) where
         let v = stop_at (patch_verdict job labels base waiting) order q.counts.patches r l h.passed e in
         record { held = held_back l; mode = refused r refl refl v; says = stops r refl v refl }
 
-    -- what a running step does, by whether a pending is left
+    -- What a running step does, depending on whether a pending is left.
     abbrev ran_on : Bool → StepOutcome
     ran_on left =
         elim left [
@@ -310,7 +310,7 @@ module _ (job : Job) (labels : Table) (entry : List ℕ) where
         subst (StepKeeps q b) (sym (step_checked o ∙ ap by_state e ∙ ap stopped f))
         (record { held = h; mode = refused r s n v; says = stops r (ap (ended_by the_entry) (patches_same ∙ v)) v s })
 
-    -- after a 14 to 16: the same answer, and nothing changes
+    -- After a refusal 14, 15 or 16: the same answer again, and nothing changes.
     pub step_refused : Opened → (r : Refusal) → q.counts.state ≡ 2 → patches_verdict job labels (regions_of b) (pendings_of b) ≡ Err r → step_outcome job labels entry q ≡ (record { answer = Err r; after = q })
     step_refused o r s v =
         let e : eqb q.counts.state 0 ≡ false = ne_eqb q.counts.state 0 (λ x. omega arith) in

@@ -1,4 +1,4 @@
--- Patches written one behind another into a buffer whose first bytes are the region list, and their kept words put back (document 02, P12).
+-- Patches written one after the other into a buffer that begins with the region list, and their kept words put back (document 02, P12).
 -- Assumes nothing.
 use Rattle.std.specs.Prelude.{ℕ, ◌+◌, ◌-◌, ◌*◌, ◌≤◌, ◌<◌, true, false, ◌≡◌, drop, leb}
 use native.Mathlib.Omega.{arith}
@@ -33,7 +33,7 @@ word_taken d f i h =
     omega (arith, get_or-take f d i 0 (omega arith), get_or-take f d (i + 1) 0 (omega arith), get_or-take f d (i + 2) 0 (omega arith), get_or-take f d (i + 3) 0 (omega arith))
 
 module _ (labels : Table) (regions pending : List ℕ) where
-  -- the pending at a place, written
+  -- Writes the pending at a place.
   abbrev pub write_at : ℕ → List ℕ → List ℕ
   write_at at d = write_pending labels pending (region_for regions (pending_at pending at)) (pending_at pending at) d
 
@@ -60,12 +60,12 @@ module _ (labels : Table) (regions pending : List ℕ) where
   unfolding write_pending
   write_is at d = refl
 
-  -- a buffer whose first f bytes have the regions' heads
+  -- A buffer whose first f bytes keep the regions' heads.
   pub record Holds (f : ℕ) (d : List ℕ) : Type 0 where
     pub filled : f ≤ length d
     pub heads : Kept regions (take f d)
 
-  -- what writing leaves: the rest, the length, and the heads
+  -- What a write keeps: the bytes behind f, the length, and the heads.
   pub record Wrote (f : ℕ) (d e : List ℕ) : Type 0 where
     pub length_same : length e ≡ length d
     pub rest_same : drop f e ≡ drop f d
@@ -95,7 +95,7 @@ module _ (labels : Table) (regions pending : List ℕ) where
       let later = wrote f ps (write_at p d) (λ at m. i at (Memᴰ.tail m)) one.holds in
       record { length_same = later.length_same ∙ one.length_same; rest_same = later.rest_same ∙ one.rest_same; holds = later.holds }
 
-  -- the filled part then: the patches written into it
+  -- The first f bytes are then the same bytes with the patches written into them.
   pub write_taken : (f : ℕ) (ps : List ℕ) (d : List ℕ) → ((at : ℕ) → Memᴰ at ps → Inside at) → Holds f d
       → take f (write_patches labels regions pending ps d) ≡ write_patches labels regions pending ps (take f d)
   unfolding write_patches
@@ -130,7 +130,7 @@ module _ (labels : Table) (regions pending : List ℕ) where
       ∙ ap (λ (y : List ℕ). append y (slot_at p) (part kept (4 * i) 4)) (back_append kept (i + 1) ps qs d (λ at m. h at (Memᴰ.tail m)) ∙ ap (λ (n : ℕ). back kept (i + 1) ps (back kept n qs d)) z)
       ∙ sym (put_back_inside regions pending kept i p ps (back kept (i + length (p ∷ ps)) qs d) x)
 
-  -- two buffers of kept words that agree on these
+  -- Two buffers that agree on these kept words put back the same.
   back_kept : (kept other : List ℕ) (i : ℕ) (ps d : List ℕ) → ((at : ℕ) → Memᴰ at ps → Fitting at) → ((j : ℕ) → j < i + length ps → part other (4 * j) 4 ≡ part kept (4 * j) 4)
       → back other i ps d ≡ back kept i ps d
   unfolding put_back
@@ -141,7 +141,7 @@ module _ (labels : Table) (regions pending : List ℕ) where
       ∙ ap₂ (λ (y w : List ℕ). append y (slot_at p) w) (back_kept kept other (i + 1) ps d (λ at m. h at (Memᴰ.tail m)) (λ j l. e j (omega arith))) (e i (omega arith))
       ∙ sym (put_back_inside regions pending kept i p ps d x)
 
-  -- one more patch, whose bytes are kept: putting back undoes it too
+  -- One more patch, whose bytes are kept: putting back undoes it too.
   pub undo_one : (kept : List ℕ) (ps : List ℕ) (at : ℕ) (d whole : List ℕ) → ((q : ℕ) → Memᴰ q ps → Fitting q) → Fitting at → slot_at at + 4 ≤ length d
       → 4 * length ps + 4 ≤ length kept → put_back regions pending kept 0 ps d ≡ whole
       → put_back regions pending (append kept (4 * length ps) (part d (slot_at at) 4)) 0 (ps ++ at ∷ []) (write_at at d) ≡ whole
@@ -164,7 +164,7 @@ module _ (labels : Table) (regions pending : List ℕ) where
       ∙ back_kept kept more 0 ps d h (λ j l. part_out kept (4 * n) bytes (4 * j) 4 (omega (arith, lb)) (omega arith) (inr (omega arith)))
       ∙ e
 
--- lists of regions in which the pendings' regions are the same
+-- Region lists that agree on the pendings' regions put back the same.
 pub back_regions : (regions other pending kept : List ℕ) (i : ℕ) (ps d : List ℕ) → ((at : ℕ) → Memᴰ at ps → region_for other (pending_at pending at) ≡ region_for regions (pending_at pending at))
     → put_back other pending kept i ps d ≡ put_back regions pending kept i ps d
 unfolding put_back

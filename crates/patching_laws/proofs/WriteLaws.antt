@@ -1,5 +1,5 @@
--- Patches of regions up to the one that grows: written and then grown is grown and then written; put back and then grown is grown and then
--- put back; and what passed its checks passes them still (document 02, P12). Assumes nothing.
+-- Patches of regions up to the one that grows. Growing may come before or after writing them, and before or after putting them back.
+-- What passed its checks still passes (document 02, P12). Assumes nothing.
 use Rattle.std.specs.Prelude.{ℕ, ◌+◌, ◌≤◌, ◌<◌, List, ◌⊎◌, ◌≡◌, take}
 use Rattle.std.proofs.Common.{arith, inl, inr, sym, ◌∙◌, length-take-le, get_or-take}
 use Rattle.std.proofs.Math.Path.{ap}
@@ -10,12 +10,12 @@ use Rattle.record.specs.Stores.{le16_bytes, append}
 use Rattle.record_growth.proofs.PutLaws.{Out, put_length, put_in_lem, put_out, insert, insert_length, insert_before, put_put, put_insert, take_put, put_front, put_over}
 use Rattle.patching_outcome.specs.Grown.{grown}
 
--- ---- a buffer whose first f bytes are a list of which the record at `from`, of b bytes, grows
+-- ---- a buffer that begins with a list of f bytes; its record at `from`, with a body of b bytes, grows
 module _ (f from b : ℕ) (ws : List ℕ) (inner : from + 4 + b ≤ f) where
   abbrev to : ℕ
   to = from + 4 + b
 
-  -- n bytes from i on that stand before the record, or in it behind its length
+  -- n bytes from i on that lie before the record, or inside it behind its length.
   abbrev pub Clear : (i n : ℕ) → Type 0
   Clear i n = ((from + 2 ≤ i) × (i + n ≤ from + 4 + b)) ⊎ (i + n ≤ from)
 
@@ -23,11 +23,11 @@ module _ (f from b : ℕ) (ws : List ℕ) (inner : from + 4 + b ≤ f) where
     pub room : f + length ws ≤ length d
     pub body : body_len (take f d) from ≡ b
 
-  -- the buffer then, as a line leaves it
+  -- The buffer that a line leaves.
   abbrev pub grow : List ℕ → List ℕ
   grow d = append d 0 (grown (take f d) from ws)
 
-  -- the list with the place and the length as numbers
+  -- The grown list, with the place and the length given as numbers.
   abbrev grown_by : List ℕ → List ℕ
   grown_by s = append (insert s (from + 4 + b) ws) from (le16_bytes (b + length ws))
 
@@ -88,7 +88,7 @@ module _ (f from b : ℕ) (ws : List ℕ) (inner : from + 4 + b ≤ f) where
         at : ℕ → Clear i 4 → Clear i 1
         at n h = one i h (omega arith) (omega arith)
 
-    -- clear bytes written
+    -- Clear bytes are written.
     module _ (i : ℕ) (a : List ℕ) (clear : Clear i (length a)) where
       end : i + length a ≤ to
       end = go clear

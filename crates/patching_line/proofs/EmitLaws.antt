@@ -1,4 +1,4 @@
--- The emit call of a line, in the list: it is the definition's call; refused it leaves every byte, accepted it leaves a grown record. Assumes nothing.
+-- A line's emit call, made in the list, is the definition's call. Refused, it leaves every byte; accepted, it leaves a grown record. Assumes nothing.
 use Rattle.std.specs.Prelude.{Ok, Err, ℕ, ◌+◌, ◌-◌, min, ◌≤◌, ◌<◌, Bool, true, false, ◌≡◌, refl, take, drop, leb}
 use Rattle.std.proofs.Common.{arith, ◌∙◌, take-append-drop, take_all, leb-true, leb-false}
 use mathlib.Core.List.{List, [], ◌++◌, append-nil}
@@ -57,7 +57,7 @@ nowhere_stays job tokens mnemonic descriptors pending breakpoints counts positio
         let c = nowhere tokens mnemonic descriptors pending breakpoints counts position in
         absurd (told_refuses (emit_outcome job c).counts done.position done.loaded (appends job c (omega arith)).told e)
 
--- the answer, with the buffers that the call leaves
+-- The answer, and the buffers that the call leaves.
 pub nowhere_is : (job : Job) (tokens mnemonic descriptors pending breakpoints : List ℕ) (counts : PatchCounts) (position : ℕ) (answer : EmitAnswer) (filled : FillCounts) (d p b : List ℕ)
     → emit_outcome job (nowhere tokens mnemonic descriptors pending breakpoints counts position) ≡ outcome_of answer filled (lent_of d p b)
     → (answer ≡ (emit_outcome job (nowhere tokens mnemonic descriptors pending breakpoints counts position)).answer) × (p ≡ pending) × (b ≡ breakpoints)
@@ -138,7 +138,7 @@ module _ (job : Job) (tokens mnemonic descriptors regions pending breakpoints : 
   adds : Appends region (counts_of counts g) (lent_of (data_in regions g.start g.size counts.regions room) pending breakpoints) (emit_outcome job call_in)
   adds = call_adds job tokens mnemonic descriptors regions pending breakpoints (counts_of counts g) call_in.numbers.place g.start counts.regions room stands.within stands.free
 
-  -- timely, by the call in the list
+  -- A line that is not late, from its call in the list.
   by_call : (kept : List ℕ) (a : EmitAnswer) → (emit_outcome job call_in).answer ≡ a → let p = patching_of regions pending breakpoints kept counts in
       timely job (given_of tokens mnemonic descriptors position region) p ≡ lined_by p region (emit_outcome job call_in) a
   by_call kept a e =

@@ -1,4 +1,4 @@
--- Whether a line is late, by the caller's record and the pending that was patched last; 29 where 10 would be. Assumes nothing.
+-- Whether a line is late: the caller's record and the pending patched last decide. 29 stands in for 10. Assumes nothing.
 use Rattle.std.specs.Prelude.{ℕ, ◌-◌, ◌≤◌, ◌<◌, Bool, true, false, ◌&&◌, ◌||◌, not, List, [], ◌≡◌, get_or, ltb, eqb}
 use Rattle.std.proofs.Common.{arith, sym, ap, ◌∙◌, get_or-take, lt-ltb, le-ltb, eq-eqb, ne_eqb}
 use Rattle.refusal.specs.declared.Refusal.{Refusal}
@@ -59,7 +59,7 @@ module _ (regions pending : List ℕ) (counts : PatchCounts) (region : ℕ) wher
         ap (ltb region) (ap (λ (x : Pending). x.region) e ∙ ap (region_of f) last_is)
         ∙ sym (running s ∙ ap (λ (b : Bool). b && ltb region (region_of f (get_or ps (counts.patches - 1) 0))) (lt-ltb 0 counts.patches some))
 
--- ---- 29 where 10 would be
+-- ---- 29 in place of 10
 module _ (r : Refusal) (n : Numbered) (e : n ≡ numbered r) where
   by_number : (b : Bool) → eqb (numbered r).number 10 ≡ b → late_refusal r ≡ elim b [ true ↦ LateLine (numbered r).location | false ↦ r ]
   by_number b h = ap (λ (x : Bool). elim x [ true ↦ LateLine (numbered r).location | false ↦ r ]) h

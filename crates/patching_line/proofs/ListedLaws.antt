@@ -1,4 +1,4 @@
--- The region list of a line, by its cases, and that a place it names is at most the limit. Assumes nothing.
+-- The region list of a line, case by case; a place it names is at most the limit. Assumes nothing.
 use Rattle.std.specs.Prelude.{ℕ, ◌≤◌, ◌<◌, Bool, true, false, ◌||◌, List, ◌≡◌, refl, length, take, ltb, eqb, None, Option, Some}
 use Rattle.std.proofs.Common.{arith, sym, ap, ap₂, ◌∙◌, length-take-le, eq-eqb, ne_eqb}
 use Rattle.std.proofs.lemmas.Bool.{lt-leb}
@@ -39,7 +39,7 @@ module _ (region fill : ℕ) (s : List ℕ) where
       let f = filled_good fill s (region_layout (take fill s)) e in
       rw (ok, listed_in) (ap (filled_layout fill s) (ap₂ only_listed h f.2) ∙ filled_kept fill s (only_listed b None) f.0 f.1)
 
-  -- where the list's own layout comes first, and the region selected after it
+  -- The list's own layout is checked first, then the selected region.
   pub listed_or : region_number_ok region ≡ true → (given answer : Option ℕ) → given ≡ filled_layout fill s (region_layout (take fill s))
       → (given ≡ None → answer ≡ only_listed (is_listed (take fill s) region) None) → ((p : ℕ) → given ≡ Some p → answer ≡ Some p) → answer ≡ listed_in region fill s
   listed_or ok None answer e good bad = good refl ∙ sym (listed_by ok (sym e) (is_listed (take fill s) region) refl)

@@ -1,4 +1,4 @@
--- The checks of 1 of a step and of a line, in facts (document 02, P12). Assumes nothing.
+-- What the checks of refusal 1 say, for a step and for a line (document 02, P12). Assumes nothing.
 use Rattle.std.specs.Prelude.{ℕ, ◌+◌, ◌*◌, ◌≤◌, ◌<◌, List, [], ◌∷◌, Bool, true, false, ◌||◌, ◌≡◌, refl, length, leb, ltb, eqb, None, Ok, Option, Some}
 use Rattle.std.proofs.Common.{arith, sym, ap, ap₂, ◌∙◌, leb-true, le-leb, ltb-true, lt-ltb}
 use Rattle.record.specs.Records.{next, whole, places, first_bad, limit}
@@ -76,7 +76,7 @@ listed_from region p h =
     (filled_kept p.counts.regions p.regions (only_listed (is_listed (regions_of p) region) (region_layout (regions_of p))) h.within.0 h.within.1
     ∙ ap₂ only_listed h.listed h.good)
 
--- a listed region that is not that of none
+-- A listed region that is not the number for none stands in the list.
 pub listed_below : (regions : List ℕ) (region : ℕ) → is_listed regions region ≡ true → eqb region no_region ≡ false → region < region_count regions
 listed_below regions region e n = ltb-true region (region_count regions) (go (eqb region no_region) n e)
   where

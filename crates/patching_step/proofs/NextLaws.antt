@@ -27,7 +27,7 @@ use Rattle.patching_step.specs.Undo.{PatchAt, PatchesAt}
 use Rattle.patching_step.specs.Steps.{StepLists, InOrder, next_at}
 use Rattle.refusal.specs.Verdicts.{Verdict}
 
--- what passes ends within its region's data
+-- A patch that passes ends within its region's data.
 stop_inside : (job : Job) (g : Region) (q : Pending) (address : Option ℕ) → patch_stop job g q address ≡ Ok tt → q.offset + 4 ≤ g.size
 stop_inside job g q address e = go (leb (q.offset + 4) g.size) refl e
   where
@@ -58,7 +58,7 @@ module _ (regions pending kept : List ℕ) (counts : PatchCounts) (lists : StepL
         region_is = order_region (filled_regions regions counts) (filled_pendings pending counts) lists.lists.pending_good i (rw (← in_order) h);
       })
 
-  -- the first of them, with their kept words
+  -- The first n of them, with their kept words.
   pub patches_at : (n : ℕ) → n ≤ length order → PatchesAt (filled_regions regions counts) (filled_pendings pending counts) (take n order) kept
   patches_at n h =
       let l = length-take-le n order h in
@@ -67,7 +67,7 @@ module _ (regions pending kept : List ℕ) (counts : PatchCounts) (lists : StepL
         room = omega (arith, l, order_short.1);
       }
 
--- ---- the next one, of which the record, the region and the destination are given
+-- ---- the next pending, with its record, region and destination given
 module _ (job : Job) (labels : Table) (regions pending kept : List ℕ) (counts : PatchCounts) (at : ℕ) (q : Pending) (g : Region) (address : Option ℕ)
     (read : q ≡ pending_at (filled_pendings pending counts) at)
     (numbered : g ≡ region_at (filled_regions regions counts) (region_place (filled_regions regions counts) q.region))
@@ -92,7 +92,7 @@ module _ (job : Job) (labels : Table) (regions pending kept : List ℕ) (counts 
       ap₂ (λ (x : Region) (y : Pending). write_word x y address d) region_for_lem read
       ∙ ap (λ (a : Option ℕ). write_word (region_for (filled_regions regions counts) (pending_at (filled_pendings pending counts) at)) (pending_at (filled_pendings pending counts) at) a d) (sym address_is)
 
-  -- what passes ends within the list
+  -- A patch that passes ends within the list.
   pub next_inside : PatchAt (filled_regions regions counts) (filled_pendings pending counts) at → region_layout (filled_regions regions counts) ≡ None
       → (v : Verdict) → v ≡ patch_stop job g q address → v ≡ Ok tt → g.start + q.offset + 4 ≤ length (filled_regions regions counts)
   next_inside a good v e s =

@@ -41,7 +41,7 @@ module _ (job : Job) (labels : Table) (entry : ℕ) (regions pending kept : List
       rw (left_is true (lt-ltb counts.patches (length order) h), running_step)
       (subst (λ (l : List ℕ). StepsTo (next_at job labels (get_or l counts.patches 0)) regions pending kept counts answer c d k) in_order f breakpoints)
 
--- ---- where it does not
+-- ---- while patching does not run
 module _ (job : Job) (labels : Table) (entry : ℕ) (regions pending : List ℕ) (counts : PatchCounts) where
   pub stop_ended : counts.state ≡ 1 → Stopped job labels entry regions pending counts (Ok (Ended entry))
   stop_ended e breakpoints kept = rw (eq-eqb counts.state 1 e, stopped_step)

@@ -1,4 +1,4 @@
--- Patches put back one by one, the last first: what is left to do, and that the regions stand where they stood. Assumes nothing.
+-- Patches put back one by one, the last first: what is left to do; the regions stay where they were. Assumes nothing.
 use Rattle.std.specs.Prelude.{ℕ, ◌+◌, ◌*◌, ◌≤◌, ◌<◌, List, [], ◌∷◌, ◌++◌, Bool, true, false, ◌⊎◌, ◌≡◌, refl, length, get_or, take, drop, leb, ltb, None, min}
 use Rattle.std.specs.List.{push}
 use Rattle.std.proofs.Common.{arith, add-one, inl, inr, sym, ap, ap₂, subst, ◌∙◌, length-append, length-drop, length-take, length-take-le, take-suc, take_at, drop_at, get_or-take, leb-true, le-leb, ltb-true, ltb-false}
@@ -18,7 +18,7 @@ use Rattle.build_outcome.proofs.KeptLaws.{InData, in_data, Kept, kept_first, reg
 use Rattle.patching_outcome.specs.Step.{put_back}
 use Rattle.patching_step.specs.Undo.{back_at, PatchAt, FilledRegions, PatchesAt}
 
--- ---- one patch, of which the record and the region were read
+-- ---- one patch, whose record and region were read
 module _ (regions pending bytes : List ℕ) (at : ℕ) (d : List ℕ) (p : Pending) (g : Region) (read : p ≡ pending_at pending at) (numbered : g ≡ region_at regions (region_place regions p.region)) where
   region_for_lem : g ≡ region_for regions (pending_at pending at)
   region_for_lem = numbered ∙ ap (λ (q : Pending). region_for regions q) read
@@ -54,7 +54,7 @@ pub back_none : (regions pending kept : List ℕ) (i : ℕ) (ps d : List ℕ) �
 unfolding put_back
 back_none regions pending kept i ps d e = ap (λ (l : List ℕ). put_back regions pending kept i l d) e
 
--- ---- four bytes stored in a region's data leave the regions where they are
+-- ---- four bytes stored in a region's data move no region
 module _ (regions d : List ℕ) (k : Kept regions d) (r i : ℕ) (bs : List ℕ) (four : length bs ≡ 4) (a : InData regions r i) where
   room : i + length bs ≤ length d
   room = omega (arith, a.within, k.length_same)
@@ -68,7 +68,7 @@ module _ (regions d : List ℕ) (k : Kept regions d) (r i : ℕ) (bs : List ℕ)
   stays j (inl h) = put_out d i bs room j (inl h)
   stays j (inr h) = put_out d i bs room j (inr (omega arith))
 
-  -- a head stands before the data of its own region and of those after it, and after the data of those before it
+  -- A region's head stands before its own data and later regions' data, and behind earlier regions' data.
   outside : (q : ℕ) → q < region_count regions → (j : ℕ) → region_place regions q ≤ j → j < region_place regions q + 8 → (j < i) ⊎ (i + 4 ≤ j)
   outside q h j x y = go (ltb q r) refl (ltb r q) refl
     where
@@ -100,7 +100,7 @@ module _ (regions d : List ℕ) (k : Kept regions d) (r i : ℕ) (bs : List ℕ)
         heads = λ q h j x y. stays j (outside q h j x y) ∙ k.heads q h j x y;
       }
 
--- ---- the last of the places that are left, and of the kept bytes that are left, and what is left then
+-- ---- the last of the places and of the kept bytes that are left, and what is left without them
 pub record LastOf (order kept before places words : List ℕ) (at : ℕ) (bytes : List ℕ) : Type 0 where
   pub some : length before ≡ length places + 1
   pub place_is : at ≡ get_or order (length places) 0
@@ -157,7 +157,7 @@ module _ (regions pending kept order whole : List ℕ) (fill n : ℕ) (d : List 
   here : n < length order
   here = omega (arith, u.left_few)
 
-  -- the patch's region is the same in the buffer
+  -- The patch has the same region in the buffer.
   pub turn_patch : PatchAt (take fill d) pending (get_or order n 0)
   turn_patch = let p = each.each n here in record { pending_is = p.pending_is; region_is = rw u.heads.places_same p.region_is }
 

@@ -37,7 +37,7 @@ pub line_most : (a : EmitAnswer) → length (line_text a) ≤ 144
 line_most (Ok done) = omega (arith, position_most done.position)
 line_most (Err refused) = omega (arith, length-append (refused_line (numbered refused.refusal)) (position_line refused.position), refused_most (numbered refused.refusal), position_most refused.position)
 
--- a line's text by the text of an emit call's answer
+-- A line's text, from the text of its emit call's answer.
 pub accepted_is : (a : EmitAnswer) → is_ok a ≡ true → line_text a ≡ bytes_of "accepted\n" ++ answer_text a
 accepted_is (Ok done) e = refl
 accepted_is (Err refused) e = let z : ◌≡◌ {A = ℕ} 0 1 = cc in absurd (omega arith)
@@ -70,7 +70,7 @@ end_length c regions pending breakpoints =
     let two = one ++ bytes_line (bytes_of "pending ") pending in
     omega (arith, length-append two (bytes_line (bytes_of "breakpoints ") breakpoints), length-append one (bytes_line (bytes_of "pending ") pending), length-append (counts_text c) (bytes_line (bytes_of "regions ") regions))
 
--- with buffers that are as long as they are held
+-- The text of the end, with buffers held up to one byte over the limit.
 pub end_most : (c : PatchCounts) (regions pending breakpoints : List ℕ) → length regions ≤ 65537 → length pending ≤ 65537 → length breakpoints ≤ 65537
     → length (end_text c regions pending breakpoints) ≤ 400000
 end_most c regions pending breakpoints r p b =
@@ -90,7 +90,7 @@ pub not_zero : (n : ℕ) → (n ≡ 0 → ⊥) → 0 < n
 not_zero zero h = absurd (h refl)
 not_zero (suc n) h = omega arith
 
--- a byte of a turn is one of the script's
+-- A turn's byte is a byte of the script.
 pub turn_there : (s : List ℕ) → leb (turn_byte s) 1 ≡ true → 1 ≤ length s
 turn_there [] e = let z : ◌≡◌ {A = ℕ} 0 1 = cc in absurd (omega arith)
 turn_there (b ∷ bs) e = omega arith
@@ -171,7 +171,7 @@ module _ (g : Given) (p : Patching) (s : List ℕ) where
           let z : most_turns - turns ≡ 0 = omega arith in
           ap (λ (n : ℕ). script_text n g p s) z
 
--- ---- where the loop has come to: what is printed is the front of the whole text
+-- ---- where the loop is: what it has printed begins the whole text
 pub record Here (whole : List ℕ) (g : Given) (p : Patching) (rest out : List ℕ) (turns : ℕ) : Type 0 where
   pub few : turns ≤ most_turns
   pub short : length out ≤ 144 * turns
@@ -215,7 +215,7 @@ module _ {whole : List ℕ} {g : Given} {p : Patching} {rest out : List ℕ} {tu
       → Here whole g p_after (behind_turn rest) out_after (turns + 1)
   here_next e = let b = here_turn e in here_then b.0 (leb-true (turn_byte rest) 1 b.1)
 
-  -- behind the last turn only the lines of the end are left: no turn is next, or there have been the most
+  -- Behind the last turn only the end's lines are left: no turn follows, or the limit of turns is reached.
   pub here_over : 1 < turn_byte rest → whole ≡ out ++ end_text p.counts p.regions p.pending p.breakpoints
   here_over e = h.left ∙ ap (λ (l : List ℕ). out ++ l) (script_over g p rest (most_turns - turns) (lt-leb (turn_byte rest) 1 e))
 

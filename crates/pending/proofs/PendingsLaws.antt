@@ -1,4 +1,4 @@
--- What a pending's test says, in facts, and what a list of pendings that keeps its layout holds. Assumes nothing.
+-- What a pending has when its test passes, and what a pending list has that keeps its layout. Assumes nothing.
 use Rattle.std.specs.Prelude.{ℕ, ◌+◌, ◌≤◌, ◌<◌, List, true, ◌&&◌, ◌≡◌, length, None, Some}
 use Rattle.std.proofs.Math.Bool.{and-eq-true_iff}
 use Rattle.std.proofs.Common.{ap, ◌∙◌, leb-true, ltb-true, eqb-true}
@@ -43,7 +43,7 @@ module _ (regions : ℕ) (s : List ℕ) (at : ℕ) where
   pub pending_kind : pending_ok regions s at ≡ true → patch_kind_of s at ≤ 4
   pending_kind e = leb-true (patch_kind_of s at) 4 (tests e).kind_ok
 
--- the layout within the limit is that of the records, and past the limit it is broken there
+-- Within the limit, the list's layout is that of its records; past the limit it breaks at the limit.
 pub pending_kept : (regions : ℕ) (s : List ℕ) → length s ≤ limit → pending_layout regions s ≡ layout_from (pending_ok regions s) s 0
 unfolding pending_layout
 pending_kept regions s h = limit_kept s (first_bad (pending_ok regions s) (places s)) h ∙ ap (first_bad (pending_ok regions s)) (places_all s)

@@ -21,14 +21,14 @@ use Rattle.pending.specs.declared.InstructionLabelKind.TheVariants.{Branch}
 use Rattle.pending.specs.declared.Origin.{Origin}
 use Rattle.pending.specs.declared.Pending.{Pending}
 
--- a buffer whose first `fill` bytes are pendings of one of `regions` regions, what is to be written behind them, and room for it
+-- A buffer that begins with `fill` bytes of pendings of `regions` regions, with room behind them for the pending to be written.
 pub record Writable (regions : ℕ) (buffer : List ℕ) (fill : ℕ) (names : List ℕ) (origin : Origin) (waits : InstructionLabel) : Type 0 where
   pub kept : first_bad (pending_ok regions (take fill buffer)) (places (take fill buffer)) ≡ None
   pub room : fill + length (pending_bytes names origin waits) ≤ length buffer
   pub region_ok : origin.region < regions
   pub fits : PendingFits names origin waits
 
--- the pending as it is read where it was written: its name, if it has one, stands in its own record
+-- The pending as it reads where it was written: its name, if it has one, stands in its own record.
 abbrev pub pending_as_read : (names : List ℕ) (fill : ℕ) → Origin → InstructionLabel → Pending
 pending_as_read names fill origin waits = record {
   region = origin.region;
@@ -38,7 +38,7 @@ pending_as_read names fill origin waits = record {
   label = label_as_read names (fill + 36) waits.label;
 }
 
--- the list then, as it was and as it is
+-- The list after the write: it keeps its layout, and the new pending reads back.
 pub record Written (regions : ℕ) (old new : List ℕ) (fill : ℕ) (names : List ℕ) (origin : Origin) (waits : InstructionLabel) : Type 0 where
   pub keeps : first_bad (pending_ok regions new) (places new) ≡ None
   pub places_are : places new ≡ places old ++ fill ∷ []
@@ -47,7 +47,7 @@ pub record Written (regions : ℕ) (old new : List ℕ) (fill : ℕ) (names : Li
   pub others : (at : ℕ) → Memᴰ at (places old)
       → (pending_at new at ≡ pending_at old at) × (name_bytes new (pending_at new at).label ≡ name_bytes old (pending_at old at).label)
 
--- behind a list
+-- Writes behind a list.
 pub written_behind : (regions : ℕ) (old names : List ℕ) (origin : Origin) (waits : InstructionLabel) → first_bad (pending_ok regions old) (places old) ≡ None
     → origin.region < regions → PendingFits names origin waits → Written regions old (old ++ pending_bytes names origin waits) (length old) names origin waits
 written_behind regions old names origin waits kept region_ok fits =
@@ -63,7 +63,7 @@ written_behind regions old names origin waits kept region_ok fits =
           (pending_before old bytes at i, pending_name_before old bytes at i);
     }
 
--- into a buffer with room for it
+-- Writes into a buffer with room.
 pub written_reads_back : (regions : ℕ) (buffer : List ℕ) (fill : ℕ) (names : List ℕ) (origin : Origin) (waits : InstructionLabel)
     → Writable regions buffer fill names origin waits
     → Written regions (take fill buffer) (filled_with buffer fill (pending_bytes names origin waits)) fill names origin waits

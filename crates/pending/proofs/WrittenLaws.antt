@@ -1,4 +1,4 @@
--- Lemmas on a pending in a list with more behind it, and on one that was just written. Assumes nothing.
+-- Lemmas on a pending of a list that has more behind it, and on one just written. Assumes nothing.
 use Rattle.std.specs.Prelude.{ℕ, ◌+◌, ◌^◌, ◌≤◌, ◌<◌, List, [], ◌∷◌, ◌++◌, Bool, true, ◌&&◌, ◌≡◌, leb, ltb, eqb}
 use Rattle.std.proofs.Common.{arith, append_assoc, sym, ap, ap₂, subst, ◌∙◌, eq-eqb, le-leb, lt-ltb}
 use Rattle.std.proofs.Math.Bool.{and-eq-true_iff}
@@ -26,7 +26,7 @@ use Rattle.pending.specs.declared.InstructionLabelKind.TheVariants.{Branch, Jump
 use Rattle.pending.specs.declared.Origin.{Origin}
 use Rattle.pending.specs.declared.Pending.{Pending}
 
--- the test of the body and the pending by what they read
+-- The body's test, and the pending, from what they read.
 abbrev body_of : (regions kind length region patch : ℕ) → Bool → Bool
 body_of regions kind length region patch label = eqb kind 36 && leb 32 length && ltb region regions && leb patch 4 && label
 
@@ -126,7 +126,7 @@ module _ (names l : List ℕ) (origin : Origin) (waits : InstructionLabel) (fits
   kind_behind : patch_kind_of (l ++ bytes) (length l) ≡ kind_number waits.kind
   kind_behind = byte_behind l bytes 18 (length l + 18) refl
 
-  -- where the name stands, from the label's place and from the record's
+  -- The name's place, counted from the label and from the record.
   name_place : length l + 19 + 17 ≡ length l + 36
   name_place = omega arith
 

@@ -49,7 +49,7 @@ use Rattle.pseudo_meaning.specs.Premises.{Placed, Reached}
 use Rattle.pseudo_meaning.proofs.OwnPatchesLaws.{pairs_are, formats_32, value_plain, branch_patches, OneOwn, one_own}
 use Rattle.pseudo_meaning.proofs.ExitLaws.{emitted_words, patched, words_count, plain_word}
 
--- ---- lists that differ in their last word
+-- ---- lists that differ only in their last word
 
 last_only : (ws : List ℕ) (w b f j : ℕ) → j < length ws + 1 → get_or (ws ++ w ∷ b ∷ []) j 0 ≡ get_or (ws ++ w ∷ f ∷ []) j 0
 last_only [] w b f zero h = refl
@@ -180,7 +180,7 @@ module _ (site : LineInBuild) (pl : Placed site) (v : InstructionValue) (label :
         ∙ ap₂ (λ (x y : ℕ). finished_word Branch x y (le32 site.regions (slot_at site.regions site.pending p))) pc_is dest_is
         ∙ ap (finished_word Branch branch_pc dest) (ap (le32 site.regions) slot_is ∙ e)
 
-    -- the distance: by the premise, or since a build by the manual took it
+    -- The branch is near: by the premise, or because a manual build accepted it.
     pub near : (after branch_pc / 4 ≤ dest / 4 + 32768) × (dest / 4 ≤ after branch_pc / 4 + 32767)
     near = go site.build refl
       where
@@ -199,7 +199,7 @@ module _ (site : LineInBuild) (pl : Placed site) (v : InstructionValue) (label :
     pub in_32 : dest < 2 ^ 32
     in_32 = rw dest_is at (dest_lt site.build site.labels site.entry site.regions site.pending pl.built p in_list)
 
-    -- so all words of the line are as they were emitted but the last, which is finished
+    -- So all words of the line are as emitted, except the last, which is finished.
     pub exit_words : (j : ℕ) → j < length loads + 2
         → le32 (patched site) ((line_region site).start + (line_offset site + 4 * j)) ≡ get_or (loads ++ line.compare ∷ finished_word Branch branch_pc dest line.jump ∷ []) j 0
     exit_words j h = go (eqb j (length loads + 1)) refl

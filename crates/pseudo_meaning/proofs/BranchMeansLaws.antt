@@ -30,7 +30,7 @@ opcode_lt true = omega arith
 opcode_lt false = omega arith
 
 module _ (site : LineInBuild) where
-  -- what a run of the words does, the whole dry run does
+  -- The whole dry run does what a run of the words does.
   branches : (pl : Placed site) (m : Machine) (rd : Ready (line_pc site) m) (ws : List ℕ) (n w dest : ℕ) (holds : Bool)
       → length ws ≡ n + 2 → line_words site ≡ n + 2 → Standing (image_of (patched site)) (line_pc site) ws
       → GoesBy (image_of (patched site)) (line_pc site) n w (given m rd.all_32) holds → branch_target ((line_pc site + 4 * n + 4) % 2 ^ 32) w ≡ dest

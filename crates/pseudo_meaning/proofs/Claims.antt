@@ -38,7 +38,7 @@ pub names : Names
 unfolding pseudo_in same_bytes
 names = record { blt = refl; bgt = refl; ble = refl; bge = refl; bltu = refl; bgtu = refl; bleu = refl; bgeu = refl; sge = refl; sgt = refl; sle = refl; sgeu = refl; sgtu = refl; sleu = refl; seq = refl; sne = refl; abs = refl }
 
--- of every line in every build, by whatever jobs
+-- Holds for every line in every build, whatever their jobs.
 pub record Claims (site : LineInBuild) : Type 0 where
   -- these mean what they say
   pub blt : BranchMeans site false true

@@ -1,4 +1,4 @@
--- A comparison by one less-than, turned over or not. Assumes nothing.
+-- A comparison made by one less-than, whose bit may be turned over. Assumes nothing.
 use Rattle.std.specs.Prelude.{ℕ, ◌≡◌, refl, Bool, true, false, not, leb, ltb, eqb, ℤ, pos, negsuc}
 use Rattle.std.proofs.Common.{sym, ltb-true, ltb-false, le-leb}
 use Rattle.std.specs.Int.Bits.{bit_xor}
@@ -8,7 +8,7 @@ use Rattle.field.specs.Bit.{bit}
 use Rattle.machine.specs.Numbers.{signed}
 use Rattle.pseudo_meaning.specs.Comparisons.{compares}
 
--- what slt finds: the operands are exchanged for greater than
+-- What slt finds; for greater-than the operands are exchanged.
 abbrev pub less : (greater : Bool) → (a b : ℕ) → Bool
 less true a b = lt_z (signed b) (signed a)
 less false a b = lt_z (signed a) (signed b)
@@ -36,7 +36,7 @@ compares_by false true a b = refl
 compares_by true false a b = not_less (signed b) (signed a)
 compares_by false false a b = not_less (signed a) (signed b)
 
--- ---- a bit, looked at by bne and beq, and turned over by xori
+-- ---- a bit: bne and beq test it, xori turns it over
 
 pub bit_set : (t : Bool) → not (eqb (bit t) 0) ≡ t
 bit_set true = refl

@@ -48,7 +48,7 @@ module _ (site : LineInBuild) (pl : Placed site) where
   pub kept : Kept site.regions (patched site)
   kept = finished_kept site.build site.labels site.entry site.regions site.pending pl.built
 
-  -- words that are read of the finished list at the line's place stand in the image from its pc on
+  -- Words read from the finished list at the line's place also stand in the image, from the line's pc on.
   pub exit_standing : (ws : List ℕ) → length ws ≤ line_words site
       → ((j : ℕ) → j < length ws → le32 (patched site) ((line_region site).start + (line_offset site + 4 * j)) ≡ get_or ws j 0)
       → Standing (image_of (patched site)) (line_pc site) ws
@@ -65,7 +65,7 @@ module _ (site : LineInBuild) (pl : Placed site) where
       (standing_words (image_of d) r (image_listed site.regions d kept r l) al zl alone ws (line_offset site) (omega (arith, z, n, s.within))
       (λ j k. image_word site.regions d kept r l (line_offset site + 4 * j) (omega (arith, n, s.within)) ∙ f j k))
 
-  -- a word of the line that none of its own patches touches is as it was emitted
+  -- A word that none of the line's own patches touches is as it was emitted.
   pub plain_word : Words32 (emitted_words site) → (j : ℕ) → j < line_words site
       → ((q : ℕ) → Memᴰ q site.own → ((pending_at site.pending q).offset + 4 ≤ line_offset site + 4 * j) ⊎ (line_offset site + 4 * j + 4 ≤ (pending_at site.pending q).offset))
       → (or_other : (q : ℕ) → In site.pending q → Memᴰ q site.own ⊎ (Memᴰ q site.own → ⊥))
@@ -78,7 +78,7 @@ module _ (site : LineInBuild) (pl : Placed site) where
       ∙ sym (part_word site.regions (line_region site).start (line_region site).size (line_offset site + 4 * j) (omega (arith, s.within)))
       ∙ words_there (line_data site) (line_offset site) (call_pairs site.job site.call) w s.words_there j h
 
-  -- a line without patches of its own stands there as it was emitted
+  -- A line without patches of its own stands in the image as it was emitted.
   pub plain_standing : call_patches site.job site.call ≡ [] → Words32 (emitted_words site) → Standing (image_of (patched site)) (line_pc site) (emitted_words site)
   plain_standing ps w =
       let none_own : site.own ≡ [] = no_own site.pending site.own (pl.stands.own_are ∙ ps) in

@@ -57,15 +57,15 @@ branch_run job name m = line_run (alone job name to_ten (0 ∷ [])) m
 abbrev set_run : Job → (name : List ℕ) → Machine → DryRun
 set_run job name m = line_run (alone job name into_t2 []) m
 
--- the machine at which it stops for a word, and after how many steps
+-- The run stops at this machine for a word, after this many steps.
 abbrev stops_at : Machine → (steps : ℕ) → DryRun
 stops_at m steps = record { machine = m; answer = stopped Word steps }
 
 abbrev begin : Machine
 begin = holding 0 0 7 0x00400000
 
--- Each starts from 00400000, with 7 in $t2. The pc was due at 00400010 where the comparison holds and behind the line where it does not, and
--- 1 or 0 in $t2.
+-- Each run starts at 00400000 with 7 in $t2. A branch was due to go to 00400010 if the comparison holds, else behind the line;
+-- a set was due to leave 1 or 0 in $t2.
 pub record Failing (job : Job) : Type 0 where
   -- 0 < 0 does not hold: 00400008 was due
   pub bltu : branch_run job (bytes_of "bltu") begin ≡ stops_at begin 0

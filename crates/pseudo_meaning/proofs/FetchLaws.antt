@@ -1,4 +1,4 @@
--- The word of a region that overlaps no other is the one that a dry run reads. Assumes nothing.
+-- In a region that overlaps no other, a dry run reads the region's own word. Assumes nothing.
 use Rattle.std.specs.Prelude.{ℕ, zero, suc, ◌+◌, ◌*◌, ◌%◌, ◌^◌, ◌<◌, ◌≤◌, ◌≡◌, refl, Bool, true, false, List, [], ◌∷◌, leb, length, get_or, Some}
 use Rattle.std.proofs.Common.{arith, sym, ap, ◌∙◌, subst, le-leb, leb-true}
 use Rattle.record.specs.Bytes.{le32}

@@ -1,4 +1,4 @@
--- What computes on three lines alone: they are accepted, built, and stand where they should. Assumes nothing.
+-- What can be computed on three lines: they are accepted, built, and stand where they should. Assumes nothing.
 use Rattle.std.specs.Prelude.{ℕ, ◌+◌, ◌*◌, ◌%◌, true, false, ◌≡◌, refl, ltb, length, Ok}
 use Rattle.std.proofs.Common.{arith, sym, subst}
 use mathlib.Core.List.{List, [], ◌∷◌, ◌++◌, map, Memᴰ}
@@ -80,7 +80,7 @@ abs_line = alone Manual (bytes_of "abs") (register 10 ++ comma ++ register 8) []
 abbrev pub abs_operands : AskedAll (pseudo_wants Abs)
 abs_operands = (Temporary2, Temporary0, tt)
 
--- a line that is the whole of region 0, in a build of one region whose patches are all its own
+-- A line that is the whole of region 0. The build has only this region, and all patches are the line's own.
 pub record Evaluated (site : LineInBuild) (p : Pseudo) (x : AskedAll (pseudo_wants p)) (position : ℕ) (loaded : LoadForm) (words : ℕ) : Type 0 where
   pub accepted : (emit_outcome site.job site.call).answer ≡ done_at position loaded
   pub means : meaning site.call.descriptors (mnemonic_name site.call.mnemonic) ≡ Builtin p

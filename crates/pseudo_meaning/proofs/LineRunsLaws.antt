@@ -93,7 +93,7 @@ module _ (image : Image) (pc : ℕ) (g : Registers) (hg : length g ≡ 32) where
       ∙ ap (later 1) (word_goes image v m₁ h 0 _ (branch_step result v n m₁ t r (read_chosen g 1 (bit t) (omega arith) (λ e. omega arith))))
       ∙ ap (λ (b : Bool). ran_for 2 (at (cond b (branch_target (next_pc pc) v) (next_pc (next_pc pc))) (write_register g 1 (bit t))) Allowance) (compares_by greater result (read_register g a) (read_register g b))
 
-  -- a set: one word, and xori behind it where the result is turned over
+  -- A set: one word, and xori behind it if the result is turned over.
   pub set_runs : (greater : Bool) (w d a b : ℕ) → Standing image pc (w ∷ []) → Reads w (compared greater false d a b)
       → run 1 image (at pc g) ≡ ran_for 1 (at (next_pc pc) (write_register g d (bit (compares greater true (read_register g a) (read_register g b))))) Allowance
   unfolding run
@@ -144,12 +144,12 @@ module _ (image : Image) (pc : ℕ) (g : Registers) (hg : length g ≡ 32) where
 
 -- ---- a value loaded before them
 
--- the registers behind the loading words
+-- The registers after the loading words.
 abbrev pub loaded_into : Registers → InstructionValue → Registers
 loaded_into g (Slot r) = g
 loaded_into g (Literal n) = write_register g 1 (low32 n)
 
--- what the second operand is: a register's, or a literal's low 32 bits
+-- The second operand's value: a register's, or a literal's low 32 bits.
 abbrev pub value_held : Registers → InstructionValue → ℕ
 value_held g (Slot r) = read_register g (register_number r)
 value_held g (Literal n) = low32 n

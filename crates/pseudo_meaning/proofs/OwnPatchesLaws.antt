@@ -1,4 +1,4 @@
--- What the pairs of a line come to: its words, its patches, and the pending record of its branch. Assumes nothing.
+-- What the pairs of a line become: its words, its patches, and its branch's pending record. Assumes nothing.
 use Rattle.std.specs.Prelude.{ℕ, suc, ◌+◌, ◌≡◌, refl, Bool, true, false, List, [], ◌∷◌, ◌++◌, map, length, Ok}
 use Rattle.std.proofs.Common.{add-zero, zero-add, arith, sym, ap, ◌∙◌, append_assoc}
 use Rattle.jobs.specs.declared.Job.{Job}
@@ -30,7 +30,7 @@ use Rattle.routine.specs.CallValues.{line_pairs, call_pairs}
 use Rattle.pseudo_meaning.proofs.WordsThereLaws.{Words32}
 use Rattle.pseudo_meaning.specs.Lines.{Emitted}
 
--- the pairs of an accepted line are those of its operands
+-- An accepted line's pairs are the pairs of its operands.
 pub pairs_are : (job : Job) (c : Call) (p : Pseudo) (x : AskedAll (pseudo_wants p)) → Emitted job c p x → call_pairs job c ≡ pseudo_pairs job p x
 unfolding call_pairs pseudo_line
 pairs_are job c p x e =
@@ -56,7 +56,7 @@ plain_patches tl origin i (w ∷ ws) ps =
     let e : i + 1 + length ws ≡ i + suc (length ws) = omega arith in
     plain_patches tl origin (i + 1) ws ps ∙ ap (λ (k : ℕ). patches_from tl origin k ps) e
 
--- a comparison and its branch behind the loading words have one patch, at the last word
+-- Loading words, a comparison and its branch have one patch, at the last word.
 pub branch_patches : (tl : List ℕ) (origin : Origin) (ws : List ℕ) (w b : ℕ) (label : AddressLabel)
     → patches_from tl origin 0 (map plain ws ++ plain w ∷ waiting b Branch label ∷ []) ≡ patch_to (origin_at origin (length ws + 1)) Branch (target_of label (name_bytes tl label)) ∷ []
 unfolding patches_from
@@ -64,7 +64,7 @@ branch_patches tl origin ws w b label =
     plain_patches tl origin 0 ws (plain w ∷ waiting b Branch label ∷ [])
     ∙ ap (λ (k : ℕ). patch_to (origin_at origin (k + 1)) Branch (target_of label (name_bytes tl label)) ∷ []) (zero-add (length ws))
 
--- so there is one place
+-- So there is one place.
 pub record OneOwn (pending own : List ℕ) (patch : Patch) : Type 0 where
   pub place : ℕ
   pub own_is : own ≡ place ∷ []
@@ -79,7 +79,7 @@ pub no_own : (pending own : List ℕ) → map (patch_at pending) own ≡ [] → 
 no_own pending [] e = refl
 no_own pending (p ∷ ps) e = let z : ◌≡◌ {A = ℕ} 0 1 = cc in absurd (omega arith)
 
--- a set behind the loading words, and abs, have none
+-- Loading words with a set, and abs, have no patch.
 turned_patches : (tl : List ℕ) (origin : Origin) (i w : ℕ) (result : Bool) (dest : RegisterSlot) → patches_from tl origin i (plain w ∷ turned result dest) ≡ []
 unfolding patches_from
 turned_patches tl origin i w true dest = refl
@@ -91,7 +91,7 @@ set_patches tl origin v w result dest =
     ∙ plain_patches tl origin 0 (loading_words (value_loads v)) (plain w ∷ turned result dest)
     ∙ turned_patches tl origin (0 + length (loading_words (value_loads v))) w result dest
 
--- seq and sne behind the loading words have none
+-- Loading words with seq or sne have no patch.
 pub equal_patches : (tl : List ℕ) (origin : Origin) (v : InstructionValue) (w y : ℕ) → patches_from tl origin 0 (value_pairs v ++ plain w ∷ plain y ∷ []) ≡ []
 unfolding patches_from
 equal_patches tl origin v w y =

@@ -27,7 +27,7 @@ use Rattle.pseudo_meaning.proofs.OwnPatchesLaws.{pairs_are, formats_32}
 use Rattle.pseudo_meaning.proofs.ExitLaws.{emitted_words, patched, words_count, plain_standing}
 use Rattle.pseudo_meaning.proofs.StartLaws.{given, given_reads, line_runs}
 
--- words that load a constant, where one is loaded, and words in the formats fs
+-- The words that load a constant, if there is one, and then words in the formats fs.
 pub record PlainLine (site : LineInBuild) (loads : Option LoadedConstant) (fs : List Format) : Type 0 where
   pub rest : List ℕ
   pub rest_has : InFormats rest fs
@@ -45,7 +45,7 @@ module _ (site : LineInBuild) (pl : Placed site) where
       let none : call_patches site.job site.call ≡ [] = ap (λ (l : List InstructionPair). patches_from site.call.token_list (call_origin site.call) 0 l) e ∙ ps in
       record { rest = t.rest; rest_has = t.rest_has; standing = rw es at (plain_standing site pl none w32); count = sym (ap length es) ∙ words_count site }
 
-  -- what a run of the words leaves, the whole dry run leaves
+  -- The whole dry run leaves what a run of the words leaves.
   pub leaves : (m : Machine) (rd : Ready (line_pc site) m) (ws : List ℕ) → 0 < length ws → length ws ≡ line_words site
       → Standing (image_of (patched site)) (line_pc site) ws → (r : RegisterSlot) (v : ℕ) → LeavesIn (image_of (patched site)) (line_pc site) (length ws) (given m rd.all_32) (register_number r) v
       → Leaves v r (after_pc site) (line_words site) m (line_run site m)

@@ -9,7 +9,7 @@ use Rattle.pseudo_meaning.specs.Lines.{Stands}
 use Rattle.pseudo_meaning.specs.RoutineLines.{filled_region, in_build}
 use Rattle.pseudo_meaning.proofs.RoutineStandsLaws.{stands}
 
--- lines before, the line, and lines after it; the build has its region's data as they left it
+-- Lines before, the line, and lines after it. The build's region holds the data that they left.
 pub routine_stands : (before after : List RoutineLine) (l : RoutineLine) (start : Buffers) → AllEmpty start → Each OfBytes before → Each OfBytes (l ∷ after)
     → AllAccepted before start → AllAccepted (l ∷ after) (run before start)
     → (build : Job) (labels : Table) (entry regions : List ℕ) → l.place.region < region_count regions

@@ -26,7 +26,7 @@ use Rattle.routine.proofs.RunChainLaws.{lengths_of, line_appends, run_chained}
 use Rattle.pseudo_meaning.specs.Lines.{Stands}
 use Rattle.pseudo_meaning.specs.RoutineLines.{filled_region, in_build}
 
--- ---- a mapped list that is joined of two
+-- ---- a mapped list that was joined from two
 
 record Split {A : Type 0} (f : ℕ → A) (xs : List ℕ) (us vs : List A) : Type 0 where
   left : List ℕ
@@ -72,7 +72,7 @@ module _ (before after : List RoutineLine) (l : RoutineLine) (start : Buffers) (
   then_fits : RunFits (l ∷ after) b₁
   then_fits = run_fits (l ∷ after) b₁ bytes_then accepted_then first_fits.sound
 
-  -- the patches before it, its own, and those after it
+  -- The patches of the lines before, of the line, and of the lines after.
   abbrev earlier : List Patch
   earlier = patches_in (filled b₁.pending)
 
@@ -98,7 +98,7 @@ module _ (before after : List RoutineLine) (l : RoutineLine) (start : Buffers) (
       go : AllAccepted (l ∷ after) b₁ → ((after_line l b₁).region_data r).fill ≡ line_fill + 4 * line_count
       go (next position loaded e a) = (line_appends l b₁ (line_fits l.job c position loaded bytes_then.0.0 bytes_then.0.1 e)).ends
 
-  -- the data before it, its words, and those after it
+  -- The data of the lines before, the line's words, and the words of the lines after.
   all_words : filled (b₃.region_data r) ≡ filled (b₁.region_data r) ++ (word_bytes (call_pairs l.job c) ++ routine_words r after (after_line l b₁))
   unfolding routine_words
   all_words = then_fits.words_are r ∙ ap (λ (t : Bool). filled (b₁.region_data r) ++ (cond t (word_bytes (call_pairs l.job c)) [] ++ routine_words r after (after_line l b₁))) (eq-eqb r r refl)

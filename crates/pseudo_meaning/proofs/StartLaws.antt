@@ -47,7 +47,7 @@ pub first_kept : (r : RegisterSlot) (v : InstructionValue) → FirstStays r v �
 first_kept r (Slot s) h = h
 first_kept r (Literal n) h = h
 
--- a line of at least one word is run
+-- A line of at least one word runs.
 pub line_runs : (site : LineInBuild) (pl : Placed site) (m : Machine) (rd : Ready (line_pc site) m) (ws : List ℕ) → 0 < length ws → Standing (image_of (patched site)) (line_pc site) ws
     → line_run site m ≡ stopped_run (run (line_words site) (image_of (patched site)) (at (line_pc site) (given m rd.all_32)))
 line_runs site pl m rd [] h s = absurd (omega arith)

@@ -51,9 +51,9 @@ head_fetched (next f s) = f
 tail_standing : {image : Image} {pc w : ℕ} {ws : List ℕ} → Standing image pc (w ∷ ws) → Standing image (next_pc pc) ws
 tail_standing (next f s) = s
 
--- ---- a run through the loading words that stops behind them, or one word later
+-- ---- a run that passes the loading words, and stops right behind them or one word later
 
--- a run of n words that stops after so many steps
+-- A run of n words that stops after `steps` steps.
 abbrev StopsIn : Image → (pc : ℕ) → Registers → (n steps : ℕ) → Type 0
 StopsIn image pc g n steps = (h : Registers) × (run n image (at pc g) ≡ ran_for steps (at ((pc + 4 * steps) % 2 ^ 32) h) Word)
 
@@ -72,7 +72,7 @@ module _ (image : Image) (pc : ℕ) (hp : pc < 2 ^ 32) (g : Registers) (hg : len
             ∙ ap (λ (p : ℕ). ran_for (length loads) (at p (loaded_into g v)) Word) (behind_is loads pc hp),
       )
 
-  -- behind subu
+  -- The run stops behind subu.
   behind_difference : (d a w y : ℕ) (rest : List ℕ) → Standing image pc (loads ++ w ∷ y ∷ rest) → Reads w (register 0 a (value_in v) d 0 35) → Reads y (less_than true d 0 d) → (n : ℕ)
       → StopsIn image pc g (length loads + suc (suc n)) (length loads + 1)
   behind_difference d a w y rest s rw₁ ry n =
@@ -100,7 +100,7 @@ module _ (image : Image) (pc : ℕ) (hp : pc < 2 ^ 32) (g : Registers) (hg : len
 -- ---- the whole line
 
 module _ (site : LineInBuild) where
-  -- a run of the words that stops stops the whole dry run
+  -- If a run of the words stops, the whole dry run stops.
   stopped : (pl : Placed site) (m : Machine) (rd : Ready (line_pc site) m) (ws : List ℕ) (steps : ℕ) → 0 < length ws → Standing (image_of (patched site)) (line_pc site) ws
       → StopsIn (image_of (patched site)) (line_pc site) (given m rd.all_32) (line_words site) steps → StopsAfter steps (line_pc site) (line_run site m)
   stopped pl m rd ws steps h s r = rw (line_runs site pl m rd ws h s, r.1) record { answer_is = refl; pc_is = refl }
@@ -113,7 +113,7 @@ module _ (site : LineInBuild) where
       stopped pl m rd (loading_words (value_loads v) ++ t.rest) (load_steps v) (some_words (loading_words (value_loads v)) t.rest_has) t.standing
       (rw t.count at (compared_rest (image_of (patched site)) (line_pc site) (omega arith) (given m rd.all_32) (given_length m rd.all_32) v greater (register_number x.0) (register_number x.1) t.rest_has t.standing))
 
-  -- the first words of a line that ends with another
+  -- The words before the last one.
   first_part : (ws : List ℕ) (w b j : ℕ) → j < length ws + 1 → get_or (ws ++ w ∷ b ∷ []) j 0 ≡ get_or (ws ++ w ∷ []) j 0
   first_part [] w b zero h = refl
   first_part [] w b (suc j) h = absurd (omega arith)

@@ -18,7 +18,7 @@ module _ (pc dest w o s t : ℕ) (ho : o < 64) (hs : s < 32) (ht : t < 32) (r : 
   unfolding finished_word
   finished_is = rw (r.opcode_is, r.rs_is, r.rt_is)
 
-  -- the finished branch has the fields of the emitted one, and the distance
+  -- The finished branch has the emitted branch's fields, and the distance.
   pub finished_reads : ImmediateFormat (finished_word Branch pc dest w) o s t (distance_bits pc dest)
   finished_reads =
       rw finished_is record {

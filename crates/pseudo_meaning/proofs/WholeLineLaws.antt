@@ -1,4 +1,4 @@
--- The words of a whole line, those that load its literal and its own, run from their pc. Assumes nothing.
+-- A run of a whole line from its pc: the words that load its literal, and then its own. Assumes nothing.
 use Rattle.std.specs.Prelude.{ℕ, ◌+◌, ◌*◌, ◌%◌, ◌^◌, ◌<◌, ◌≡◌, Bool, true, false, cond, List, [], ◌∷◌, ◌++◌, length}
 use Rattle.std.proofs.Common.{arith, ap, ap₂, ◌∙◌}
 use Rattle.field.specs.Bit.{bit}
@@ -19,14 +19,14 @@ use Rattle.pseudo_meaning.proofs.ComparisonsLaws.{less}
 use Rattle.dry_run_outcome.proofs.StandingLaws.{Standing, pc_behind, behind_is, standing_right}
 use Rattle.pseudo_meaning.proofs.LineRunsLaws.{branch_runs, set_runs, turned_runs, loaded_into, value_held, FirstKept, value_then, second_held, first_held, loaded_others, loaded_length}
 
--- a run through n words from pc that leaves v in the register d and changes no other but $at
+-- A run of n words from pc: it leaves v in the register d, and changes no other register but $at.
 pub record LeavesIn (image : Image) (pc n : ℕ) (g : Registers) (d v : ℕ) : Type 0 where
   pub after : Registers
   pub runs : run n image (at pc g) ≡ ran_for n (at ((pc + 4 * n) % 2 ^ 32) after) Allowance
   pub result : read_register after d ≡ v
   pub others : (r : ℕ) → (r ≡ d → ⊥) → (r ≡ 1 → ⊥) → read_register after r ≡ read_register g r
 
--- a run through n words, the last of them the branch w, that goes where it holds to its target, and changes no register but $at
+-- A run of n words, a comparison, and the branch w. It goes to the target if the comparison holds, and changes no register but $at.
 pub record GoesBy (image : Image) (pc n w : ℕ) (g : Registers) (holds : Bool) : Type 0 where
   pub after : Registers
   pub runs : run (n + 2) image (at pc g) ≡ ran_for (n + 2) (at (cond holds (branch_target ((pc + 4 * n + 4) % 2 ^ 32) w) ((pc + 4 * (n + 2)) % 2 ^ 32)) after) Allowance
@@ -45,7 +45,7 @@ module _ (image : Image) (pc : ℕ) (hp : pc < 2 ^ 32) (g : Registers) (hg : len
   behind : pc' ≡ (pc + 4 * length loads) % 2 ^ 32
   behind = behind_is loads pc hp
 
-  -- both operands as before the line
+  -- Both operands are as they were before the line.
   operands : (greater result : Bool) (a : ℕ) → FirstKept a v → compares greater result (read_register g' a) (read_register g' (value_in v)) ≡ compares greater result (read_register g a) (value_held g v)
   operands greater result a k = ap₂ (compares greater result) (first_held g hg v a k) (second_held g hg v)
 

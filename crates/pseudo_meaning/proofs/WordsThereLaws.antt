@@ -1,4 +1,4 @@
--- Words read where their bytes stand. Assumes nothing.
+-- A word read where its bytes stand is that word. Assumes nothing.
 use Rattle.std.specs.Prelude.{ℕ, zero, suc, ◌+◌, ◌*◌, ◌^◌, ◌<◌, ◌≡◌, List, [], ◌∷◌, length, get_or}
 use Rattle.std.proofs.Common.{arith, sym, ap, ◌∙◌}
 use Rattle.record.specs.Bytes.{le32, part}

@@ -1,4 +1,4 @@
--- Laws of the names of pseudo-instructions: a name that is none of the first is sought among the rest. Assumes nothing.
+-- Laws of the names of pseudo-instructions: a name that the first rows lack is searched among the rest. Assumes nothing.
 use Rattle.std.specs.Prelude.{ℕ, List, [], ◌∷◌, map, Bool, true, false, ◌≡◌, refl, None, Option, Some, MatchOption, IsSomeAnd}
 use Rattle.std.specs.Borrow.{Bor}
 use Rattle.std.specs.Option.{option_map}
@@ -8,7 +8,7 @@ use Rattle.record.specs.Bytes.{same_bytes}
 use Rattle.pseudo_names.specs.PseudoNames.{PseudoName, pseudo_in, pseudo_names, pseudo_of}
 use Rattle.pseudo_names.specs.declared.Pseudo.{Pseudo}
 
--- a name among all is the name among the rest
+-- Searching the name among all finds what searching among the rest finds.
 pub record Left (name : List ℕ) (all rest : List PseudoName) : Type 0 where
   pub is : pseudo_in name all ≡ pseudo_in name rest
 
@@ -43,7 +43,7 @@ module _ {name : List ℕ} {all : List PseudoName} where
 
 -- ---- the table of the code, searched for the first row with that name
 
--- a row of the table, its name as a list of bytes
+-- A row of the table, with its name as a list of bytes.
 abbrev pub row : Bor (List ℕ) × Pseudo → PseudoName
 row r = record { name = r.0.now; pseudo = r.1 }
 

@@ -13,7 +13,7 @@ signed_high : (n : ℕ) → 32768 ≤ n → signed_bytes n ≡ 4 * n + (2 ^ 32 -
 unfolding signed_bytes
 signed_high n h = rw (le-ltb n 32768 h, signed_bytes)
 
--- a distance within 16 signed bits leads from pc + 4 to the destination
+-- A distance that fits 16 signed bits leads from pc + 4 to the destination.
 pub branch_reads : (pc dest : ℕ) → pc % 4 ≡ 0 → dest % 4 ≡ 0 → dest < 2 ^ 32 → after pc / 4 ≤ dest / 4 + 32768 → dest / 4 ≤ after pc / 4 + 32767
     → wrap32 (after pc + signed_bytes (distance_bits pc dest)) ≡ dest
 branch_reads pc dest hp hd hl hn hm = go (leb (after pc / 4) (dest / 4)) refl
@@ -35,7 +35,7 @@ branch_reads pc dest hp hd hl hn hm = go (leb (after pc / 4) (dest / 4)) refl
         let t : after pc + (4 * distance_bits pc dest + (2 ^ 32 - 4 * 65536)) ≡ 2 ^ 32 + dest = omega (arith, four, d) in
         rw (s, t) (omega arith)
 
--- the page of pc + 4 and 26 bits of a word make the destination
+-- A jump: the page of pc + 4 and 26 bits of the word make the destination.
 pub jump_reads : (pc dest : ℕ) → dest % 4 ≡ 0 → dest / 2 ^ 28 ≡ after pc / 2 ^ 28 → after pc / 2 ^ 28 * 2 ^ 28 + dest / 4 % 2 ^ 26 * 4 ≡ dest
 jump_reads pc dest hd hp = omega arith
 

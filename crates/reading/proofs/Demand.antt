@@ -1,5 +1,5 @@
--- Demand 3's first half, of whole builds: whatever the label table, the regions, the entry record and the pending list, in whatever
--- order. Assumes nothing.
+-- Demand 3's first half, for whole builds: for any label table, regions, entry record and pending list, in any order.
+-- Assumes nothing.
 use Rattle.std.specs.Prelude.{◌≡◌, List, ℕ}
 use Rattle.std.proofs.Common.{sym, ap, ◌∙◌}
 use Rattle.jobs.specs.declared.Job.{Job}
@@ -16,7 +16,7 @@ use Rattle.reading.specs.Used.{SameUsed}
 use Rattle.reading.proofs.ReadBackLaws.{shared_destination, straight_destination, read_back}
 use Rattle.reading.proofs.TablesLaws.{same_used}
 
--- ---- whatever the two of a pair have to share, if it gives them one destination
+-- ---- a pair may share anything that gives both of its patches one destination
 module _ {Shared : (pending : List ℕ) (p q : ℕ) → Type 0} (job : Job) where
   reads_by : (labels : Table) (entry regions pending : List ℕ) → PremisesBy Shared job labels entry regions pending
       → ((p q : ℕ) → Shared pending p q → destination_at labels pending p ≡ destination_at labels pending q)
@@ -52,14 +52,14 @@ pub never_shared : (job : Job) (labels₁ labels₂ entry regions pending : List
 never_shared job labels₁ labels₂ entry regions pending b₁ b₂ pr₁ pr₂ =
     shared_by job labels₁ labels₂ entry regions pending b₁ b₂ pr₁ pr₂ (shared_destination (table_of labels₁) pending) (shared_destination (table_of labels₂) pending)
 
--- the same in the tender's direction: tables that differ in a used address do not have both in common
+-- The same as the tender says it: tables that differ in a used address cannot share both the image and the entry.
 pub differing_apart : (job : Job) (labels₁ labels₂ entry regions pending : List ℕ) → Bytes labels₁ → Bytes labels₂
     → Premises job (table_of labels₁) entry regions pending → Premises job (table_of labels₂) entry regions pending → (SameUsed (table_of labels₁) (table_of labels₂) entry pending → ⊥)
     → image_of (build_outcome job (table_of labels₁) entry regions pending).regions ≡ image_of (build_outcome job (table_of labels₂) entry regions pending).regions
     → (build_outcome job (table_of labels₁) entry regions pending).answer ≡ (build_outcome job (table_of labels₂) entry regions pending).answer → ⊥
 differing_apart job labels₁ labels₂ entry regions pending b₁ b₂ pr₁ pr₂ differ i a = differ (never_shared job labels₁ labels₂ entry regions pending b₁ b₂ pr₁ pr₂ i a)
 
--- ---- "With kind 34 alone, answers equal the commit's" (document 02, P6): without owners a pair is document 01's, whatever the sources of its names
+-- ---- "With kind 34 alone, answers equal the commit's" (document 02, P6): without owners a pair is document 01's, and its names may differ in source
 pub straight_reads_back : (job : Job) (labels entry regions pending : List ℕ) → WithoutOwners labels → StraightPremises job (table_of labels) entry regions pending
     → readings (image_of (build_outcome job (table_of labels) entry regions pending).regions) pending ≡ destinations (table_of labels) pending
 straight_reads_back job labels entry regions pending w pr = reads_by job (table_of labels) entry regions pending pr (straight_destination labels w pending)

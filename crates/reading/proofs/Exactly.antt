@@ -1,4 +1,4 @@
--- Which branches and jumps of an accepted build read back: those that are on target, and no others. Assumes nothing.
+-- Which branches and jumps of an accepted build read back: exactly those on target. Assumes nothing.
 use Rattle.std.specs.Prelude.{ℕ, ◌%◌, ◌≡◌, refl, List, Ok, Some}
 use Rattle.std.proofs.Common.{sym, ap, ◌∙◌}
 use Rattle.jobs.specs.declared.Job.{Job}
@@ -16,7 +16,7 @@ use Rattle.reading.proofs.ReadBackLaws.{Readable, each_back}
 use Rattle.reading.proofs.ExactlyLaws.{reading_on}
 
 module _ (job : Job) (labels : Table) (entry regions pending : List ℕ) (pass : build_verdict job labels entry regions pending ≡ Ok tt) (apart : Apart pending) where
-  -- a patch that has what its kind asks reads back, whatever the others go to
+  -- A patch that has what its kind asks reads back, wherever the others go.
   pub patch_reads : (p : ℕ) → In pending p → Readable job labels regions pending (pending_at pending p).kind p → ReadsBack job labels entry regions pending p
   patch_reads p m r =
       ap (λ (s : List ℕ). Some (reading (image_of s) (pending_at pending p))) (outcome_accepted job labels entry regions pending pass).1
@@ -29,7 +29,7 @@ module _ (job : Job) (labels : Table) (entry regions pending : List ℕ) (pass :
   readable Upper p g a t = absurd g
   readable Full p g a t = absurd g
 
-  -- a branch or a jump at a multiple of four reads back if it is on target, and only then
+  -- A branch or a jump at a multiple of four reads back if and only if it is on target.
   pub exactly : (p : ℕ) → In pending p → Going (pending_at pending p).kind → pc_at regions pending p % 4 ≡ 0
       → (OnTarget job labels regions pending p → ReadsBack job labels entry regions pending p) × (ReadsBack job labels entry regions pending p → OnTarget job labels regions pending p)
   exactly p m g a = (λ t. patch_reads p m (readable (pending_at pending p).kind p g a t), only)

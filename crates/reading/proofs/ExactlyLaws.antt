@@ -20,7 +20,7 @@ use Rattle.reading.proofs.ReadBackLaws.{pc_at_lem, field_at}
 
 -- ---- numbers
 
--- what a build of any job takes
+-- How far a branch may go in a build of any job.
 pub taken : (job : Job) (pc dest : ℕ) → in_range job Branch pc dest ≡ true → (after pc / 4 ≤ dest / 4 + 0x10000) × (dest / 4 ≤ after pc / 4 + 0xFFFF)
 unfolding in_range branch_in_range
 taken job pc dest e =
@@ -32,12 +32,12 @@ taken job pc dest e =
     go true x y = (omega arith, omega arith)
     go false x y = (omega arith, omega arith)
 
--- a field of 32,768 or more reads as a distance back
+-- A field of 32,768 or more reads as a backward distance.
 back_near : (a n dest : ℕ) → a < 2 ^ 30 → 32768 ≤ n → n < 65536 → (4 * a + (4 * n + (2 ^ 32 - 4 * 65536))) % 2 ^ 32 ≡ dest → dest / 4 ≤ a + 0xFFFF
     → (a ≤ dest / 4 + 32768) × (dest / 4 ≤ a + 32767)
 back_near a n dest ha low high e ahead = (omega arith, omega arith)
 
--- a branch's field that leads to its destination
+-- If a branch's field leads to its destination, the destination is a near multiple of four.
 branch_only : (pc dest : ℕ) → pc % 4 ≡ 0 → dest < 2 ^ 32 → after pc / 4 ≤ dest / 4 + 0x10000 → dest / 4 ≤ after pc / 4 + 0xFFFF
     → wrap32 (after pc + signed_bytes (distance_bits pc dest)) ≡ dest
     → (dest % 4 ≡ 0) × (after pc / 4 ≤ dest / 4 + 32768) × (dest / 4 ≤ after pc / 4 + 32767)

@@ -1,4 +1,4 @@
--- The image of a finished region list: each region's address, and its words; an image region by region. Assumes nothing.
+-- The image of a finished region list: each region's address and its words, region by region. Assumes nothing.
 use Rattle.std.specs.Prelude.{ℕ, zero, suc, ◌+◌, ◌-◌, ◌<◌, ◌≤◌, List, [], ◌∷◌, map, ◌≡◌, refl, length, drop, get_or}
 use Rattle.std.proofs.Common.{arith, add_assoc, add-one, sym, ap, ap₂, ◌∙◌, length-take, length-drop, drop_of_length-le, drop-cons, get_or-take, get_or-drop}
 use Rattle.std.proofs.lemmas.List.{length-map}

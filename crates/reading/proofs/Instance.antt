@@ -97,11 +97,11 @@ fails r a rest c n e =
     let z : a ≡ 0x0040C008 = cc in
     n z
 
--- the one that hands the regions back unpatched
+-- A build that hands the regions back unpatched.
 pub unpatched_fails : readings (image_of regions) pending ≡ destinations (table_of labels₁) pending → ⊥
 unpatched_fails e = fails regions _ _ evaluated.unpatched (λ z. omega arith) e
 
--- the one that patches the first record only: the first in patch order, or the first of the list
+-- A build that patches only one record: the first in patch order, or the first of the list.
 pub first_only_fails : readings (image_of (write_patches (table_of labels₁) regions pending (take 1 (patch_order regions pending)) regions)) pending ≡ destinations (table_of labels₁) pending → ⊥
 first_only_fails e = fails (write_patches (table_of labels₁) regions pending (take 1 (patch_order regions pending)) regions) _ _ evaluated.first_only (λ z. omega arith) e
 
@@ -122,7 +122,7 @@ instance_used job =
     never_shared job labels₁ labels₂ entry regions pending (of_bytes labels₁ evaluated.first.bytes_fit) (of_bytes labels₂ evaluated.second.bytes_fit) (instance₁ job) (instance₂ job)
     (ap (λ (o : BuildOutcome). image_of o.regions) (same_outcome job)) (ap (λ (o : BuildOutcome). o.answer) (same_outcome job))
 
--- ---- the first and the third differ in a used address, and so do not share an image with its entry
+-- ---- the first and the third differ in a used address, so they do not share both an image and its entry
 pub used_differs : (resolve labels₁ 1 loop ≡ Some 0x00400008) × (resolve labels₃ 1 loop ≡ Some 0x0040000C)
 used_differs = evaluated.first_file_addresses
 
@@ -139,7 +139,7 @@ pub instance_apart : (job : Job) → image_of (build_outcome job (table_of label
 instance_apart job =
     differing_apart job labels₁ labels₃ entry regions pending (of_bytes labels₁ evaluated.first.bytes_fit) (of_bytes labels₃ evaluated.third.bytes_fit) (instance₁ job) (instance₃ job) not_same_used
 
--- ---- the first and the fourth differ in the entry's label alone: they share the image, and so not its entry
+-- ---- the first and the fourth differ only in the entry's label: they share the image, so they differ in the entry
 pub entry_differs : (resolve labels₁ 1 main ≡ Some 0x00400004) × (resolve labels₄ 1 main ≡ Some 0x0040000C)
 entry_differs = evaluated.entry_addresses
 

@@ -1,4 +1,4 @@
--- What computes on the lists of the instance: its builds, its destinations, and the premises as tests. Assumes nothing.
+-- What can be computed on the instance's lists: its builds, its destinations, and the premises as tests. Assumes nothing.
 use Rattle.std.specs.Prelude.{ℕ, ◌+◌, ◌/◌, ◌%◌, List, [], ◌∷◌, Bool, true, ◌&&◌, ◌≡◌, refl, take, leb, ltb, eqb, Ok, Some}
 use Rattle.jobs.specs.declared.Job.{Job}
 use Rattle.jobs.specs.declared.Job.TheVariants.{Commit, Manual, Release6}
@@ -22,7 +22,7 @@ use Rattle.reading.specs.Used.{pending_name, pending_source, entry_name, entry_s
 use Rattle.reading.specs.Reading.{image_of, signed_bytes, read_by, readings, destinations}
 use Rattle.finished_words.specs.InstanceTables.{loop, main, labels₁, labels₂, labels₃, labels₄, entry, regions, pending, finished, example_regions, example_pending, example_finished}
 
--- ---- tests that say a premise at one place
+-- ---- a premise at one place, as a test
 abbrev pub on_word : Table → ℕ → Bool
 on_word labels p = eqb (destination_at labels pending p % 4) 0
 
@@ -32,7 +32,7 @@ not_far_back labels p = leb (after (pc_at regions pending p) / 4) (destination_a
 abbrev pub not_far_on : Table → ℕ → Bool
 not_far_on labels p = leb (destination_at labels pending p / 4) (after (pc_at regions pending p) / 4 + 32767)
 
--- the one Lower stands at 0, the one Upper at 116
+-- The only Lower stands at 0, the only Upper at 116.
 abbrev pub fits : Table → InstructionLabelKind → ℕ → Bool
 fits labels Branch p = on_word labels p && (not_far_back labels p && not_far_on labels p)
 fits labels Jump p = on_word labels p
@@ -42,7 +42,7 @@ fits labels Full p = true
 
 -- ---- by computation
 
--- of each sort of job
+-- Holds in each sort of job.
 abbrev pub InAll : (Job → Type 0) → Type 0
 InAll P = P Commit × P Manual × P Release6
 
@@ -51,21 +51,21 @@ in_each P b Commit = b.0
 in_each P b Manual = b.1
 in_each P b Release6 = b.2
 
--- of a label table: its build is accepted, the tests hold
+-- A label table: its build is accepted, and the tests hold.
 pub record Computed (labels : List ℕ) : Type 0 where
   pub accepted : InAll (λ job. build_verdict job (table_of labels) entry regions pending ≡ Ok tt)
   pub fit : all (λ (p : ℕ). fits (table_of labels) (pending_at pending p).kind p) (places pending) ≡ true
   pub bytes_fit : all (λ (b : ℕ). ltb b 256) labels ≡ true
 
--- what the builds of the first two tables leave, and that of the fourth
+-- What the builds of the first two tables leave, and what the fourth's leaves.
 abbrev pub outcome : BuildOutcome
 outcome = record { answer = Ok 0x00400004; regions = finished }
 
 abbrev pub started_elsewhere : BuildOutcome
 started_elsewhere = record { answer = Ok 0x0040000C; regions = finished }
 
--- of the tables and the other lists; the last readings are of the regions unpatched, with the first patch of the order only, and with the
--- first of the list only
+-- The tables and the other lists. The last readings are of the regions unpatched, with only the first patch in patch order, and with only the
+-- first patch of the list.
 pub record Evaluated : Type 0 where
   pub first : Computed labels₁
   pub second : Computed labels₂

@@ -1,5 +1,5 @@
--- Reading back, patch by patch and of the whole pending list: in the image of an accepted build each reading is its destination, where what
--- its kind asks holds of that patch. Assumes nothing.
+-- Reading back, patch by patch and for the whole pending list: in an accepted build's image each patch reads as its destination, if it has
+-- what its kind asks. Assumes nothing.
 use Rattle.std.specs.Prelude.{ℕ, ◌+◌, ◌-◌, ◌*◌, ◌/◌, ◌%◌, ◌^◌, ◌≤◌, List, Bool, false, ◌≡◌, refl, eqb, Ok, Option, Some}
 use Rattle.std.proofs.Common.{arith, sym, ◌∙◌, eqb-true}
 use Rattle.std.proofs.Math.Bool.{true}
@@ -54,7 +54,7 @@ pub named_is : (labels : Table) (pending : List ℕ) (at : ℕ) → (byte_at pen
 named_is labels pending at e =
     label_is labels pending (at + 19) (next pending at) (at + 36) (body_len pending at - 32) (at + 20) (at + 28) e (omega arith) (omega arith) (omega arith) (omega arith)
 
--- equal form, value and name have one destination, where the table gives the name one address for both sources
+-- Records with equal form, value and name have one destination, if the table gives the name one address for both sources.
 same_destination : (labels : Table) (pending : List ℕ) (p q : ℕ) → SameTarget pending p q
     → ((name : List ℕ) → labels.address (le32 pending (p + 28)) name ≡ labels.address (le32 pending (q + 28)) name) → destination_at labels pending p ≡ destination_at labels pending q
 same_destination labels pending p q t s = ap (address_or 0) (go (eqb (byte_at pending (p + 19)) 0) refl)
@@ -70,11 +70,11 @@ same_destination labels pending p q t s = ap (address_or 0) (go (eqb (byte_at pe
         ∙ ap₂ (λ (l : List ℕ) (v : ℕ). plus_offset (labels.address (le32 pending (q + 28)) l) v) t.name t.value
         ∙ sym (named_is labels pending q (λ z. n (t.form ∙ z)))
 
--- a source too
+-- Records that also share a source need no such table.
 pub shared_destination : (labels : Table) (pending : List ℕ) (p q : ℕ) → SharedTarget pending p q → destination_at labels pending p ≡ destination_at labels pending q
 shared_destination labels pending p q t = same_destination labels pending p q t.same (λ name. ap (λ (s : ℕ). labels.address s name) t.source)
 
--- without owners the source is no part of the answer
+-- Without owners the source does not matter.
 pub straight_destination : (labels : List ℕ) → WithoutOwners labels → (pending : List ℕ) (p q : ℕ) → SameTarget pending p q
     → destination_at (table_of labels) pending p ≡ destination_at (table_of labels) pending q
 straight_destination labels w pending p q t =
@@ -83,7 +83,7 @@ straight_destination labels w pending p q t =
     ap (λ (l : Table). l.address (le32 pending (p + 28)) name) (straight labels w)
     ∙ sym (ap (λ (l : Table). l.address (le32 pending (q + 28)) name) (straight labels w)))
 
--- what a patch asks to read back as its destination, by its kind, whatever the others go to; what the two of a pair share is given
+-- What a patch needs to read back as its destination, by its kind, wherever the others go. `Shared` is what a pair's two patches share.
 abbrev pub ReadableBy : ((pending : List ℕ) (p q : ℕ) → Type 0) → Job → (labels : Table) (regions pending : List ℕ) → InstructionLabelKind → ℕ → Type 0
 ReadableBy Shared job labels regions pending Branch p = (pc_at regions pending p % 4 ≡ 0) × OnTarget job labels regions pending p
 ReadableBy Shared job labels regions pending Jump p = OnTarget job labels regions pending p
@@ -113,7 +113,7 @@ module _ (job : Job) (labels : Table) (entry regions pending : List ℕ) (pass :
       image_pc regions (patched_regions labels regions pending) (pending_at pending p) (finished_kept job labels entry regions pending pass)
       (has_region job labels entry regions pending pass p m)
 
-  -- its low bits are the patch's field
+  -- The word's low bits are the patch's field.
   pub field_at : (kind : InstructionLabelKind) (p : ℕ) → In pending p → (pending_at pending p).kind ≡ kind
       → word_of p % 2 ^ field_width kind ≡ field_value kind (pc_at regions pending p) (destination_at labels pending p)
   field_at kind p m e =
@@ -123,7 +123,7 @@ module _ (job : Job) (labels : Table) (entry regions pending : List ℕ) (pass :
       (dest_lt job labels entry regions pending pass p m) in
       rw e at f
 
-  -- the distance of a branch: as asked, or since a build by the manual took it
+  -- The branch is near: by the premise, or because a manual build accepted it.
   near : (p : ℕ) → In pending p → (pending_at pending p).kind ≡ Branch → OnTarget job labels regions pending p
       → (after (pc_at regions pending p) / 4 ≤ destination_at labels pending p / 4 + 32768)
       × (destination_at labels pending p / 4 ≤ after (pc_at regions pending p) / 4 + 32767)
@@ -173,9 +173,9 @@ module _ (job : Job) (labels : Table) (entry regions pending : List ℕ) (pass :
   unfolding field_width field_value
   lower_half p m e = field_at Lower p m e
 
-  -- where the two of a pair have one destination
+  -- The two patches of a pair have one destination.
   module _ (Shared : (pending : List ℕ) (p q : ℕ) → Type 0) (one : (p q : ℕ) → Shared pending p q → destination_at labels pending p ≡ destination_at labels pending q) where
-    -- the two of a pair, read together, give the destination of either
+    -- Read together, the two halves of a pair give the destination.
     pair_back : (p q : ℕ) → Pair Shared pending p q → half (word_of p) * 65536 + half (word_of q) ≡ destination_at labels pending p
     pair_back p q x =
         ap₂ (λ (a b : ℕ). a * 65536 + b) (upper_half p x.upper_in x.upper_kind)

@@ -1,4 +1,4 @@
--- The words of data from an offset on; what each word is, how many there are, and the data from its words. Assumes nothing.
+-- The words of data from an offset on: what each word is, how many there are, and how they give the data back. Assumes nothing.
 use Rattle.std.specs.Prelude.{ℕ, zero, suc, ◌+◌, ◌/◌, ◌^◌, ◌≤◌, ◌<◌, ◌≡◌, refl, min, ◌++◌, length, take, drop, get_or}
 use Rattle.std.proofs.Common.{add-one, arith, ap, drop_of_length-le, drop-cons}
 use mathlib.Core.List.{List, [], ◌∷◌, flat_map}
@@ -48,7 +48,7 @@ rows_take address i (a ∷ b ∷ []) h = refl
 rows_take address i (a ∷ b ∷ c ∷ []) h = refl
 rows_take address i (a ∷ b ∷ c ∷ d ∷ rest) h = refl
 
--- the next four bytes, or the last part word, and then the others
+-- The next four bytes, or the last part word, and then the rest.
 pub rows_next : (address i : ℕ) (rest bytes after : List ℕ) → rest ≡ bytes ++ after → length bytes ≡ min 4 (length rest) → 0 < length rest
     → rows address i rest ≡ row address i bytes ∷ rows address (i + 4) after
 rows_next address i rest bytes after e l h =

@@ -1,4 +1,4 @@
--- Without owners the premises are met by a pair whose names have two sources, and it reads back. Assumes nothing.
+-- Without owners, a pair whose names have two sources meets the premises, and it reads back. Assumes nothing.
 use Rattle.std.specs.Prelude.{ℕ, ◌+◌, ◌%◌, ◌≤◌, [], ◌∷◌, ◌⊎◌, ◌≡◌, refl, Ok, Some}
 use Rattle.std.proofs.Common.{arith, ⊎_elim, inl, inr, sym, subst, ◌∙◌}
 use mathlib.Core.List.Memᴰ
@@ -53,7 +53,7 @@ evaluated =
 
 -- ---- the premises
 
--- what holds of both records holds of each
+-- A claim on both records holds at each place of the list.
 both : (P : ℕ → Type 0) → P 0 → P 40 → (p : ℕ) → In straight_pending p → P p
 both P a b p m =
     ⊎_elim

@@ -1,5 +1,5 @@
--- Two label tables: accepted builds of the same regions, entry record and pending list that share an image and its entry agree on every
--- used address. Assumes nothing.
+-- Two label tables. If their builds of the same regions, entry record and pending list are accepted and share image and entry, the tables agree
+-- on every used address. Assumes nothing.
 use Rattle.std.specs.Prelude.{ℕ, ◌+◌, ◌-◌, ◌%◌, ◌^◌, ◌<◌, ◌≤◌, ◌⊎◌, ◌≡◌, refl, length, None, Ok, Option, Some}
 use Rattle.std.proofs.Common.{arith, inl, inr, ⊎_elim, ap, ◌∙◌}
 use mathlib.Core.List.Memᴰ
@@ -23,7 +23,7 @@ use Rattle.reading.specs.Premises.{PremisesBy}
 use Rattle.reading.specs.Used.{pending_name, entry_name, pending_source, entry_source, used_by, used_by_entry, SameUsed}
 use Rattle.reading.proofs.ReadBackLaws.{label_is, named_is, read_back}
 
--- equal lists of values have equal values
+-- If mapping f and g over a list gives the same values, f and g agree on its members.
 map_at : (f g : ℕ → Option ℕ) (ps : List ℕ) → map f ps ≡ map g ps → (p : ℕ) → Memᴰ p ps → f p ≡ g p
 map_at f g [] e p m = elim m [ ]
 map_at f g (q ∷ ps) e p m = go (Memᴰ.cases_cons m) (map_at f g ps (cc))
@@ -43,7 +43,7 @@ resolve_lt labels source name a b e = go (labelled labels source name) e
         omega (arith, b (p + 4), b (p + 4 + 1), b (p + 4 + 2), b (p + 4 + 3))
     go None k = let z : ◌≡◌ {A = ℕ} 0 1 = cc in absurd (omega arith)
 
--- an address with an offset, modulo 2^32, determines the address
+-- An address plus an offset, modulo 2^32, determines the address.
 offset_same : (labels₁ labels₂ : List ℕ) (source : ℕ) (name : List ℕ) (v d : ℕ) → Bytes labels₁ → Bytes labels₂
     → plus_offset (resolve labels₁ source name) v ≡ Some d → plus_offset (resolve labels₂ source name) v ≡ Some d
     → resolve labels₁ source name ≡ resolve labels₂ source name

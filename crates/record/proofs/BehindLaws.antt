@@ -1,5 +1,5 @@
--- Laws of two lists, one behind the other: what is read in the first is as before, what is read in the second is as in it alone; and
--- numbers read back from their bytes. Assumes nothing.
+-- Laws of two lists, one behind the other: reads in the first list stay as they were, reads in the second are those of it alone.
+-- And numbers read back from their bytes. Assumes nothing.
 use Rattle.std.specs.Prelude.{ℕ, ◌+◌, ◌*◌, ◌/◌, ◌%◌, ◌^◌, ◌≤◌, ◌<◌, List, ◌++◌, ◌≡◌, length, take, drop}
 use Rattle.std.proofs.Math.Nat.{div-div-eq-div-mul, div-add-mod}
 use Rattle.std.proofs.Common.{arith, ap, ap₂, ◌∙◌, length-drop, get_or-append-add}

@@ -21,7 +21,7 @@ whole_before l r at w =
     let n = length-append l r in
     (is_whole (l ++ r) at (omega arith) (omega arith), e)
 
--- at each place of a list that keeps its layout the test passes
+-- In a list that keeps its layout, the test passes at each place.
 pub good_each : (ok : ℕ → Bool) (ps : List ℕ) → first_bad ok ps ≡ None → (p : ℕ) → Memᴰ p ps → ok p ≡ true
 good_each ok [] g p m = elim m [ ]
 good_each ok (q ∷ ps) g p m = go (ok q) refl (λ h t. good_each ok ps h p t)
@@ -30,13 +30,13 @@ good_each ok (q ∷ ps) g p m = go (ok q) refl (λ h t. good_each ok ps h p t)
     go true e ih = ⊎_elim (λ (h : p ≡ q). ap ok h ∙ e) (λ t. ih (sym (first_pass ok q ps e) ∙ g) t) (Memᴰ.cases_cons m)
     go false e ih = cc (first_hit ok q ps e)
 
--- a test that asks for a whole record, and that passes whatever follows the list
+-- A test that asks for a whole record, and does not depend on what follows the list.
 pub record Local (ok : List ℕ → ℕ → Bool) : Type 0 where
   pub says_whole : (s : List ℕ) (at : ℕ) → ok s at ≡ true → whole s at ≡ true
   pub stays : (l r : List ℕ) (at : ℕ) → ok l at ≡ true → ok (l ++ r) at ≡ true
 
 module _ (ok : List ℕ → ℕ → Bool) (local : Local ok) (l r : List ℕ) where
-  -- the places from `at` on are those of l and then those of what is behind it, and those of l pass
+  -- The places from `at` on: first those of l, which pass, then those of what is behind it.
   record Kept (at : ℕ) : Type 0 where
     joined : places_from (l ++ r) at ≡ places_from l at ++ places_from (l ++ r) (length l)
     passes : first_bad (ok (l ++ r)) (places_from l at) ≡ None
@@ -72,7 +72,7 @@ module _ (ok : List ℕ → ℕ → Bool) (local : Local ok) (l r : List ℕ) wh
           let t = good_ok (ok l) l at i g in
           stepped at i t (ih i (local.says_whole l at t))
 
-  -- a list that keeps its layout, with one more record behind it that passes and ends the list
+  -- A list that keeps its layout, with one more good record behind it, at its end.
   pub record OneMore : Type 0 where
     pub places_are : places (l ++ r) ≡ places l ++ length l ∷ []
     pub keeps : first_bad (ok (l ++ r)) (places (l ++ r)) ≡ None

@@ -25,7 +25,7 @@ append_append d at bs cs k e h =
     (ap (λ (n : ℕ). drop (n + length cs) (p ++ q)) (sym lp) ∙ drop-append-add p q (length cs) ∙ drop-drop (length cs) (at + length bs) d)
     ∙ ap₂ (λ (a : List ℕ) (n : ℕ). a ++ drop n d) (append_assoc (take at d) bs cs) n
 
--- the same of buffers that are known by equations
+-- The same for buffers known by equations.
 pub append_then : {e f : List ℕ} (d : List ℕ) (at : ℕ) (bs : List ℕ) (k : ℕ) (cs : List ℕ) → e ≡ append d at bs → f ≡ append e k cs
     → at + length bs ≡ k → k + length cs ≤ length d → f ≡ append d at (bs ++ cs)
 append_then d at bs k cs p q h l = q ∙ ap (λ (x : List ℕ). append x k cs) p ∙ append_append d at bs cs k h l

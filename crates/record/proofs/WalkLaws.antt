@@ -1,8 +1,8 @@
 -- Laws of a loop over the places of a list's records, `for at in record::places(list)`, and of one that numbers them, by `enumerate`.
 -- proofs/first_bad is such a loop. Its invariant says that the answer is the answer from here on:
 --     first_bad ok (places l.list) ≡ first_bad ok (places_left l.at-iterator)
--- A turn finds `c.in-Some.ensures.steps`, that what was left is the place `at` and what is left now, and the end finds
--- `c.in-None.ensures.steps.0`, that nothing was. `turn` and `numbered_turn` say the rest, and want no invariant. Assumes nothing.
+-- A turn finds `c.in-Some.ensures.steps`: what was left is the place `at`, and then what is left now. The end finds
+-- `c.in-None.ensures.steps.0`: nothing was left. `turn` and `numbered_turn` give the rest, and need no invariant. Assumes nothing.
 use Rattle.std.specs.Prelude.{ℕ, ◌+◌, ◌<◌, Bool, true, ◌≡◌, refl, length, drop, None, Option}
 use Rattle.std.proofs.Common.{arith, sym, ap, subst, ◌∙◌, length-append}
 use Rattle.std.proofs.lemmas.List.{drop_at, length-map}
@@ -19,7 +19,7 @@ in_middle : (xs : List ℕ) (p : ℕ) (ps : List ℕ) → Memᴰ p (xs ++ p ∷ 
 in_middle [] p ps = let e : p ≡ p = refl in Memᴰ.head e
 in_middle (x ∷ xs) p ps = Memᴰ.tail (in_middle xs p ps)
 
--- The turn of a loop over the places of s that takes p, as the n-th from 0, and leaves ps.
+-- The turn of a loop over the places of s: it takes p, the n-th place from 0, and leaves ps.
 pub record Turn (s : List ℕ) (n p : ℕ) (ps : List ℕ) : Type 0 where
   -- the place is within the list
   pub within : p < length s

@@ -1,4 +1,4 @@
--- Whole records one after another: their places by their ends, and the places of a list of which one record has grown. Assumes nothing.
+-- Whole records one after another: each place is where the record before ends; and the places once one record has grown. Assumes nothing.
 use Rattle.std.specs.Prelude.{ℕ, ◌+◌, ◌≤◌, ◌<◌, ◌⊎◌, Bool, true, false, ◌≡◌, refl, length, ltb, leb, None}
 use Rattle.std.proofs.Common.{arith, inl, inr, ⊎_elim, sym, ap, subst, ◌∙◌, ltb-true, ltb-false, le-leb}
 use mathlib.Core.List.Memᴰ
@@ -47,7 +47,7 @@ chain_from s at (q ∷ ps) c p m =
 
 -- ---- a record that grew
 
--- where a place stands, once the record at `from` has k bytes more
+-- Where a place lies once the record at `from` has k more bytes.
 abbrev pub shift : (from k : ℕ) → ℕ → ℕ
 shift from k q = elim (leb q from) [ true ↦ q | false ↦ q + k ]
 
@@ -57,7 +57,7 @@ shift_up from k q h = rw (lt-leb q from h, shift)
 pub shift_not : (from k q : ℕ) → q ≤ from → shift from k q ≡ q
 shift_not from k q h = rw (le-leb q from h, shift)
 
--- t is s, with k bytes more behind the body of the record at `from`, whose length counts them
+-- t is s with k more bytes behind the body of the record at `from`; that record's length counts them.
 pub record Grows (s t : List ℕ) (from k : ℕ) : Type 0 where
   pub longer : length t ≡ length s + k
   pub body_longer : body_len t from ≡ body_len s from + k
@@ -66,7 +66,7 @@ pub record Grows (s t : List ℕ) (from k : ℕ) : Type 0 where
   pub behind : (j : ℕ) → next s from ≤ j → byte_at t (j + k) ≡ byte_at s j
 
 module _ (s t : List ℕ) (from k : ℕ) (g : Grows s t from k) where
-  -- the ends of records
+  -- Where records end.
   next_before : (at : ℕ) → next s at ≤ from → next t at ≡ next s at
   next_before at h = omega (arith, g.before at (omega arith), g.before (at + 1) (omega arith))
 

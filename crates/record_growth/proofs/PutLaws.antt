@@ -1,4 +1,4 @@
--- Bytes of a list with bytes written or inserted into it, and that writes which share no byte may change places. Assumes nothing.
+-- The bytes of a list after bytes are written or inserted. Writes that share no byte may change places. Assumes nothing.
 use Rattle.std.specs.Prelude.{ℕ, ◌+◌, ◌-◌, ◌≤◌, ◌<◌, List, ◌++◌, Bool, true, false, ◌⊎◌, ◌≡◌, refl, take, drop, ltb}
 use native.Mathlib.Omega.{arith}
 use Rattle.std.proofs.Common.{inl, inr, sym, ◌∙◌, length-append, length-drop, ext_get_or, ltb-true, ltb-false}
@@ -160,7 +160,7 @@ put_insert s at bs i a h room =
         put_out (insert s at bs) i a r' x o ∙ ap (byte_at (insert s at bs)) e ∙ insert_behind s at bs room y (omega arith)
         ∙ sym (ap (byte_at (insert (append s i a) at bs)) e ∙ insert_behind (append s i a) at bs room' y (omega arith) ∙ put_out s i a r y (inr (omega arith)))
 
--- a write within the first f bytes
+-- A write within the first f bytes can be done in those bytes alone.
 pub take_put : (d : List ℕ) (f i : ℕ) (a : List ℕ) → i + length a ≤ f → f ≤ length d → take f (append d i a) ≡ append (take f d) i a
 take_put d f i a h room =
     ext_get_or 0 (take f (append d i a)) (append (take f d) i a) (lt ∙ sym (put_length (take f d) i a r' ∙ l')) (λ x l. byte x (omega (arith, lt)) (side x i (length a)))
@@ -185,7 +185,7 @@ take_put d f i a h room =
         get_or-take f (append d i a) x 0 l ∙ put_out d i a (omega arith) x o
         ∙ sym (put_out (take f d) i a r' x o ∙ get_or-take f d x 0 l)
 
--- a write into what was written from the beginning on
+-- A write into what was just put at the beginning can be made before it is put there.
 pub put_front : (d g : List ℕ) (i : ℕ) (a : List ℕ) → i + length a ≤ length g → length g ≤ length d → append (append d 0 g) i a ≡ append d 0 (append g i a)
 put_front d g i a h room =
     ext_get_or 0 (append (append d 0 g) i a) (append d 0 (append g i a)) (put_length (append d 0 g) i a r' ∙ lp ∙ sym (put_length d 0 (append g i a) (omega (arith, lg))))
@@ -214,7 +214,7 @@ put_front d g i a h room =
         put_out (append d 0 g) i a r' x o ∙ put_out d 0 g (omega arith) x (inr q)
         ∙ sym (put_out d 0 (append g i a) (omega (arith, lg)) x (inr (omega (arith, lg))))
 
--- a write that is written over from the beginning on
+-- A write that is then overwritten from the beginning on leaves nothing.
 pub put_over : (d g : List ℕ) (i : ℕ) (a : List ℕ) → i + length a ≤ length g → length g ≤ length d → append (append d i a) 0 g ≡ append d 0 g
 put_over d g i a h room =
     ext_get_or 0 (append (append d i a) 0 g) (append d 0 g) (put_length (append d i a) 0 g r' ∙ lp ∙ sym (put_length d 0 g (omega arith)))
@@ -231,7 +231,7 @@ put_over d g i a h room =
     byte x (outside (inl q)) = absurd (omega arith)
     byte x (outside (inr q)) = put_out (append d i a) 0 g r' x (inr q) ∙ put_out d i a (omega arith) x (inr (omega arith)) ∙ sym (put_out d 0 g (omega arith) x (inr q))
 
--- what stood there, put back
+-- Putting back what stood there undoes a write.
 pub put_back_same : (d : List ℕ) (i : ℕ) (a : List ℕ) (n : ℕ) → i + n ≤ length d → length a ≡ n → append (append d i a) i (part d i n) ≡ d
 put_back_same d i a n room e =
     ext_get_or 0 (append (append d i a) i w) d (put_length (append d i a) i w r' ∙ lp) (λ x l. byte x (side x i n))
@@ -257,7 +257,7 @@ put_back_same d i a n room e =
     byte x (outside (inr q)) =
         put_out (append d i a) i (part d i n) r' x (inr (omega (arith, lw))) ∙ put_out d i a (omega arith) x (inr (omega arith))
 
--- a part that no write reaches
+-- A part that the write does not reach stays.
 pub part_out : (d : List ℕ) (i : ℕ) (a : List ℕ) (j n : ℕ) → i + length a ≤ length d → j + n ≤ length d → (i + length a ≤ j) ⊎ (j + n ≤ i) → part (append d i a) j n ≡ part d j n
 part_out d i a j n ri rj apart =
     ext_get_or 0 (part (append d i a) j n) (part d j n) (l₁ ∙ sym l₂) (λ x h. byte x (omega (arith, l₁)))

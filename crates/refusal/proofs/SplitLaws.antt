@@ -1,4 +1,4 @@
--- The parts from the sign and the absolute value. Assumes nothing.
+-- A number's two parts, from its sign and its absolute value. Assumes nothing.
 use Rattle.std.specs.Prelude.{ℕ, suc, ◌-◌, ◌<◌, ◌^◌, ◌≡◌, refl, Bool, true, false, T, ℤ, pos, negsuc, nat_abs, ◌-ℤ◌}
 use Rattle.std.proofs.Common.{arith, ap, ltb-true, le-ltb, SFits, ◌∙◌}
 use Rattle.std.specs.Int.Signed.{lt_z, non_neg}
@@ -28,7 +28,7 @@ parts z {negative} {bit} {magnitude} f p q r =
     let d : magnitude - bit ≡ size z = rw (r, q, p) (size_is z) in
     (p ∙ same_sign z, d, rw d (small z f))
 
--- the parts by the test of the sign
+-- The parts, when the test of the sign says negative.
 pub record Below (z : ℤ) : Type 0 where
   pub negative : true ≡ is_negative z
   pub turned : negsuc 0 -ℤ z ≡ pos (size z)

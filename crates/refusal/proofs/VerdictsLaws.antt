@@ -15,6 +15,6 @@ pub name_pass : (n : ℕ) (r : Option ℕ) → name_verdict n r ≡ Ok tt → r 
 name_pass n None e = refl
 name_pass n (Some p) e = cc
 
--- a list's verdict is what its check gave
+-- A list's verdict follows from what its check gave.
 pub verdict : (of : Option ℕ → Verdict) {bad found : Option ℕ} {v : Verdict} → bad ≡ found → v ≡ of bad → of found ≡ v
 verdict of e f = ap of (sym e) ∙ sym f

@@ -1,4 +1,4 @@
--- Laws of regions: what a layout that is kept says of each region, that regions stand one after another, that a change within one region's data moves none, and where a layout breaks. Assumes nothing.
+-- Laws of regions: each is whole in a good list; they stand one after another; a change in one's data moves none; where a layout breaks. Assumes nothing.
 use Rattle.std.specs.Prelude.{ℕ, zero, suc, ◌+◌, ◌≤◌, ◌<◌, List, [], ◌∷◌, Bool, true, false, ◌&&◌, ◌⊎◌, ◌≡◌, refl, length, get_or, leb, eqb, ltb, None, Some}
 use Rattle.std.proofs.Common.{add-one, arith, inl, inr, ⊎_elim, sym, ap, ◌∙◌, drop-cons, leb-true, ltb-true, ltb-false}
 use Rattle.std.proofs.Math.Bool.{and-eq-true_iff}
@@ -10,7 +10,7 @@ use Rattle.regions.specs.Regions.{region_ok, region_records, region_layout, regi
 
 -- ---- one region
 
--- what a region's test says, in facts
+-- What holds when a region's test passes.
 pub record RegionIs (s : List ℕ) (at : ℕ) : Type 0 where
   pub whole_at : whole s at ≡ true
   pub head : at + 4 ≤ length s
@@ -27,7 +27,7 @@ region_is s at e =
 
 -- ---- the places of records, of any kind
 
--- two tests that agree at each place
+-- Two tests that agree at each place fail first at the same place.
 of_same : (n : ℕ) (f g : ℕ → Bool) (ps : List ℕ) → ((k : ℕ) → k < length ps → f (get_or ps k 0) ≡ g (get_or ps k 0)) → first_bad_of n f ps ≡ first_bad_of n g ps
 unfolding first_bad_of
 of_same zero f g [] e = refl
@@ -55,7 +55,7 @@ place_first s = go (places s) (sym (places_all s))
     go [] e = refl
     go (p ∷ ps) e = (places_cons s 0 p ps e).1
 
--- where another place follows, it is one of those from the first record's end on
+-- If another place follows, it is the first place from the first record's end on.
 places_two : (s : List ℕ) (at p q : ℕ) (ps : List ℕ) → places_from s at ≡ p ∷ (q ∷ ps) → (p ≡ at) × (places_from s (next s at) ≡ q ∷ ps)
 places_two s at p q ps e = let c = places_cons s at p (q ∷ ps) e in (c.1, ⊎_elim (λ w. w.1) (λ w. cc) c.2)
 
@@ -74,7 +74,7 @@ place_suc s n h = after_from s 0 (places s) n (sym (places_all s)) h
 pub place_after : (s : List ℕ) (n : ℕ) → n + 1 < region_count s → region_place s (n + 1) ≡ next s (region_place s n)
 place_after s n h = rw (add-one n) (place_suc s n (omega arith))
 
--- so a later record begins at the end of an earlier one or after it
+-- So a later record begins at the end of an earlier one, or behind it.
 pub places_apart : (s : List ℕ) (m n : ℕ) → m < n → n < region_count s → next s (region_place s m) ≤ region_place s n
 places_apart s m zero l h = absurd (omega arith)
 places_apart s m (suc n) l h = go (ltb m n) refl (places_apart s m n)
@@ -90,7 +90,7 @@ places_apart s m (suc n) l h = go (ltb m n) refl (places_apart s m n)
 whole_same : (s t : List ℕ) (at : ℕ) → length s ≡ length t → body_len s at ≡ body_len t at → whole s at ≡ whole t at
 whole_same s t at l b = rw (l, b)
 
--- where the lengths of the records agree, so do their places
+-- Lists with equal record lengths have equal places.
 same_from : (s t : List ℕ) (at : ℕ) (ps : List ℕ) → length s ≡ length t → places_from s at ≡ ps
     → ((n : ℕ) → n < length ps → body_len s (get_or ps n 0) ≡ body_len t (get_or ps n 0)) → places_from t at ≡ ps
 same_from s t at [] l e h = go (ltb at (length s)) refl
@@ -112,7 +112,7 @@ same_from s t at (p ∷ ps) l e h =
 pub places_same : (s t : List ℕ) → length s ≡ length t → ((n : ℕ) → n < region_count s → body_len s (region_place s n) ≡ body_len t (region_place s n)) → places t ≡ places s
 places_same s t l h = places_all t ∙ same_from s t 0 (places s) l (sym (places_all s)) h
 
--- where their kinds agree too, both are regions or neither is
+-- If the kinds agree too, both records are regions or neither is.
 ok_same : (s t : List ℕ) (at : ℕ) → length s ≡ length t → body_len s at ≡ body_len t at → kind_at s at ≡ kind_at t at → region_ok s at ≡ region_ok t at
 unfolding region_ok
 ok_same s t at l b k = rw (whole_same s t at l b, k, b)

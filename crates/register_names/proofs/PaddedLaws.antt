@@ -1,4 +1,4 @@
--- Laws of padded names: the table has each of them, and names of letters and digits with one key are equal. Assumes nothing.
+-- Laws of padded names: the table has each of them; two names of letters and digits with one key are equal. Assumes nothing.
 use Rattle.std.specs.Prelude.{ℕ, zero, suc, ◌+◌, ◌*◌, ◌≤◌, ◌<◌, List, [], ◌∷◌, true, ◌≡◌, refl, length, get_or}
 use Rattle.std.proofs.Common.{not-suc-le-zero, arith, ap, ap₂, ◌∙◌}
 use Rattle.std.proofs.Math.Bool.{and-eq-true_iff}
@@ -49,7 +49,7 @@ byte_lt [] i e = omega arith
 byte_lt (x ∷ xs) zero e = omega (arith, word_range x (first_word x xs e).0)
 byte_lt (x ∷ xs) (suc i) e = byte_lt xs i (first_word x xs e).1
 
--- equal as far as both reach
+-- Names that agree byte by byte, blanks behind them included, are equal.
 alike : (k : ℕ) (a b : List ℕ) → length a ≤ k → length b ≤ k → all word_byte a ≡ true → all word_byte b ≡ true
     → ((i : ℕ) → i < k → byte_or_blank a i ≡ byte_or_blank b i) → a ≡ b
 alike k [] [] m n p q h = refl
@@ -68,7 +68,7 @@ below_four P p q r s (suc (suc zero)) h = r
 below_four P p q r s (suc (suc (suc zero))) h = s
 below_four P p q r s (suc (suc (suc (suc i)))) h = absurd (omega arith)
 
--- the last digit and what is before it
+-- Numbers that agree have the same last digit and the same rest.
 digit : (a b x y : ℕ) → a < 256 → b < 256 → a + 256 * x ≡ b + 256 * y → (a ≡ b) × (x ≡ y)
 digit a b x y h k e =
     let l : x ≤ y = omega arith in

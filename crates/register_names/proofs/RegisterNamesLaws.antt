@@ -52,7 +52,7 @@ place_none : (name : List ℕ) → place_of name [] ≡ 0
 unfolding place_of
 place_none name = refl
 
--- the name at i has another key, and the place is further on; or it has the key, and that is the place
+-- If the name at i has another key, the place is further on; if it has this key, i is the place.
 module _ (name : List ℕ) (w : Word name) (i : ℕ) (h : i < length names) where
   abbrev here : List ℕ
   here = get_or names i []
@@ -76,7 +76,7 @@ pub place_end : (name : List ℕ) (i : ℕ) → length names ≤ i → place_of 
 unfolding place_of
 place_end name i h = rw (drop_of_length-le names h)
 
--- the place is that of the first name with the key
+-- The place is that of the first name with this key.
 abbrev pub has_key : List ℕ → ℕ → Bool
 has_key name i = eqb (key_of (get_or names i [])) (key_of name)
 
@@ -97,7 +97,7 @@ few name (n ∷ ns) = go (same_bytes name n) refl (few name ns)
     go true e ih = omega (arith, hit name n ns e)
     go false e ih = omega (arith, step name n ns e)
 
--- by what a search for the key finds
+-- The place, from what a search for the key finds.
 pub place_searched : (name : List ℕ) → Word name → (found : Option ℕ) → let p = position_or_len (has_key name) (range_with_len 0 96) in
     found ≡ cond (ltb p 96) (Some p) None → unwrap_or found 96 ≡ place_of name names
 place_searched name w found e = ap (λ (o : Option ℕ). unwrap_or o 96) e ∙ go (ltb p 96) refl
@@ -109,7 +109,7 @@ place_searched name w found e = ap (λ (o : Option ℕ). unwrap_or o 96) e ∙ g
     go true b = rw b (by_key name w 0 96 (omega (arith, name_count)))
     go false b = rw b (omega (arith, ltb-false p 96 b, by_key name w 0 96 (omega (arith, name_count)), few name names, name_count))
 
--- the same, by whether the search finds a name
+-- The same in two cases: the search finds a name, or none.
 pub place_cases : (name : List ℕ) → Word name → (found : Option ℕ) → let p = position_or_len (has_key name) (range_with_len 0 96) in
     found ≡ cond (ltb p 96) (Some p) None → MatchOption found (96 ≤ place_of name names) (λ at. (at ≡ place_of name names) × (at < 96))
 place_cases name w found e = rw e (go (ltb p 96) refl)
@@ -121,7 +121,7 @@ place_cases name w found e = rw e (go (ltb p 96) refl)
     go true b = rw b (by_key name w 0 96 (omega (arith, name_count)), ltb-true p 96 b)
     go false b = rw b (omega (arith, ltb-false p 96 b, by_key name w 0 96 (omega (arith, name_count))))
 
--- a longer name is none of them
+-- A longer name is not in the list.
 longer : (name : List ℕ) (ns : List (List ℕ)) → 4 < length name → all_short ns ≡ true → place_of name ns ≡ length ns
 unfolding place_of all_short
 longer name [] h e = refl
@@ -134,7 +134,7 @@ pub place_longer : (name : List ℕ) → 4 < length name → place_of name names
 place_longer name h = longer name names h names_short ∙ name_count
 
 -- ---- the register
--- a name of the first list has its place there, and another its place behind it
+-- A name of the first list has its place there; any other has its place in the second list.
 data Placed (name : List ℕ) (ms ns : List (List ℕ)) : Type 0 where
   first : place_of name ms < length ms → place_of name (ms ++ ns) ≡ place_of name ms → Placed name ms ns
   later : place_of name ms ≡ length ms → place_of name (ms ++ ns) ≡ length ms + place_of name ns → Placed name ms ns
@@ -149,7 +149,7 @@ placed name (m ∷ ms) ns = go (same_bytes name m) refl (placed name ms ns)
     go false e (first h f) = first (omega (arith, step name m ms e)) (step name m (ms ++ ns) e ∙ ap suc f ∙ sym (step name m ms e))
     go false e (later h f) = later (step name m ms e ∙ ap suc h) (step name m (ms ++ ns) e ∙ omega (arith, f))
 
--- by a place below n, or what is left of it
+-- Below n the place picks one of `register`; from n on, one of `rest`.
 abbrev register_by_place : ℕ → (ℕ → Option NamedRegister) → (ℕ → Option NamedRegister) → ℕ → Option NamedRegister
 register_by_place n register rest p = elim (ltb p n) [ true ↦ register p | false ↦ rest (p - n) ]
 
@@ -185,7 +185,7 @@ register_at name =
     by_place name general_names (number_names ++ float_names) (λ n. Some (General (register_of n))) number_at
     ∙ ap (among general_names (λ n. Some (General (register_of n))) name) (by_place name number_names float_names (λ n. Some (General (register_of n))) float_at)
 
--- the register by the place among all names
+-- The register, from the place among all names.
 module _ (name : List ℕ) (p : ℕ) (e : p ≡ place_of name names) where
   is : register_by_place 32 (λ n. Some (General (register_of n))) number_at p ≡ register_named name
   is = ap (register_by_place 32 (λ n. Some (General (register_of n))) number_at) e ∙ register_at name

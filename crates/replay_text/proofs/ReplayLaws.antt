@@ -1,4 +1,4 @@
--- A call is met where what it gives back is what is expected; what is held of a line's lists, and the tally of the first calls. Assumes nothing.
+-- A call is met if it gives what is expected. Also what is held of a line's lists, and the tally of the first calls. Assumes nothing.
 use Rattle.std.specs.Prelude.{ℕ, ◌+◌, ◌≤◌, List, Bool, true, false, ◌&&◌, ltb, ◌≡◌, refl}
 use Rattle.std.proofs.Common.{arith, add-one, ◌∙◌}
 use Rattle.emit_outcome.specs.declared.LinePlace.{LinePlace}

@@ -27,7 +27,7 @@ use Rattle.routine.specs.CallValues.{line_pairs, call_pairs}
 abbrev pub call_stop : Call → Verdict
 call_stop c = list_stop c.token_list c.mnemonic c.descriptors c.lent c.numbers.place.region c.numbers.counts
 
--- the layouts of a call's lists that pass
+-- The lists of a call keep their layouts.
 pub record ListsPass (c : Call) : Type 0 where
   pub tokens_good : token_layout c.token_list ≡ None
   pub data_good : data_buffer_layout c.numbers.place.region c.numbers.counts.data_len c.lent.region_data ≡ None
@@ -86,7 +86,7 @@ module _ (c : Call) where
 module _ (job : Job) (c : Call) where
   -- ---- the words of its line
 
-  -- of a line that is made: at least one and at most five
+  -- If a line is made, it has one to five words.
   abbrev pub WordsMade : Option Line → Type 0
   WordsMade (Some made) = made.answer ≡ Made → Words c.token_list 1 5 made.pairs
   WordsMade None = Unit {0}

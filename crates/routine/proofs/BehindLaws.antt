@@ -1,4 +1,4 @@
--- Records written behind a list, as values: the list's own are as before, and those of what was written follow them. Assumes nothing.
+-- Records written behind a list, read as values: the list's own values stay, and the new records' values follow. Assumes nothing.
 use Rattle.std.specs.Prelude.{ℕ, ◌+◌, ◌*◌, ◌^◌, ◌≤◌, ◌<◌, ◌≡◌, refl, None, Option, Some}
 use Rattle.std.proofs.Common.{arith, sym, ◌∙◌}
 use Rattle.std.proofs.Math.Path.{ap, ap₂, subst}
@@ -35,7 +35,7 @@ map_append : {A : Type 0} (f : ℕ → A) (ps qs : List ℕ) → map f (ps ++ qs
 map_append f [] qs = refl
 map_append {A} f (p ∷ ps) qs = ap (λ (xs : List A). f p ∷ xs) (map_append f ps qs)
 
--- one place more, of which f is a value, and the others are as before
+-- One place more: f gives `value` there, and agrees with g at the other places.
 one_value : {A : Type 0} (f g : ℕ → A) {new : List ℕ} (old : List ℕ) (at : ℕ) (value : A) → new ≡ old ++ at ∷ [] → ((p : ℕ) → Memᴰ p old → f p ≡ g p) → f at ≡ value
     → map f new ≡ map g old ++ value ∷ []
 one_value {A} f g old at value e h v =
@@ -61,7 +61,7 @@ next_origin origin i = at_offset origin ((origin_at origin i).offset + 4) (origi
 -- ---- records behind a list
 
 module _ (regions : ℕ) where
-  -- a list of pendings, with these patches behind it
+  -- `new` is a good list that reads as `old` with these patches behind it.
   pub record Behind (old new : List ℕ) (patches : List Patch) : Type 0 where
     pub keeps : first_bad (pending_ok regions new) (places new) ≡ None
     pub patches_are : patches_in new ≡ patches_in old ++ patches
@@ -78,7 +78,7 @@ module _ (regions : ℕ) where
     patches_are = b.patches_are ∙ ap (λ (ps : List Patch). ps ++ q) a.patches_are ∙ append_assoc (patches_in old) p q;
   }
 
-  -- an origin of one of the regions whose numbers fit
+  -- An origin in one of the regions, with numbers that fit their fields.
   pub record OriginFits (origin : Origin) : Type 0 where
     pub region_ok : origin.region < regions
     pub region_fits : origin.region < 2 ^ 16

@@ -1,4 +1,4 @@
--- The patches of calls one after the other begin where the data ended before them, and lie inside what all of them leave. Assumes nothing.
+-- Patches of calls, one after the other: each begins where the data ended before the calls, or later, and lies inside what they all leave. Assumes nothing.
 use Rattle.std.specs.Prelude.{ℕ, ◌+◌, ◌≤◌, ◌≡◌, refl, List, Bool, true, false, eqb}
 use Rattle.std.proofs.Common.{arith, ap, eqb-true}
 use Rattle.std.proofs.lemmas.Bool.{eqb-false}
@@ -8,11 +8,11 @@ use Rattle.routine.specs.Run.{Each}
 use Rattle.routine.proofs.InsideLaws.{each_append, each_so, Before, patches_before, Behind, patches_behind}
 use Rattle.routine.specs.Chains.{JobCall, selected_by, DataLengths, Appends, Chain, none, next, chain_patches}
 
--- a patch that begins where its region's data ended, or later
+-- A patch that begins where its region's data ended, or behind that.
 abbrev pub From : DataLengths → Patch → Type 0
 From before p = before p.region ≤ p.offset
 
--- one that ends inside its region's data
+-- A patch that ends inside its region's data.
 abbrev pub Within : DataLengths → Patch → Type 0
 Within after p = p.offset + 4 ≤ after p.region
 

@@ -38,13 +38,13 @@ module _ (fill : ℕ) (s : List ℕ) (short : length s ≤ limit) (filled : fill
   unfolding breakpoint_buffer_layout
   breakpoints_pass g = filled_kept fill s (first_bad (breakpoint_ok (take fill s)) (places (take fill s))) short filled ∙ g
 
-  -- as a build's list
+  -- The filled part also passes as a build's list.
   pub build_passes : (regions : ℕ) → first_bad (pending_ok regions (take fill s)) (places (take fill s)) ≡ None → pending_layout regions (take fill s) ≡ None
   unfolding pending_layout
   build_passes regions g =
       limit_kept (take fill s) (first_bad (pending_ok regions (take fill s)) (places (take fill s))) (omega (arith, length-take fill s)) ∙ g
 
--- a number that passes and is not that of none
+-- A number that passes, and is not the number for no region, is below 16.
 pub selected_below : (region : ℕ) → region_number_ok region ≡ true → eqb region 65535 ≡ false → region < 16
 selected_below region e n = go (leb region 15) refl
   where

@@ -1,4 +1,4 @@
--- The patches of a line begin where the data ended before it, and lie inside the data that its words are appended to. Assumes nothing.
+-- A line's patches begin where the data ended before it, or later, and lie inside the data with its words. Assumes nothing.
 use Rattle.std.specs.Prelude.{ℕ, ◌+◌, ◌*◌, ◌≤◌, ◌≡◌, refl, ◌⊎◌, length, None, Option, Some}
 use Rattle.std.proofs.Common.{arith, inl, inr}
 use mathlib.Core.List.Memᴰ
@@ -18,7 +18,7 @@ module _ {A : Type 0} where
   each_so P Q f [] h = tt
   each_so P Q f (x ∷ xs) h = (f x h.0, each_so P Q f xs h.1)
 
--- what holds of each that a list is mapped to
+-- A claim on each mapped value holds for each member of the list.
 pub each_mem : {A : Type 0} (P : A → Type 0) (f : ℕ → A) (xs : List ℕ) (q : ℕ) → Each P (map f xs) → Memᴰ q xs → P (f q)
 each_mem P f [] q e m = elim m [ ]
 each_mem P f (x ∷ xs) q e m = go (Memᴰ.cases_cons m) (each_mem P f xs q e.1)
@@ -27,7 +27,7 @@ each_mem P f (x ∷ xs) q e m = go (Memᴰ.cases_cons m) (each_mem P f xs q e.1)
     go (inl s) ih = rw s e.0
     go (inr t) ih = ih t
 
--- a patch of the region that ends at most there
+-- A patch of the region that ends at `end` or before.
 abbrev pub Before : (region end : ℕ) → Patch → Type 0
 Before region end p = (p.region ≡ region) × (p.offset + 4 ≤ end)
 
@@ -43,7 +43,7 @@ patches_before token_list origin i end (p ∷ ps) h =
     each_append (Before origin.region end) (pair_patches token_list (origin_at origin i) p.label) (patches_from token_list origin (i + 1) ps)
     (one_before token_list (origin_at origin i) end p.label (omega arith)) (patches_before token_list origin (i + 1) end ps (omega arith))
 
--- a patch of the region that begins there or later
+-- A patch of the region that begins at `offset` or later.
 abbrev pub Behind : (region offset : ℕ) → Patch → Type 0
 Behind region offset p = (p.region ≡ region) × (offset ≤ p.offset)
 

@@ -130,7 +130,7 @@ computed = record { accepted = next 3 BothHalves refl (next 3 Unloaded refl (nex
 pub example_fits : RoutineFits example start
 example_fits = routine_fits example start example_empty example_bytes computed.accepted
 
--- b loop may come again, and a build of two regions takes what there is
+-- b loop may come once more, and a build of two regions takes what is there.
 pub example_next : lists_of b (run example start) ≡ Ok tt
 unfolding token_layout token_ok payload_of payload_ok mnemonic_layout one_mnemonic mnemonic_ok descriptor_layout first_later places_f places_from places first_bad first_bad_of within_limit all
 example_next = example_fits.next_passes b (record { tokens_good = refl; mnemonic_good = refl; descriptors_good = refl; names_apart = refl; region_ok = refl })

@@ -24,12 +24,12 @@ pub record LineFits (job : Job) (c : Call) (o : EmitOutcome) : Type 0 where
   pub breakpoints_good : breakpoint_buffer_layout o.counts.breakpoints o.lent.breakpoints ≡ None
   -- "in an emit call a pending needs 0 to 15"
   pub region_below : c.numbers.place.region < 16
-  -- a build of enough regions that takes the earlier pendings takes these
+  -- A build of enough regions that takes the earlier pendings takes these too.
   pub build_takes : (regions : ℕ) → c.numbers.place.region < regions → pending_layout regions (filled_pending c.lent c.numbers.counts) ≡ None
       → pending_layout regions (filled_pending o.lent o.counts) ≡ None
   -- the data grows by the line's words
   pub data_grown : o.counts.data_len ≡ c.numbers.counts.data_len + 4 * length (call_pairs job c)
-  -- what is read is what was there before, and then the line's
+  -- Reading gives what was there before, and then the line's own.
   pub words_are : filled_data o.lent o.counts ≡ filled_data c.lent c.numbers.counts ++ word_bytes (call_pairs job c)
   pub patches_are : patches_in (filled_pending o.lent o.counts) ≡ patches_in (filled_pending c.lent c.numbers.counts) ++ call_patches job c
   pub breakpoints_are : breakpoints_in (filled_breakpoints o.lent o.counts) ≡ breakpoints_in (filled_breakpoints c.lent c.numbers.counts) ++ call_breakpoint job c ∷ []

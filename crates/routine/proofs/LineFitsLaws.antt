@@ -32,7 +32,7 @@ use Rattle.routine.proofs.AcceptedLaws.{AcceptedCall}
 use Rattle.routine.proofs.FilledLaws.{still_short, filled_within, filled_is, data_passes, pending_passes, breakpoints_pass, build_passes, selected_below}
 use Rattle.refusal.specs.Verdicts.{Verdict}
 
--- a check that passes finds a region selected
+-- If the check passes, a region is selected.
 some_region : (line : Location) (b : Bool) → ◌≡◌ {A = Verdict} (elim b [ true ↦ Err (MissingRegion line) | false ↦ Ok tt ]) (Ok tt) → b ≡ false
 some_region line true e = cc
 some_region line false e = refl
@@ -109,7 +109,7 @@ module _ (job : Job) (c : Call) (a : AcceptedCall job c) (mnemonic : Bytes c.mne
       (record { region_ok = h; region_fits = omega (arith, region_selected); location_fits = location_within })
       (omega (arith, room.data_fits, data_before.1)) a.words.fit)
 
-  -- its filled part, and that its records fit behind it
+  -- The filled part, and the new records behind it.
   pub pending_is : filled_with c.lent.pending counts.pending waits ≡ take counts.pending c.lent.pending ++ waits
   pending_is = filled_is c.lent.pending counts.pending waits pending_room
 

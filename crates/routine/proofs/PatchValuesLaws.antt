@@ -1,4 +1,4 @@
--- A pending's destination is that of its value as a patch. Assumes nothing.
+-- A pending and its value as a patch have the same destination. Assumes nothing.
 use Rattle.std.specs.Prelude.{ℕ, ◌≡◌, refl, List}
 use Rattle.labels.specs.Labels.{Table}
 use Rattle.address_label.specs.LabelBytes.{name_bytes}

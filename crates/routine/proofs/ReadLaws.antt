@@ -1,4 +1,4 @@
--- What the operand readers give of tokens that fit: each label fits a pending record. Assumes nothing.
+-- What the operand readers give for tokens that fit: each label fits a pending record. Assumes nothing.
 use Rattle.std.specs.Prelude.{ℕ, ◌^◌, ◌<◌, List, Bool, length, get_or, ltb, None, Option, Some}
 use Rattle.std.proofs.Common.{arith}
 use Rattle.std.proofs.Math.Bool.{true, false}
@@ -22,7 +22,7 @@ use Rattle.operand_list.specs.OperandLists.{read_operand, AskedAll, then_read, t
 use Rattle.operand_list.specs.declared.Wants.{Wants}
 use Rattle.routine.proofs.TokenLaws.{TextFits, IntegerFits, SymbolFits, TokenFits}
 
--- what holds of an answer that was got
+-- P holds if the answer was got.
 abbrev pub Of : {A : Type 0} → (A → Type 0) → Answer A → Type 0
 Of P (Got x) = P x
 Of P (Missed m) = Unit {0}
@@ -39,7 +39,7 @@ module _ (names : List ℕ) where
   SeenFits None = Unit {0}
   SeenFits (Some t) = TokenFits names t
 
-  -- the labels of an operand fit
+  -- An operand's labels fit.
   abbrev pub AskedFits : (w : Want) → Asked w → Type 0
   AskedFits a_register x = Unit {0}
   AskedFits an_fp_register x = Unit {0}
@@ -54,7 +54,7 @@ module _ (names : List ℕ) where
   abbrev pub AllFit : (w : Wants) → AskedAll w → Type 0
   AllFit w x = AskedFits w.first x.0 × AskedFits w.second x.1 × AskedFits w.third x.2
 
--- what holds of both cases of a test holds of the test's case
+-- What holds in both cases of a test holds for its result.
 either : {A : Type 0} (P : A → Type 0) {x y : A} (b : Bool) → P x → P y → P (elim b [ true ↦ x | false ↦ y ])
 either P true p q = p
 either P false p q = q
@@ -127,7 +127,7 @@ module _ (names : List ℕ) (ts : List Token) (fit : (i : ℕ) → TokenFits nam
 
   -- ---- labels
 
-  -- what an answer that was got at an index has
+  -- The label of an answer, if there is one, fits.
   abbrev LabelAt : At (Answer AddressLabel) → Type 0
   LabelAt x = Of (LabelFits names) x.answer
 

@@ -1,4 +1,4 @@
--- How much room is enough for any line: what `line_grows` says that one adds at most, in data short of its limit. Assumes nothing.
+-- How much room is enough for any line: the most that a line adds by `line_grows`, if the data stays within its limit. Assumes nothing.
 use Rattle.std.specs.Prelude.{ℕ, ◌+◌, ◌≤◌, length, Err, None, Ok, Option, Some}
 use native.Mathlib.Omega.{arith}
 use Rattle.std.proofs.Math.Path.{◌≡◌, refl}
@@ -34,7 +34,7 @@ module _ (job : Job) (c : Call) (roomy : Roomy c.numbers.counts c.lent) where
   abbrev line : Location
   line = mnemonic_location c.mnemonic
 
-  -- a line that was made, of at most five words of which at most two wait
+  -- A made line of at most five words, two of them waiting, is not refused with 12.
   line_other : (made : Line) → (made.answer ≡ Made → Words c.token_list 1 5 made.pairs) → waits made.pairs ≤ 2 → Other (line_stop c.token_list line c.numbers c.lent made)
   line_other made words two = go made.answer refl
     where
@@ -61,7 +61,7 @@ module _ (job : Job) (c : Call) (roomy : Roomy c.numbers.counts c.lent) where
   made_other (Some made) words two = outcome_other made (line_other made words two)
   made_other None words two = λ l a position e. let k : UnknownInstruction line ≡ NoSpace l a = (refused_parts e).0 in let z : ◌≡◌ {A = ℕ} 0 1 = cc in omega arith
 
-  -- no line is refused with 12 then
+  -- So no line is refused with 12.
   pub room_enough : Bytes c.token_list → (l : Location) (a position : ℕ) → (emit_outcome job c).answer ≡ refused_at (NoSpace l a) position → ⊥
   unfolding emit_outcome call_pairs
   room_enough bytes l a position e = go (call_stop c) refl e

@@ -21,7 +21,7 @@ lists_of l b =
     let c = call_on l b in
     list_stop c.token_list c.mnemonic c.descriptors c.lent c.numbers.place.region c.numbers.counts
 
--- a line whose own lists and region number these checks pass
+-- A good line: its own lists and its region number pass these checks.
 pub record GoodLine (l : RoutineLine) : Type 0 where
   pub tokens_good : token_layout l.token_list ≡ None
   pub mnemonic_good : mnemonic_layout l.mnemonic ≡ None
@@ -30,14 +30,14 @@ pub record GoodLine (l : RoutineLine) : Type 0 where
   pub region_ok : region_number_ok l.place.region ≡ true
 
 pub record RoutineFits (lines : List RoutineLine) (start : Buffers) : Type 0 where
-  -- a next line is not refused with 1 or 2 for what the lines wrote
+  -- What the lines wrote never gets a next line refused with 1 or 2.
   pub next_passes : (l : RoutineLine) → GoodLine l → lists_of l (run lines start) ≡ Ok tt
-  -- a build takes the filled pendings where its regions are more than those that the lines selected, and 16 always are
+  -- A build takes the filled pendings if it has every region that the lines selected; 16 regions are always enough.
   pub build_takes : (regions : ℕ) → Each (λ l. l.place.region < regions) lines → pending_layout regions (filled (run lines start).pending) ≡ None
   pub sixteen_take : pending_layout 16 (filled (run lines start).pending) ≡ None
   -- none of the patches "ends past its region's data"
   pub patches_inside : Each (Inside (run lines start)) (routine_patches lines start)
-  -- what is filled are the words of the lines that selected a region, and the patches and the breakpoints of all lines, in order
+  -- The filled parts hold, in order, the words of the lines that selected the region, and all lines' patches and breakpoints.
   pub words_are : (region : ℕ) → filled ((run lines start).region_data region) ≡ routine_words region lines start
   pub patches_are : patches_in (filled (run lines start).pending) ≡ routine_patches lines start
   pub breakpoints_are : breakpoints_in (filled (run lines start).breakpoints) ≡ routine_breakpoints lines start

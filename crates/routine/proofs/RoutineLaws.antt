@@ -1,4 +1,4 @@
--- Laws of a routine: a line leaves buffers that keep their layouts, and so do the lines one after the other. Assumes nothing.
+-- Laws of a routine: one line leaves buffers that keep their layouts, and so does one line after the other. Assumes nothing.
 use Rattle.std.specs.Prelude.{ℕ, ◌≤◌, ◌<◌, ◌≡◌, refl, List, [], ◌∷◌, ◌++◌, Bool, true, false, cond, length, take, eqb, None}
 use Rattle.std.proofs.Common.{arith, sym, subst, ◌∙◌, append_assoc, append-nil, eqb-true}
 use Rattle.std.proofs.Math.Path.{ap}
@@ -24,7 +24,7 @@ pub record Sound (b : Buffers) : Type 0 where
 abbrev Taken : ℕ → Buffers → Type 0
 Taken regions b = pending_layout regions (filled b.pending) ≡ None
 
--- what holds of both buffers holds of the one that a test picks
+-- What holds for both buffers holds for the one that a test picks.
 one_of : (P : Buffer → Type 0) {x y : Buffer} (t : Bool) → P x → P y → P (cond t x y)
 one_of P true p q = p
 one_of P false p q = q
@@ -37,7 +37,7 @@ after_sound l b s f = record {
   breakpoints_good = f.breakpoints_good;
 }
 
--- the region's data, with the line's words behind what it held
+-- The region's data: what it held, and then the line's words.
 after_words : (l : RoutineLine) (b : Buffers) → LineFits l.job (call_on l b) (emit_outcome l.job (call_on l b)) → (region : ℕ)
     → filled ((after_line l b).region_data region) ≡ filled (b.region_data region) ++ words_in region l b
 after_words l b f region = go (eqb region l.place.region) refl
@@ -49,7 +49,7 @@ after_words l b f region = go (eqb region l.place.region) refl
     go true e = f.words_are ∙ ap (λ (r : ℕ). filled (b.region_data r) ++ words) (sym (eqb-true region l.place.region e))
     go false e = sym (append-nil (filled (b.region_data region)))
 
--- a buffer of which nothing is filled
+-- Nothing of an empty buffer is filled.
 pub empty_filled : (b : Buffer) → Empty b → filled b ≡ []
 empty_filled b e = ap (λ (n : ℕ). take n b.bytes) e.none_filled
 
@@ -79,7 +79,7 @@ module _ (b : Buffer) (e : Empty b) where
       breakpoints_pass b.fill b.bytes e.within filled_within
       (subst (λ (s : List ℕ). first_bad (breakpoint_ok s) (places s) ≡ None) (sym (empty_filled b e)) (none_bad (breakpoint_ok [])))
 
-  -- it holds no record
+  -- An empty buffer holds no record.
   pub no_patches : patches_in (filled b) ≡ []
   unfolding patches_in places places_from places_f
   no_patches = ap patches_in (empty_filled b e)

@@ -1,4 +1,4 @@
--- A routine of accepted lines is such a chain of calls. Assumes nothing.
+-- A routine of accepted lines is a chain of calls, as ChainsLaws has it. Assumes nothing.
 use Rattle.std.specs.Prelude.{ℕ, ◌≡◌, refl, List, [], ◌∷◌, ◌++◌, Bool, cond}
 use Rattle.std.proofs.Common.{ap, subst, ◌∙◌, eq-eqb, ne_eqb}
 use Rattle.emit_outcome.specs.Emit.{emit_outcome}

@@ -1,4 +1,4 @@
--- Lemmas on which checks of an emit call may be refusal 12: only those of its room. Assumes nothing.
+-- Which checks of an emit call may refuse with 12: only the checks of room. Assumes nothing.
 use Rattle.std.specs.Prelude.{ℕ, zero, suc, ◌+◌, ◌*◌, ◌^◌, ◌-◌, ◌≤◌, ◌≡◌, List, Bool, true, false, length, leb, eqb, Err, None, Ok, Option, Some}
 use Rattle.std.proofs.Common.{arith, ap₂, le-leb}
 use Rattle.std.proofs.Math.Bool.{◌&&◌}
@@ -21,7 +21,7 @@ use Rattle.emit_outcome.specs.Room.{no_region, region_stop, edge_stop, new_pendi
 use Rattle.emit_outcome.specs.declared.FillCounts.{FillCounts}
 use Rattle.emit_outcome.specs.declared.LineNumbers.{LineNumbers}
 
--- a check that is not refusal 12
+-- A check that does not refuse with 12.
 abbrev pub Other : Verdict → Type 0
 Other v = (line : Location) (a : ℕ) → v ≡ Err (NoSpace line a) → ⊥
 
@@ -87,7 +87,7 @@ edge_other line address (suc n) size = go (leb (address + size) (2 ^ 32 - 1)) (e
 space_other : (line : Location) (which : ℕ) {b : Bool} → b ≡ true → Other (space_stop line which b)
 space_other line which e = rw e pass_other
 
--- with room for the words and the records no check of the room is refusal 12
+-- With room for the words and the records, no check of room refuses with 12.
 module _ (token_list : List ℕ) (line : Location) (numbers : LineNumbers) (lent : Lent) (pairs : List InstructionPair) where
   pub room_other : numbers.counts.data_len + 4 * length pairs ≤ length lent.region_data → numbers.counts.data_len + 4 * length pairs ≤ most_data
       → numbers.counts.pending + length (new_pending token_list line numbers pairs) ≤ length lent.pending

@@ -1,4 +1,4 @@
--- What a token of a list that keeps its layout holds: numbers that fit eight bytes, names of 1 to 64 text bytes. Assumes nothing.
+-- What the tokens of a good list hold: numbers that fit eight bytes, names of 1 to 64 text bytes. Assumes nothing.
 use Rattle.std.specs.Prelude.{ℕ, zero, suc, ◌+◌, ◌^◌, ◌≤◌, ◌<◌, ◌≡◌, List, [], ◌∷◌, map, ◌&&◌, length, get_or, None, Option, Some}
 use Rattle.std.proofs.Common.{arith, subst, length-take, length-drop}
 use Rattle.std.proofs.Math.Bool.{true, and-eq-true_iff}
@@ -51,13 +51,13 @@ pub record TokenFits (s : List ℕ) (t : Token) : Type 0 where
 
 -- ---- a token by its kind's number
 
--- what holds of each element of a list, by its index, and of the default past its end
+-- P holds for each element, with its index.
 abbrev EachAt : {A : Type 0} → (ℕ → A → Type 0) → ℕ → List A → Type 0
 EachAt P n [] = Unit {0}
 EachAt P n (x ∷ xs) = P n x × EachAt P (suc n) xs
 
 module _ (s : List ℕ) (at : ℕ) (bytes : Bytes s) where
-  -- a kind that passes the test of its payload's sort
+  -- If the payload passes the test of its sort, the kind's number or name fits.
   abbrev KindFits : ℕ → TokenKind → Type 0
   KindFits n k = payload_ok (payload_of n) s at ≡ true → IntegerFits (as_integer k) × SymbolFits s (as_symbol k)
 
@@ -72,7 +72,7 @@ module _ (s : List ℕ) (at : ℕ) (bytes : Bytes s) where
       let k = whole_is s at w in
       record { least = simp (length-take, length-drop) (omega arith); most = simp (length-take, length-drop) (omega arith); text = p.1 }
 
-  -- a kind that holds neither a number nor a name
+  -- A kind with neither a number nor a name.
   neither : {A : Type 0} → A → Unit {0} × Unit {0}
   neither e = (tt, tt)
 
@@ -83,7 +83,7 @@ module _ (s : List ℕ) (at : ℕ) (bytes : Bytes s) where
       let name : payload_ok Name s at ≡ true → Unit {0} × SymbolFits s (Some (text_at s at)) = λ e. (tt, named w h e) in
       (neither, (neither, (neither, (neither, (neither, (number, (neither, (neither, (name, (neither, (neither, (neither, (neither, (neither, (neither, (neither, tt))))))))))))))))
 
-  -- so it is with the kind at any number
+  -- So the kind at any number fits; past the end it is NewLine.
   kind_fits : (n : ℕ) (ks : List TokenKind) → EachAt KindFits n ks → (i m : ℕ) → n + i ≡ m → KindFits m (get_or ks i NewLine)
   kind_fits n [] e i m q = neither
   kind_fits n (k ∷ ks) e zero m q =
@@ -101,7 +101,7 @@ module _ (s : List ℕ) (at : ℕ) (bytes : Bytes s) where
       let k = kind_fits 0 (kinds_at s at) (kinds_fit w.0 (leb-true 8 (body_len s at) p.0)) kind kind (omega arith) p.1 in
       record { place_fits = location_fits s bytes (at + 4); integer_fits = k.0; symbol_fits = k.1 }
 
--- each token of a list that keeps its layout, and the one past its end
+-- Each token of a good list fits, and so does the default past its end.
 each_fits : (s : List ℕ) → Bytes s → (ps : List ℕ) → first_bad (token_ok s) ps ≡ None → (i : ℕ) → TokenFits s (get_or (map (token_at s) ps) i no_token)
 each_fits s bytes [] g i = record { place_fits = record { source_fits = omega arith; index_fits = omega arith }; integer_fits = tt; symbol_fits = tt }
 each_fits s bytes (p ∷ ps) g zero = token_fits s p bytes (first_good (token_ok s) p ps g).0

@@ -1,4 +1,4 @@
--- Lemmas on how many words of a line wait for a label: an address takes two, and no line more. Assumes nothing.
+-- How many words of a line wait for a label: an address has two, and no line has more. Assumes nothing.
 use Rattle.std.specs.Prelude.{ℕ, ◌+◌, ◌*◌, ◌%◌, ◌≤◌, ◌≡◌, refl, List, [], ◌∷◌, ◌++◌, map, Bool, true, false, length, None, Ok, Some, Option}
 use native.Mathlib.Omega.{arith}
 use Rattle.jobs.specs.declared.Job.{Job}
@@ -51,7 +51,7 @@ unfoldable pub waits : List InstructionPair → ℕ
 waits [] = 0
 waits (p ∷ ps) = waits_for p.label + waits ps
 
--- ---- a record of a label that fits has 36 bytes and a name of at most 64
+-- ---- the record of a label that fits: 36 bytes and a name of at most 64
 label_length : (names : List ℕ) (l : AddressLabel) → LabelFits names l → length (name_bytes names l) ≤ 64
 label_length names (Constant c) h = omega arith
 label_length names (Label name) h = h.most
@@ -86,7 +86,7 @@ unfolding waits
 value_waits (Slot r) = refl
 value_waits (Literal n) = load_waits n at_number
 
--- an address's two halves
+-- At most two words of an address wait.
 label_waits : (l : AddressLabel) (t : ℕ) → waits (label_pairs l t) ≤ 2
 unfolding waits label_pairs
 label_waits (Constant c) t = omega (arith, load_waits c t)

@@ -1,4 +1,4 @@
--- A line that was made has one to five words, and each label that one waits for fits a pending record. Assumes nothing.
+-- A made line has one to five words, and each label that a word waits for fits a pending record. Assumes nothing.
 use Rattle.std.specs.Prelude.{ℕ, suc, ◌+◌, ◌≤◌, ◌≡◌, refl, List, [], ◌∷◌, ◌++◌, map, Bool, true, false, length, get_or, None, Ok, Some, Option}
 use Rattle.std.proofs.Common.{arith, subst, length-append}
 use Rattle.jobs.specs.declared.Job.{Job}
@@ -47,7 +47,7 @@ module _ (names : List ℕ) where
   PairsFit [] = Unit {0}
   PairsFit (p ∷ ps) = PairFits p.label × PairsFit ps
 
-  -- so many words whose labels fit
+  -- `least` to `most` words, whose labels fit.
   pub record Words (least most : ℕ) (ps : List InstructionPair) : Type 0 where
     pub fit : PairsFit ps
     pub at_least : least ≤ length ps
@@ -109,7 +109,7 @@ module _ (names : List ℕ) where
   offset_words (Based label r) h = base_words label r h
   offset_words (LabelAlone label) h = widened (omega arith) (omega arith) (label_words label at_number h)
 
-  -- within its range an immediate operand has words
+  -- An immediate operand within its range has one to three words.
   immediate_words : (op : Opcode) (alt : Option Opcode) (rt rs c : ℕ) → immediate_range alt c ≡ Ok tt → Words 1 3 (immediate_pairs op alt rt rs c)
   immediate_words op alt rt rs c e = go (is_immediate c) refl alt e
     where

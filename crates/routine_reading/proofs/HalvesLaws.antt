@@ -1,5 +1,5 @@
--- The words of a line: those that wait for a half of an address are a lui with the upper half and straight behind it an ori with the lower,
--- both for one name; the others wait for a branch's or a jump's destination, or for nothing. Whatever the line. Assumes nothing.
+-- The words of a line. Words that wait for halves of an address come in pairs: a lui with the upper half, and right behind it an ori with the
+-- lower half of the same name. Any other word waits for a branch's or a jump's destination, or for nothing. Assumes nothing.
 use Rattle.std.specs.Prelude.{ℕ, ◌%◌, ◌≡◌, refl, List, [], ◌∷◌, ◌++◌, map, Bool, true, false, None, Ok, Some, Option}
 use Rattle.jobs.specs.declared.Job.{Job}
 use Rattle.registers.specs.Numbers.{register_number}
@@ -44,16 +44,16 @@ use Rattle.reading.specs.OnTarget.{Going}
 use Rattle.routine.specs.CallValues.{line_pairs, call_pairs}
 use Rattle.pending.specs.declared.InstructionLabel.{InstructionLabel}
 
--- a word that waits for no half, and for no whole address
+-- A word that waits for nothing, or for a branch's or a jump's destination.
 abbrev pub Whole : Option InstructionLabel → Type 0
 Whole None = Unit {0}
 Whole (Some waits) = Going waits.kind
 
--- a word that waits for this kind of patch of a name
+-- A word that waits for a patch of this kind, to this name.
 abbrev pub waits_for : InstructionLabelKind → NamedLabel → Option InstructionLabel
 waits_for kind name = Some (record { kind = kind; label = Label name })
 
--- each half beside its other
+-- Each upper half is followed by its lower half.
 pub data Halves : List InstructionPair → Type 0 where
   done : Halves []
   alone : {p : InstructionPair} {ps : List InstructionPair} → Whole p.label → Halves ps → Halves (p ∷ ps)
@@ -81,7 +81,7 @@ value_halves : (v : InstructionValue) → Halves (value_pairs v)
 value_halves (Slot r) = done
 value_halves (Literal n) = load_halves n at_number
 
--- the only two halves that a line has
+-- A line has no halves but these two.
 label_halves : (l : AddressLabel) (t : ℕ) → Halves (label_pairs l t)
 unfolding label_pairs
 label_halves (Constant c) t = load_halves c t

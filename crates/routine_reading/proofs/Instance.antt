@@ -1,4 +1,4 @@
--- The premises can be met: a routine of three lines, each for another sort of job, in two regions, and what the theorems say of its builds.
+-- The premises can be met: a routine of three lines in two regions, each line for another sort of job, and what the theorems say of its builds.
 -- Assumes nothing.
 use Rattle.std.specs.Prelude.{ℕ, zero, suc, ◌+◌, ◌%◌, ◌<◌, ◌≤◌, ◌≡◌, refl, List, [], ◌∷◌, ◌++◌, false, None, Ok, Option, Some}
 use Rattle.std.proofs.Common.{arith, sym, ap, subst, ◌∙◌}
@@ -135,7 +135,7 @@ lists = record {
   end_at = refl;
 }
 
--- what holds of both regions holds of each
+-- A claim on regions 0 and 1 holds for every region.
 of_both : (P : ℕ → Type 0) → P 0 → P 1 → (r : ℕ) → r < region_count regions → P r
 of_both P p q zero h = p
 of_both P p q (suc zero) h = q
@@ -162,7 +162,7 @@ on_words = of_both (λ (r : ℕ). (region_number regions r).address % 4 ≡ 0) (
 plain : (kind : InstructionLabelKind) → Plain kind (region_number regions 0)
 plain kind = record { below = omega (arith, lists.first_address, lists.first_size); page = λ e. omega (arith, lists.first_address, lists.first_size) }
 
--- a branch or a jump of the first region to a label that stands there
+-- A branch or a jump in the first region to a label there.
 to_label : (y : Patch) → y.region ≡ 0 → Going y.kind → (name : List ℕ) (n mark : ℕ) → y.target ≡ Name name (place n) 0 → LineMark 0 example start mark
     → resolve labels 1 name ≡ Some (0x00400000 + mark) → Settled example start (table_of labels) regions y
 to_label y r g name n mark t m e = record {
@@ -195,7 +195,7 @@ settled =
       (half _ (λ g. g) 25 refl, (half _ (λ g. g) 25 refl, (to_label _ refl tt loop 32 0 refl computed.loop_mark lists.loop_at, tt))),
     )
 
--- ---- what is asked of a region's edge: the last word of memory, or of a page, reaches no line of its region
+-- ---- why the edge of a region matters: the last word of memory, or of a page, reaches no line of its region
 
 pub edge_refused : (job : Job) → in_range job Branch 0xFFFFFFFC 0xFFFFFFFC ≡ false
 unfolding in_range
@@ -219,7 +219,7 @@ come_to : destinations (table_of labels) pending ≡ Some 0x00400008 ∷ Some 0x
 unfolding destinations run emit_outcome pcs_bytes label_pairs immediate_pairs call_pairs resolve first_later same_bytes
 come_to = refl
 
--- b end goes behind the last line, both halves of la and j loop to the first
+-- b end goes behind the last line; both halves of la, and j loop, go to the first line.
 pub example_reads : (job : Job)
     → readings (image_of (build_outcome job (table_of labels) [] regions pending).regions) pending
     ≡ Some 0x00400008 ∷ Some 0x00400000 ∷ Some 0x00400000 ∷ Some 0x00400000 ∷ []

@@ -1,4 +1,4 @@
--- What a routine of accepted lines leaves, begun on empty buffers: its pending list is tidy, its patches lie inside their data, and its labels
+-- What a routine of accepted lines leaves, if it began on empty buffers: the pending list is tidy, the patches lie inside their data, and the labels
 -- stand at multiples of four. Assumes nothing.
 use Rattle.std.specs.Prelude.{ℕ, ◌+◌, ◌%◌, ◌≤◌, ◌≡◌, List, ◌∷◌}
 use Rattle.std.proofs.Common.{arith, subst}
@@ -14,7 +14,7 @@ use Rattle.routine_reading.specs.Tidy.{Tidy}
 use Rattle.routine_reading.proofs.TidyLaws.{Left, of_each, left_tidy}
 use Rattle.routine_reading.specs.Lines.{left_pending, LineMark, before, behind}
 
--- a place where a label stands, and the end of its region's data
+-- A label's place, and the end of its region's data.
 pub record Marked (n end : ℕ) : Type 0 where
   pub on_word_lem : n % 4 ≡ 0
   pub within : n ≤ end
@@ -48,7 +48,7 @@ module _ (lines : List RoutineLine) (start : Buffers) (empty : AllEmpty start) (
   pub routine_tidy : Tidy pending
   routine_tidy = left_tidy pending (routine_patches lines start) left
 
-  -- what holds of each patch of the lines holds of each record
+  -- A claim on each of the lines' patches holds for each record.
   pub of_patches : (P : Patch → Type 0) → Each P (routine_patches lines start) → (p : ℕ) → In pending p → P (patch_at pending p)
   of_patches P h = of_each pending (routine_patches lines start) left P h
 

@@ -1,4 +1,4 @@
--- The patches of a line, as a list of values: each at a multiple of four, each behind those before it, and each half beside its other.
+-- A line's patches as a list of values: each at a multiple of four, each behind those before it, and each half next to its other half.
 -- Assumes nothing.
 use Rattle.std.specs.Prelude.{ℕ, ◌+◌, ◌*◌, ◌%◌, ◌≤◌, ◌≡◌, refl, None, Option, Some}
 use Rattle.std.proofs.Common.{arith, sym}
@@ -22,20 +22,20 @@ use Rattle.pending.specs.declared.InstructionLabel.{InstructionLabel}
 
 -- ---- what is said of patches
 
--- at a multiple of four of its region's data
+-- The patch begins at a multiple of four in its region's data.
 abbrev pub OnWord : Patch → Type 0
 OnWord p = p.offset % 4 ≡ 0
 
--- y stands behind the four bytes of x, if in the same region
+-- If x and y are in one region, y begins behind the four bytes of x.
 abbrev pub Beyond : Patch → Patch → Type 0
 Beyond x y = x.region ≡ y.region → x.offset + 4 ≤ y.offset
 
--- each behind all before it
+-- Each patch begins behind all earlier ones of its region.
 abbrev pub Spaced : List Patch → Type 0
 Spaced [] = Unit {0}
 Spaced (x ∷ xs) = Each (Beyond x) xs × Spaced xs
 
--- the two halves of one name
+-- The two halves of an address.
 pub record Mates (upper lower : Patch) : Type 0 where
   pub upper_kind : upper.kind ≡ Upper
   pub lower_kind : lower.kind ≡ Lower
@@ -57,7 +57,7 @@ pub record HasUpper (xs : List Patch) (lower : Patch) : Type 0 where
   pub listed : Memᴰ upper xs
   pub mates : Mates upper lower
 
--- a half has its other in the list, and no patch is of a whole word
+-- A half has its other half in the list, and no patch fills a whole word.
 pub record Mated (xs : List Patch) (p : Patch) : Type 0 where
   pub has_lower : p.kind ≡ Upper → HasLower xs p
   pub has_upper : p.kind ≡ Lower → HasUpper xs p

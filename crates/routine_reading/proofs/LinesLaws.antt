@@ -1,4 +1,4 @@
--- Labels mean lines: what branches and jumps to labels before lines read as, and that no build refuses them. Assumes nothing.
+-- Labels mean lines: what a branch or a jump to a line's label reads as, and that no build refuses it. Assumes nothing.
 use Rattle.std.specs.Prelude.{ℕ, ◌+◌, ◌%◌, ◌^◌, ◌<◌, ◌≤◌, ◌≡◌, refl, List, true, None, Ok, Option, Some}
 use Rattle.std.proofs.Common.{arith, sym, ap, subst, ◌∙◌}
 use Rattle.field.specs.Wrap.{wrap32}
@@ -41,7 +41,7 @@ module _ (lines : List RoutineLine) (start : Buffers) (empty : AllEmpty start) (
     at_mark : Marked t.mark ((run lines start).region_data t.region).fill
     at_mark = marked lines start empty bytes accepted t.region t.mark t.marked
 
-    -- where the label is below 2^32 it is the destination
+    -- If the label's address is below 2^32, it is the destination.
     pub to_label : label_address < 2 ^ 32 → destination labels pending (pending_at pending p).label ≡ Some label_address
     to_label small =
         let z : wrap32 (label_address + 0) ≡ label_address = omega (arith, small) in
@@ -83,7 +83,7 @@ module _ (lines : List RoutineLine) (start : Buffers) (empty : AllEmpty start) (
         pending_region (region_count regions) pending p
         (good_each (pending_ok (region_count regions) pending) (places pending) (pending_good (region_count regions) pending taken).1 p m)
 
-    -- not 14
+    -- Not refused with 14.
     pub ends_inside : (p : ℕ) → In pending p → (pending_at pending p).offset + 4 ≤ (region_number regions (pending_at pending p).region).size
     ends_inside p m = omega (arith, inside lines start empty bytes accepted p m, holds.data_kept (pending_at pending p).region (numbered p m))
 
@@ -95,7 +95,7 @@ module _ (lines : List RoutineLine) (start : Buffers) (empty : AllEmpty start) (
           verdict_is job labels pending (region_number regions (pending_at pending p).region) (pending_at pending p) (Some d) e
           ∙ passes job (region_number regions (pending_at pending p).region) (pending_at pending p) d (ends_inside p m) r
 
-      -- nor 15 or 16
+      -- Nor with 15 or 16.
       pub settled_passes : (p : ℕ) → In pending p → Settled lines start labels regions (patch_at pending p) → patch_verdict job labels regions pending p ≡ Ok tt
       settled_passes p m s = go (pending_at pending p).kind refl
         where

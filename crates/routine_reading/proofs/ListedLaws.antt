@@ -1,5 +1,5 @@
--- The patches of calls one after the other: each at a multiple of four, each behind those before it in its region, and each half beside its
--- other. Any lines, of any jobs, in any regions in any order. Assumes nothing.
+-- The patches of calls, one after the other: each at a multiple of four, each behind those before it in its region, and each half next to its
+-- other half. This holds for any lines of any jobs, in any regions in any order. Assumes nothing.
 use Rattle.std.specs.Prelude.{ℕ, ◌+◌, ◌%◌, ◌≡◌, refl, List, [], ◌∷◌, ◌++◌, Bool, true, false, eqb}
 use Rattle.std.proofs.Common.{arith, sym, ap, ◌∙◌, eqb-true}
 use mathlib.Core.List.Memᴰ
@@ -56,7 +56,7 @@ module _ (e : JobCall) {before after : DataLengths} (a : Appends before after e)
       go true t = let s = eqb-true r (selected_by e) t in omega (arith, a.ends, ap after s, four (selected_by e))
       go false t = omega (arith, a.others r (eqb-false r (selected_by e) t), four r)
 
-  -- what later calls leave stands behind
+  -- The patches of later calls stand behind these.
   before_later : (rest : List Patch) → Each (From after) rest → Each (λ (x : Patch). Each (Beyond x) rest) (call_patches e.job e.call)
   before_later rest h =
       each_so (Before (selected_by e) (after (selected_by e))) (λ (x : Patch). Each (Beyond x) rest)

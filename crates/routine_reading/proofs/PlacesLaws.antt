@@ -1,4 +1,4 @@
--- What holds of a list of patches as values holds of the records it was read from, by their places. Assumes nothing.
+-- What holds for a list of patches as values holds, place by place, for the records that they were read from. Assumes nothing.
 use Rattle.std.specs.Prelude.{ℕ, ◌+◌, ◌-◌, ◌≡◌, refl, ◌⊎◌, Bool, true, false, ◌&&◌, leb, ltb, eqb}
 use Rattle.std.proofs.Common.{arith, sym, ap, ap₂, ◌∙◌, inl, inr, eqb-true}
 use mathlib.Core.List.Memᴰ
@@ -19,7 +19,7 @@ use Rattle.reading.specs.Premises.{SharedTarget}
 use Rattle.routine_reading.proofs.LinePatchesLaws.{Beyond, Spaced}
 
 module _ (f : ℕ → Patch) where
-  -- a value has a place
+  -- The place of a value.
   pub record PlaceOf (xs : List ℕ) (y : Patch) : Type 0 where
     pub place : ℕ
     pub listed : Memᴰ place xs
@@ -33,7 +33,7 @@ module _ (f : ℕ → Patch) where
       go (inl s) ih = record { place = x; listed = Memᴰ.head refl; is = sym s }
       go (inr t) ih = let r = ih t in record { place = r.place; listed = Memᴰ.tail r.listed; is = r.is }
 
-  -- two places, one before the other
+  -- Of two places, one stands before the other.
   pub spaced_at : (xs : List ℕ) → Spaced (map f xs) → (p q : ℕ) → Memᴰ p xs → Memᴰ q xs → (p ≡ q → ⊥) → Beyond (f p) (f q) ⊎ Beyond (f q) (f p)
   spaced_at [] s p q m k n = elim m [ ]
   spaced_at (x ∷ xs) s p q m k n = go (Memᴰ.cases_cons m) (Memᴰ.cases_cons k) (λ a b. spaced_at xs s.1 p q a b n)
@@ -104,7 +104,7 @@ form_one regions s at ok n = go (eqb (byte_at s (at + 19)) 1) refl
         let z : true ≡ false = sym label_ok ∙ k in
         cc
 
--- two records that wait for one name, from one source, with one offset
+-- Two records that wait for one name from one source, with one offset, share their target.
 pub shared_target : (regions : ℕ) (pending : List ℕ) (p q : ℕ) (name : List ℕ) (location : Location) (added : ℕ) → pending_ok regions pending p ≡ true → pending_ok regions pending q ≡ true
     → (patch_at pending p).target ≡ Name name location added → (patch_at pending q).target ≡ Name name location added → SharedTarget pending p q
 shared_target regions pending p q name location added okp okq ep eq =

@@ -33,32 +33,32 @@ module _ (lines : List RoutineLine) (start : Buffers) where
   pub record RoutineReads : Type 0 where
     -- "patch addresses multiples of four, patches not overlapping, .. every half in a pair"
     pub tidy : Tidy left
-    -- demand 3's two halves, where the build is accepted, regions begin at multiples of four, and branches and jumps are on target
+    -- Demand 3's two halves: the build is accepted, regions begin at multiples of four, and branches and jumps are on target.
     pub read_back : (job : Job) (labels : Table) (entry regions : List ℕ) → Asked job labels entry regions left
         → readings (image_of (build_outcome job labels entry regions left).regions) left ≡ destinations labels left
     pub apart : (job : Job) (labels₁ labels₂ entry regions : List ℕ) → Bytes labels₁ → Bytes labels₂
         → Asked job (table_of labels₁) entry regions left → Asked job (table_of labels₂) entry regions left → (SameUsed (table_of labels₁) (table_of labels₂) entry left → ⊥)
         → image_of (build_outcome job (table_of labels₁) entry regions left).regions ≡ image_of (build_outcome job (table_of labels₂) entry regions left).regions
         → (build_outcome job (table_of labels₁) entry regions left).answer ≡ (build_outcome job (table_of labels₂) entry regions left).answer → ⊥
-    -- patch by patch, in every accepted build and whatever the others go to: a half reads back, and a branch or a jump if it is on target, and
-    -- only then
+    -- Patch by patch, in every accepted build, wherever the others go: a half reads back, and a branch or a jump reads back if and only if
+    -- it is on target.
     pub halves : (job : Job) (labels : Table) (entry regions : List ℕ) → build_verdict job labels entry regions left ≡ Ok tt
         → (p : ℕ) → In left p → (Going (pending_at left p).kind → ⊥) → ReadsBack job labels entry regions left p
     pub exact : (job : Job) (labels : Table) (entry regions : List ℕ) → build_verdict job labels entry regions left ≡ Ok tt
         → (p : ℕ) → In left p → Going (pending_at left p).kind → RegionOnWord regions left p
         → (OnTarget job labels regions left p → ReadsBack job labels entry regions left p) × (ReadsBack job labels entry regions left p → OnTarget job labels regions left p)
-    -- labels mean lines: in every accepted build a branch or a jump to a label reads as the address of the line that the label stands before, or of
-    -- the data's end. Of the distance nothing is asked but that the commit's branches stay in their region, which holds the data left.
+    -- Labels mean lines: in every accepted build a branch or a jump to a label reads as the address of the line behind the label, or of the data's
+    -- end. Nothing is asked of the distance, but the commit's branches must stay in their region, and that region must hold the data left.
     pub to_lines : (job : Job) (labels entry regions : List ℕ) → Bytes labels → build_verdict job (table_of labels) entry regions left ≡ Ok tt
         → (p : ℕ) → In left p → Going (pending_at left p).kind → RegionOnWord regions left p
         → (t : ToLine lines start (table_of labels) regions (patch_at left p)) → (region_number regions t.region).address % 4 ≡ 0
         → (job ≡ Commit → (pending_at left p).kind ≡ Branch → t.region ≡ (pending_at left p).region)
         → ((run lines start).region_data (pending_at left p).region).fill ≤ (region_number regions (pending_at left p).region).size
         → reading (image_of (build_outcome job (table_of labels) entry regions left).regions) (pending_at left p) ≡ (region_number regions t.region).address + t.mark
-    -- a build of any job passes 14, 15 and 16 at what a loft has settled
+    -- A build of any job passes 14, 15 and 16 at a patch that a loft has settled.
     pub passes : (job : Job) (labels : Table) (regions : List ℕ) → Holds lines start regions → (p : ℕ) → In left p → Settled lines start labels regions (patch_at left p)
         → patch_verdict job labels regions left p ≡ Ok tt
-    -- where all is settled, a build of any job is accepted and reads back
+    -- If all is settled, a build of any job is accepted and reads back.
     pub every_job : (labels : Table) (entry regions : List ℕ) → Holds lines start regions → OthersPass labels entry → OnWords regions
         → Each (Settled lines start labels regions) (routine_patches lines start) → (job : Job)
         → (build_verdict job labels entry regions left ≡ Ok tt) × (readings (image_of (build_outcome job labels entry regions left).regions) left ≡ destinations labels left)
@@ -85,7 +85,7 @@ module _ (lines : List RoutineLine) (start : Buffers) (empty : AllEmpty start) (
     lower_paired = tidy.lower_paired;
   }
 
-  -- a half is readable by its pair
+  -- A half has a pair, so it can be read.
   half_readable : (job : Job) (labels : Table) (regions : List ℕ) (kind : InstructionLabelKind) (p : ℕ) → In pending p → (pending_at pending p).kind ≡ kind → (Going kind → ⊥)
       → Readable job labels regions pending kind p
   half_readable job labels regions Branch p m e n = absurd (n tt)

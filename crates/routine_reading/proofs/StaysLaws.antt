@@ -1,5 +1,5 @@
--- A branch or a jump to an address of its own region or to its end: the branch is near, and a build of any job takes both, where the region is
--- plain. Assumes nothing.
+-- A branch or a jump to an address of its own region, or to the region's end: the branch is near, and a build of any job takes both if the region
+-- is plain. Assumes nothing.
 use Prim.Native.Nat.{ℕ, ◌+◌, ◌/◌, ◌^◌, ◌<◌, ◌≤◌}
 use Rattle.std.proofs.Common.{arith}
 use Rattle.std.specs.Prelude.{◌≡◌, refl, List, Bool, true, false, leb, None}
@@ -30,7 +30,7 @@ region_short regions n g h =
     omega (arith, r.body, r.least, (region_good regions g).0)
 
 module _ (job : Job) (region : Region) (offset dest : ℕ) (inside : offset + 4 ≤ region.size) (stays : Stays region dest) where
-  -- a branch that a build took is near; one that would wrap at 2^32 is refused
+  -- A branch that a build took is near: one that would wrap at 2^32 is refused.
   pub stays_near : region.size ≤ 65528 → dest < 2 ^ 32 → in_range job Branch (wrap32 (region.address + offset)) dest ≡ true
       → (after (wrap32 (region.address + offset)) / 4 ≤ dest / 4 + 32768) × (dest / 4 ≤ after (wrap32 (region.address + offset)) / 4 + 32767)
   stays_near short small e =
@@ -60,7 +60,7 @@ module _ (job : Job) (region : Region) (offset dest : ℕ) (inside : offset + 4 
   jump_taken plain =
       eq-eqb (dest / 2 ^ 28) (after (wrap32 (region.address + offset)) / 2 ^ 28) (omega (arith, stays.from, stays.to, plain.below, plain.page refl))
 
-  -- a branch or a jump that stays is in range, in every job
+  -- A branch or a jump that stays in its region is in range, in every job.
   pub stays_taken : (kind : InstructionLabelKind) → Going kind → region.size ≤ 65528 → Plain kind region → in_range job kind (wrap32 (region.address + offset)) dest ≡ true
   stays_taken Branch g short plain = branch_taken short plain
   stays_taken Jump g short plain = jump_taken plain
@@ -68,7 +68,7 @@ module _ (job : Job) (region : Region) (offset dest : ℕ) (inside : offset + 4 
   stays_taken Upper g short plain = absurd g
   stays_taken Full g short plain = absurd g
 
--- and so is a half
+-- A half is always in range.
 pub half_taken : (job : Job) (kind : InstructionLabelKind) (pc dest : ℕ) → (Going kind → ⊥) → in_range job kind pc dest ≡ true
 unfolding in_range
 half_taken job Branch pc dest n = absurd (n tt)

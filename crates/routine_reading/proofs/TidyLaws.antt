@@ -1,4 +1,4 @@
--- A pending list that reads as patches of calls one after the other is tidy. Assumes nothing.
+-- A pending list is tidy if it reads as the patches of calls one after the other. Assumes nothing.
 use Rattle.std.specs.Prelude.{ℕ, ◌+◌, ◌≤◌, ◌≡◌, ◌⊎◌, true, None}
 use Rattle.std.proofs.Common.{sym, subst, inl, inr}
 use mathlib.Core.List.{List, map, Memᴰ}
@@ -16,7 +16,7 @@ use Rattle.routine_reading.proofs.ListedLaws.{Listed}
 use Rattle.routine_reading.proofs.PlacesLaws.{PlaceOf, place_of, spaced_at, shared_target}
 use Rattle.routine_reading.specs.Tidy.{Tidy}
 
--- a pending list that keeps its layout, for some count of regions, and that reads as these patches
+-- A pending list that keeps its layout, for some number of regions, and reads as these patches.
 pub record Left (pending : List ℕ) (patches : List Patch) : Type 0 where
   pub regions : ℕ
   pub takes : pending_layout regions pending ≡ None
@@ -32,7 +32,7 @@ module _ (pending : List ℕ) (patches : List Patch) (left : Left pending patche
   unfolding patches_in
   placed_are = left.patches_are
 
-  -- what holds of each patch holds of each record
+  -- A claim on each patch holds for each record.
   pub of_each : (P : Patch → Type 0) → Each P patches → (p : ℕ) → In pending p → P (at p)
   of_each P h p m = each_mem P at (places pending) p (subst (Each P) (sym placed_are) h) m
 

@@ -1,4 +1,4 @@
--- Text put behind text, text put piece by piece, the digits of a number. Assumes nothing.
+-- Text written behind text, text written piece by piece, and the digits of a number. Assumes nothing.
 use Rattle.std.specs.Prelude.{ℕ, zero, suc, ◌+◌, ◌-◌, ◌*◌, ◌/◌, ◌%◌, ◌^◌, ◌≤◌, ◌<◌, min, max, ◌≡◌, refl, List, [], ◌∷◌, ◌++◌, Bool, true, false, ltb, eqb, ℤ, pos, negsuc, length, take, drop, get_or}
 use Rattle.std.proofs.Math.Nat.{one-le-pow, pow-le-pow_right}
 use Rattle.std.proofs.Common.{pow-suc, mod-eq_of_lt, add-one, arith, sym, ap, ◌∙◌, length-append, length-take, length-drop, drop_of_length-le, drop-cons, length-take-le, ltb-true, ltb-false, lt-ltb, le-ltb, eqb-true, ne_eqb}
@@ -20,13 +20,13 @@ module _ (d : List ℕ) (at : ℕ) (xs e : List ℕ) (m : ℕ) (p : Put d at xs 
   pub put_length : length e ≡ length d
   put_length = ap length p.bytes ∙ append_length d at xs p.fits
 
-  -- the buffer has a part up to the end of the text
+  -- The text ends within the buffer.
   pub put_counts : IsPrefixLen m e
   put_counts =
       let h : m ≤ length e = omega (arith, p.fits, p.ends, put_length) in
       (h, sym (length-take-le m e h))
 
-  -- behind a text there is room for what the buffer has room for behind it
+  -- If the buffer has room for both texts, there is room for the second behind the first.
   pub put_room : (ys : List ℕ) → at + length (xs ++ ys) ≤ length d → m + length ys ≤ length e
   put_room ys h = omega (arith, p.ends, put_length, length-append xs ys)
 
@@ -40,15 +40,15 @@ module _ (d : List ℕ) (at : ℕ) (xs e : List ℕ) (m : ℕ) (p : Put d at xs 
         bytes = append_then d at xs m ys p.bytes q.bytes (sym p.ends) (omega (arith, q.fits));
       }
 
--- the buffer's text up to there, and the text put behind it
+-- Up to the end: what the buffer held in front, and then the text.
 pub put_taken : (d : List ℕ) (at : ℕ) (xs e : List ℕ) (m : ℕ) → Put d at xs e m → take m e ≡ take at d ++ xs
 put_taken d at xs e m p = rw (p.ends, p.bytes) (filled_append d at xs (omega (arith, p.fits)))
 
--- the first of two texts that have room has room
+-- If both texts have room, the first has.
 pub front_room : (at n : ℕ) (xs ys : List ℕ) → at + length (xs ++ ys) ≤ n → at + length xs ≤ n
 front_room at n xs ys h = omega (arith, length-append xs ys)
 
--- ---- a text put piece by piece: what is still to be put
+-- ---- a text written piece by piece: what is still to be written
 pub record Left (d : List ℕ) (at : ℕ) (xs e : List ℕ) (end : ℕ) (ys : List ℕ) : Type 0 where
   pub fits : at + length xs ≤ length d
   pub kept : length e ≡ length d
@@ -93,7 +93,7 @@ most_digits b least n k m p l h f = go (ltb m k) refl
         absurd (omega (arith, f.2 (omega arith)))
     go false e = omega (arith, ltb-false m k e)
 
--- a number that the width holds
+-- A number that fits the width has the width's count of digits.
 pub width_fits : (w n k : ℕ) → 0 < w → w ≤ 8 → n < 16 ^ w → IsDigitCount 16 (min (max w 1) 16) n k → k ≡ w
 width_fits w n k p q h f =
     let e : min (max w 1) 16 ≡ w = omega arith in
@@ -139,7 +139,7 @@ decimal_most (suc most) n = go (ltb n 10) refl (decimal_most most (n / 10))
     go true e ih = rw (e, decimal_in) (omega arith)
     go false e ih = rw (e, decimal_in) (omega (arith, length-append (decimal_in most (n / 10)) (hex_digit_ascii (n % 10) ∷ [])))
 
--- the digits that are made of a number are its text
+-- The digits made from a number are its text.
 pub decimal_made : (n k : ℕ) (text : List ℕ) → n < 2 ^ 64 → IsDigitCount 10 1 n k → take k text ≡ last_digits 10 k n → take k text ≡ decimal n
 decimal_made n k text h f e = e ∙ sym (decimal_in_lem 20 n k (word_digits n k h f) f)
 

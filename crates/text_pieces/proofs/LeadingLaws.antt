@@ -1,4 +1,4 @@
--- Laws of the longest start whose bytes pass a test: from a place on, its length, and what it is a part of. Assumes nothing.
+-- Laws of `leading`, the longest beginning whose bytes all pass a test: from a place on, its length, and where it stops. Assumes nothing.
 use Prim.Native.Nat.{ℕ, suc, ◌+◌, ◌≤◌, ◌<◌}
 use Rattle.std.proofs.Common.{add-one, ap, ◌∙◌, drop_of_length-le, drop-cons, le-leb, eq-eqb, ne_eqb, ltb-false}
 use native.Mathlib.Omega.{arith}
@@ -32,7 +32,7 @@ module _ (p : ℕ → Bool) where
   unfolding leading
   leading_end s i h = rw (drop_of_length-le s h)
 
-  -- the same of lengths, as a loop counts them
+  -- The same for lengths, as a loop counts them.
   pub length_next : (s : List ℕ) (i : ℕ) → i < length s → p (byte_at s i) ≡ true → length (leading p (drop i s)) ≡ length (leading p (drop (i + 1) s)) + 1
   length_next s i h e = ap length (leading_next s i h e) ∙ omega arith
 
@@ -55,7 +55,7 @@ module _ (p : ℕ → Bool) where
       go true e ih = rw (e, leading) (omega arith)
       go false e ih = rw (e, leading) (omega arith)
 
-  -- it is the first bytes of the text
+  -- It is the beginning of the text.
   pub leading_take : (s : List ℕ) → take (length (leading p s)) s ≡ leading p s
   unfolding leading
   leading_take [] = refl

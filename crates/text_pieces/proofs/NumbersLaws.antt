@@ -15,11 +15,11 @@ use Rattle.text_pieces.specs.Leading.{leading}
 use Rattle.text_pieces.proofs.LeadingLaws.{leading_next, leading_stop, leading_end}
 use Rattle.text_pieces.specs.Numbers.{digit_value, is_digit_of, value_from, within64, number_in}
 
--- the number of these digits behind a number of n digits
+-- The number that a value of n digits and these further digits make.
 abbrev pub number_from : (base value n : ℕ) → List ℕ → Option (ℕ × ℕ)
 number_from base value n ds = within64 (value_from base value ds) (n + length ds)
 
--- those of the text from a place on
+-- The digits of the text from a place on.
 abbrev pub digits_at : (base : ℕ) → List ℕ → ℕ → List ℕ
 digits_at base s i = leading (is_digit_of base) (drop i s)
 
@@ -30,7 +30,7 @@ number_start base s =
     let n : 0 + length ds ≡ length ds = omega arith in
     ap (within64 (value_from base 0 ds)) n
 
--- more digits make no smaller number
+-- More digits never make a number smaller.
 value_ge : (base value : ℕ) (ds : List ℕ) → 0 < base → value ≤ value_from base value ds
 unfolding value_from
 value_ge base value [] h = omega arith

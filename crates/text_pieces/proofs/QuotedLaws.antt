@@ -1,4 +1,4 @@
--- Laws of the pieces that are read up to an ending byte: comments and strings. Assumes nothing.
+-- Laws of comments and strings, the pieces that are read up to an ending byte. Assumes nothing.
 use Rattle.std.specs.Prelude.{ℕ, ◌+◌, ◌-◌, ◌≤◌, ◌<◌, List, Bool, not, ◌&&◌, ◌||◌, ◌⊎◌, ◌≡◌, length, take, drop}
 use Rattle.std.proofs.Common.{arith, inl, inr, ◌∙◌, length-drop, get_or-drop, leb-true, leb-false, ne_eqb, eqb-true}
 use Rattle.std.proofs.Math.Bool.{true, false}
@@ -15,7 +15,7 @@ use Rattle.text_pieces.specs.Pieces.{text_piece, line_ends, comment_at, string_a
 use Rattle.text_pieces.proofs.TextLaws.{rest, counted_fits, counted_long, bad}
 use Rattle.text_pieces.specs.declared.Piece.TheVariants.{Token, BadByte, BadToken}
 
--- what is counted behind a mark, up to a byte that ends the text or that no text may have
+-- Counts behind a mark, up to a byte that ends the text or that no text may have.
 module _ (ends : ℕ → Bool) (end : ℕ) (agree : (b : ℕ) → plain end b ≡ plainly ends b) (s : List ℕ) (at n : ℕ)
     (e : n ≡ length (leading (plain end) (take (length s - (at + 1)) (drop (at + 1) s)))) where
   abbrev after : List ℕ
@@ -92,7 +92,7 @@ not_newline b f = go (is "\"" b) refl
     go true e = rw e
     go false e = rw (e, f)
 
--- a newline is no byte of a text
+-- No text may have a newline.
 quote_agree : (b : ℕ) → plain 34 b ≡ plainly closes b
 quote_agree b = go (is "\n" b) refl
   where
@@ -104,7 +104,7 @@ module _ (s : List ℕ) (at n : ℕ) (e : n ≡ length (leading (plain 34) (take
   abbrev quoted : List ℕ
   quoted = leading (goes_on closes) (drop (at + 1) s)
 
-  -- whether the quote that closes the string is there
+  -- Is the closing quote there?
   closed_is : (t : Bool) → is "\"" (byte_at s (at + 1 + length quoted)) ≡ t
       → string_at s at ≡ elim t [ true ↦ text_piece StringLiteral (at + 1) quoted (length quoted + 2) | false ↦ BadByte ]
   unfolding string_at
@@ -113,7 +113,7 @@ module _ (s : List ℕ) (at n : ℕ) (e : n ≡ length (leading (plain 34) (take
   open_is : is "\"" (byte_at s (at + 1 + length quoted)) ≡ false → BadByte ≡ string_at s at
   open_is f = sym (closed_is false f)
 
-  -- a byte that no text may have, closed or not
+  -- With a byte that no text may have, the string is bad, closed or not.
   either : (t : Bool) → all is_text quoted ≡ false → (elim t [ true ↦ text_piece StringLiteral (at + 1) quoted (length quoted + 2) | false ↦ BadByte ]) ≡ BadByte
   either true f = bad StringLiteral (at + 1) quoted (length quoted + 2) f
   either false f = refl

@@ -1,4 +1,4 @@
--- Laws of a text that is read up to the first byte that ends it or that no text may have. Assumes nothing.
+-- Laws of a text that is read up to the first byte that ends it, or that no text may have. Assumes nothing.
 use Prim.Native.Nat.{ℕ, suc, ◌≤◌, ◌<◌}
 use Rattle.std.proofs.Common.{not-suc-le-zero, arith, ⊎_elim, ap₂, ◌∙◌, le-leb}
 use mathlib.Core.List.{List, [], ◌∷◌}
@@ -13,7 +13,7 @@ use Rattle.byte_class.proofs.ClassLaws.{word_range}
 use Rattle.text_pieces.specs.Leading.{leading}
 use Rattle.text_pieces.proofs.LeadingLaws.{leading_on, leading_off, leading_all}
 
--- a weaker test passes too
+-- If a test passes everywhere, so does any weaker test.
 all_weaker : (p q : ℕ → Bool) → ((b : ℕ) → p b ≡ true → q b ≡ true) → (s : List ℕ) → all p s ≡ true → all q s ≡ true
 unfolding all
 all_weaker p q h [] e = refl
@@ -27,7 +27,7 @@ word_text s = all_weaker word_byte is_text is_text_lem (leading word_byte s) (le
     is_text_lem : (b : ℕ) → word_byte b ≡ true → is_text b ≡ true
     is_text_lem b w = let h = word_range b w in (and-eq-true_iff (leb 0x20 b) (leb b 0x7E)).1 (le-leb 0x20 b (omega arith), le-leb b 0x7E (omega arith))
 
--- tests that agree
+-- Tests that agree give the same beginning.
 pub leading_same : (p q : ℕ → Bool) → ((b : ℕ) → p b ≡ q b) → (s : List ℕ) → leading p s ≡ leading q s
 unfolding leading
 leading_same p q h [] = refl
@@ -38,7 +38,7 @@ leading_same p q h (b ∷ s) = go (q b) refl (leading_same p q h s)
     go false e ih = leading_off p b s (h b ∙ e) ∙ sym (leading_off q b s e)
 
 module _ (ends : ℕ → Bool) where
-  -- the bytes that do not end the text, and those of them that it may have
+  -- The bytes that do not end the text, and those of them that a text may have.
   abbrev pub goes_on : ℕ → Bool
   goes_on b = not (ends b)
 
@@ -62,7 +62,7 @@ module _ (ends : ℕ → Bool) where
       go false e true f = plain e f (ap₂ (λ (x y : Bool). x && not y) f e)
       go false e false f = bad e f (ap₂ (λ (x y : Bool). x && not y) f e)
 
-  -- it stopped at the end, or at a byte that ends the text: the text is whole
+  -- The read stopped at the end, or at a byte that ends the text: it has the whole text.
   pub stopped : (s : List ℕ) → (length s ≤ length (leading plainly s)) ⊎ (ends (byte_at s (length (leading plainly s))) ≡ true) → leading goes_on s ≡ leading plainly s
   unfolding leading
   stopped [] h = refl
@@ -80,7 +80,7 @@ module _ (ends : ℕ → Bool) where
           let n = ap length (leading_off plainly b s f) in
           absurd (⊎_elim (λ (l : suc (length s) ≤ length (leading plainly (b ∷ s))). omega arith) (λ (l : ends (byte_at (b ∷ s) (length (leading plainly (b ∷ s)))) ≡ true). false≢true (sym e ∙ sym (ap (λ (k : ℕ). ends (byte_at (b ∷ s) k)) n) ∙ l)) h)
 
-  -- it stopped at another byte: the text has a byte that no text may have
+  -- The read stopped at any other byte: no text may have that byte.
   pub broken : (s : List ℕ) → length (leading plainly s) < length s → ends (byte_at s (length (leading plainly s))) ≡ false → all is_text (leading goes_on s) ≡ false
   unfolding leading all
   broken [] h e = absurd (not-suc-le-zero h)

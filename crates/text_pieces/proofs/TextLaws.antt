@@ -8,7 +8,7 @@ use Rattle.lexer.specs.declared.TokenKind.{TokenKind}
 use Rattle.text_pieces.specs.Pieces.{text_piece}
 use Rattle.text_pieces.specs.declared.Piece.TheVariants.{Token, BadByte, BadToken}
 
--- the rest of a text, as a part of it
+-- The rest of a text from a place on.
 pub rest : (s : List ℕ) (at : ℕ) → take (length s - at) (drop at s) ≡ drop at s
 rest s at = take_all (length s - at) (drop at s) (omega (arith, length-drop at s))
 
@@ -29,7 +29,7 @@ module _ (kind : Text → TokenKind) (start : ℕ) (text : List ℕ) (size : ℕ
   unfolding text_piece
   bad e = rw (e, text_piece)
 
--- the same by the number of bytes that was counted
+-- The same, with the bytes counted.
 module _ (kind : Text → TokenKind) (start : ℕ) (text : List ℕ) (size : ℕ → ℕ) (n : ℕ) (e : n ≡ length text) (t : all is_text text ≡ true) where
   pub counted_fits : n ≤ 64 → Token (kind (record { start = start; len = n })) (size n) ≡ text_piece kind start text (size (length text))
   counted_fits h = ap (λ (m : ℕ). Token (kind (record { start = start; len = m })) (size m)) e ∙ sym (fits kind start text (size (length text)) t (omega arith))

@@ -54,7 +54,7 @@ module _ (s : List ℕ) (at n : ℕ) (e : n ≡ length (leading word_byte (take 
       go [] h = refl
       go (b ∷ l) h = absurd (omega arith)
 
-  -- where there is a name, the parameter is its text
+  -- If there is a name, it is the parameter's text.
   named : (n ≡ 0 → ⊥) → text_piece Parameter (at + 1) word (length word + 1) ≡ parameter_at s at
   unfolding parameter_at
   named d = go word (λ z. d (count ∙ z))
@@ -70,7 +70,7 @@ module _ (s : List ℕ) (at n : ℕ) (e : n ≡ length (leading word_byte (take 
   parameter_long d h = counted_long Parameter (at + 1) word (λ m. m + 1) n count is_text_lem h ∙ named d
 
   -- ---- registers
-  -- the name, as a part of the text
+  -- The name, cut out of the text.
   abbrev name : List ℕ
   name = take (at + 1 + n - (at + 1)) (drop (at + 1) s)
 

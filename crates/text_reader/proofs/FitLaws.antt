@@ -33,7 +33,7 @@ use Rattle.text_pieces.proofs.NumberLaws.{hex_within, number_hex, number_decimal
 use Rattle.text_pieces.specs.declared.Piece.{Piece}
 use Rattle.text_pieces.specs.declared.Piece.TheVariants.{Blank, Token, BadByte, BadToken}
 
--- a token at `at` of `size` bytes
+-- A token at `at`, of `size` bytes, lies in the text, and its record can hold it.
 pub record Stands (s : List ℕ) (at : ℕ) (kind : TokenKind) (size : ℕ) : Type 0 where
   pub least : 1 ≤ size
   pub within : at + size ≤ length s
@@ -49,7 +49,7 @@ Good s at (Token kind size) = Stands s at kind size
 Good s at BadByte = Unit {0}
 Good s at BadToken = Unit {0}
 
--- a kind with another number is no float
+-- A kind with another number than a float's is no float.
 other : (kind : TokenKind) → (strip kind ≡ 6 → ⊥) → (x : Float) → kind ≡ FloatLiteral x → ⊥
 other kind d x e = d (ap strip e)
 

@@ -28,7 +28,7 @@ use Rattle.text_reader.proofs.FitLaws.{Good, Stands, piece_good}
 use Rattle.text_reader.specs.Outcome.{answer_from, bytes_of, answer_of, outcome_of, read_text, is_read}
 use Rattle.refusal.specs.declared.Refusal.{Refusal}
 
--- where a blank byte stands there is a blank
+-- A blank byte makes a blank.
 pub blank_stands : (s : List ℕ) (at : ℕ) → blank_byte (byte_at s at) ≡ true → Blank ≡ piece_at s at
 unfolding piece_at
 blank_stands s at e = go (class_of (byte_at s at)) e
@@ -55,7 +55,7 @@ module _ (text : List ℕ) (room fill : ℕ) (t : TokenRead) (r : Reading) where
   unfolding answer_from
   next_short h = rw (lt-leb (fill + length (token_bytes text t)) room h, answer_from)
 
--- an accepted reading's records end within the buffer, and there is its fill
+-- The records of an accepted reading end within the buffer; the answer is where they end.
 pub read_fits : (text : List ℕ) (room fill : ℕ) (r : Reading) → fill ≤ room → is_read (answer_from text room fill r) ≡ true
     → (fill + length (bytes_of text r) ≤ room) × (answer_from text room fill r ≡ Ok (fill + length (bytes_of text r)))
 unfolding answer_from bytes_of
@@ -141,7 +141,7 @@ module _ (source : ℕ) (text : List ℕ) (at : ℕ) (p : Piece) (h : at < lengt
     unfolding bytes_of
     bytes_token = ap (bytes_of text) met
 
-    -- a token of an accepted text has room, and what follows is accepted
+    -- In an accepted text, a token has room and what follows is accepted.
     pub token_read : (room fill : ℕ) → is_read (answer_at source text at room fill) ≡ true
         → (fill + record_size kind ≤ room) × (is_read (answer_at source text (at + size) room (fill + record_size kind)) ≡ true)
     token_read room fill a = go (leb (fill + record_size kind) room) refl
@@ -184,7 +184,7 @@ module _ (text : List ℕ) (source : ℕ) (tokens : List ℕ) where
   unfolding answer_of
   within_limits h l = rw (le-leb (length text) limit h, le-leb (length tokens) limit l, answer_of)
 
-  -- a refusal leaves the buffer; what is read is written from its start on
+  -- A refusal leaves the buffer. Otherwise the records are written from its start on.
   outcome_is : (r : Result ℕ Refusal) (d : List ℕ) → answer_of text source (length tokens) ≡ r → leaves r (bytes_of text (reading source text)) tokens ≡ d
       → read_text text source tokens ≡ (record { answer = r; tokens = d })
   unfolding read_text
@@ -197,7 +197,7 @@ module _ (text : List ℕ) (source : ℕ) (tokens : List ℕ) where
       → read_text text source tokens ≡ (record { answer = r; tokens = d })
   read_outcome_lem r d e f g = outcome_is r d e (written r (bytes_of text (reading source text)) tokens f ∙ sym g)
 
--- only a text that is accepted has an answer that is no refusal
+-- An answer is no refusal exactly if the text is accepted.
 pub ok_is_read : (r : Result ℕ Refusal) → is_ok r ≡ is_read r
 ok_is_read (Ok fill) = refl
 ok_is_read (Err r) = refl

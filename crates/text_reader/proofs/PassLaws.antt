@@ -1,4 +1,4 @@
--- One pass over a text, which writes or does not. Assumes nothing.
+-- One pass over a text; it writes, or only checks. Assumes nothing.
 use Rattle.std.specs.Prelude.{ℕ, ◌+◌, ◌≤◌, ◌<◌, List, Bool, true, false, ◌≡◌, refl, length, Err}
 use Rattle.std.proofs.lemmas.Bool.{false≢true}
 use Rattle.std.proofs.Common.{sym, ap, ◌∙◌}
@@ -15,7 +15,7 @@ use Rattle.text_reader.specs.Outcome.{is_read, Accepts, Leaves}
 use Rattle.text_reader.proofs.OutcomeLaws.{record_size, answer_at, bytes_at, bytes_end, answer_blank, bytes_blank, token_read, write_turn}
 
 module _ (source : ℕ) (text d : List ℕ) where
-  -- what holds on the way
+  -- What holds during the pass.
   abbrev pub Going : (writes : Bool) → (d' : List ℕ) → (at fill : ℕ) → Type 0
   Going true d' at fill = (is_read (answer_at source text at (length d') fill) ≡ true) × (append d 0 (bytes_at source text 0) ≡ append d' fill (bytes_at source text at))
   Going false d' at fill = d' ≡ d

@@ -8,8 +8,8 @@ use Rattle.text_pieces.specs.declared.Piece.TheVariants.{Blank, Token}
 use Rattle.text_reader.specs.Reading.{Ends, location_of, reading, tokens_of}
 use Rattle.text_reader.proofs.TokensLaws.{tokens_all}
 
--- The tokens from `at` on: a blank is passed, a token stands at its index, with the caller's source, and the next begins behind its bytes,
--- and there are no more only where the text ends or a fault stands. So nothing but blanks is left out.
+-- The tokens from `at` on. A blank is passed over. A token stands at its index, with the caller's source, and the next begins behind its bytes.
+-- The list ends only where the text ends or a fault stands. So only blanks are left out.
 pub data InOrder (source : ℕ) (text : List ℕ) : ℕ → List TokenRead → Type 0 where
   none : {at : ℕ} → Ends text at → InOrder source text at []
   blank : {at : ℕ} {ts : List TokenRead} → piece_at text at ≡ Blank → InOrder source text (at + 1) ts → InOrder source text at ts
@@ -21,7 +21,7 @@ in_order source text =
     tokens_all source text (InOrder source text) (λ at n. none n) (λ at ts e o. blank e o)
     (λ at kind size ts h e stands o. next e stands.within o)
 
--- each number is greater than the one before it
+-- Each number is greater than the one before.
 abbrev pub Rising : (least : ℕ) → List ℕ → Type 0
 Rising least [] = Unit {0}
 Rising least (n ∷ ns) = (least ≤ n) × Rising (n + 1) ns

@@ -22,14 +22,14 @@ module _ (source : ℕ) (s : List ℕ) where
   unfolding reading_f
   step_f f at h = rw (lt-ltb at (length s) h, reading_f)
 
-  -- what follows is asked for behind a byte at least
+  -- What follows is read at least one byte further on.
   same_rest : (l : Location) (at : ℕ) (p : Piece) (f g : ℕ → Reading) → Good s at p → ((k : ℕ) → 1 ≤ k → f k ≡ g k) → go_on l p f ≡ go_on l p g
   same_rest l at Blank f g good h = h 1 (omega arith)
   same_rest l at (Token kind size) f g good h = ap (Next (record { location = l; kind = kind })) (h size good.least)
   same_rest l at BadByte f g good h = refl
   same_rest l at BadToken f g good h = refl
 
-  -- the fuel is no part of the answer, if it is as large as what is left
+  -- Any fuel gives the same answer, if it is at least the length left.
   same : (f g at : ℕ) → length s ≤ at + f → length s ≤ at + g → reading_f f source s at ≡ reading_f g source s at
   same zero g at hf hg = end_f zero at (omega arith) ∙ sym (end_f g at (omega arith))
   same (suc f) zero at hf hg = end_f (suc f) at (omega arith) ∙ sym (end_f zero at (omega arith))

@@ -14,7 +14,7 @@ use Rattle.text_reader.specs.Outcome.{answer_of, bytes_of, read_text, is_read}
 use Rattle.text_reader.proofs.OutcomeLaws.{read_fits, over_text, over_tokens, within_limits}
 use Rattle.text_reader.proofs.TokensLaws.{tokens_all, bytes_are}
 
--- a token's record can hold it
+-- Each token fits its record.
 all_fit : (source : ℕ) (text : List ℕ) → source < 2 ^ 32 → length text ≤ limit → AllFit text (tokens_of (reading source text))
 all_fit source text h l =
     tokens_all source text (λ at ts. AllFit text ts) (λ at n. tt) (λ at ts e f. f)
@@ -31,7 +31,7 @@ module _ (text : List ℕ) (source : ℕ) (tokens : List ℕ) (fill : ℕ) (read
   abbrev records : List ℕ
   records = bytes_of text (reading source text)
 
-  -- what is read is within the limits
+  -- The text and the buffer are within their limits.
   within : (length text ≤ limit) × (length tokens ≤ limit)
   within = go (leb (length text) limit) refl (leb (length tokens) limit) refl
     where
@@ -68,8 +68,8 @@ fill_within text source tokens fill read =
     let a = sym (within_limits text source tokens w.0 w.1) ∙ read in
     omega (arith, read_fits text (length tokens) 0 (reading source text) (omega arith) (ap is_read a), (filled text source tokens fill read).0)
 
--- the filled part of the token buffer keeps the layout that an emit call asks of its token list, and read as such it is the tokens of the
--- text, location, kind and text of each
+-- The filled part of the token buffer keeps the layout of an emit call's token list. Read as such a list, it gives the tokens of the text, each
+-- with its location, kind and text.
 pub reads_back : (text : List ℕ) (source : ℕ) (tokens : List ℕ) (fill : ℕ) → source < 2 ^ 32 → (read_text text source tokens).answer ≡ Ok fill
     → Written text (tokens_of (reading source text)) (take fill (read_text text source tokens).tokens)
 unfolding read_text

@@ -13,7 +13,7 @@ use Rattle.text_reader.proofs.ReadingLaws.{reading_end, reading_step}
 use Rattle.text_reader.proofs.FitLaws.{Good, Stands, piece_good}
 use Rattle.text_reader.specs.Outcome.{bytes_of}
 
--- what holds of no tokens, of those behind a blank and of those behind a token holds of the tokens from each place on
+-- Induction over a text's tokens: P holds of no tokens, and stays when a blank or a token is put in front. So P holds from each place on.
 module _ (source : ℕ) (text : List ℕ) (P : ℕ → List TokenRead → Type 0) (none : (at : ℕ) → Ends text at → P at [])
     (passed : (at : ℕ) (ts : List TokenRead) → piece_at text at ≡ Blank → P (at + 1) ts → P at ts)
     (read : (at : ℕ) (kind : TokenKind) (size : ℕ) (ts : List TokenRead) → at < length text → piece_at text at ≡ Token kind size → Stands text at kind size
@@ -39,7 +39,7 @@ module _ (source : ℕ) (text : List ℕ) (P : ℕ → List TokenRead → Type 0
   pub tokens_all : P 0 (tokens_of (reading_from source text 0))
   tokens_all = from (length text) 0 (omega arith)
 
--- the records are those of the tokens
+-- The records are the tokens' records.
 pub bytes_are : (text : List ℕ) (r : Reading) → bytes_of text r ≡ list_bytes text (tokens_of r)
 unfolding bytes_of list_bytes
 bytes_are text End = refl

@@ -1,4 +1,4 @@
--- The definition, computed: texts that are read, among them one that the theorems' premises fit, and each refusal. Assumes nothing.
+-- The definition, computed: texts that are read (one of them meets the theorems' premises), and each refusal. Assumes nothing.
 use Rattle.std.specs.Prelude.{ℕ, [], ◌∷◌, ◌≡◌, refl, replicate, Err, Ok, Result}
 use Prim.Native.String.{String}
 use Rattle.record.specs.Texts.{bytes_of}
@@ -30,12 +30,12 @@ capital = refl
 abbrev answer : String → (room : ℕ) → Result ℕ Refusal
 answer text room = answer_of (bytes_of text) 7 room
 
--- a record of 15 bytes and one of 12
+-- One record of 15 bytes and one of 12.
 pub room_for_all : (answer "add\n" 27 ≡ Ok 27) × (answer "add\n" 26 ≡ Err (NoTokenSpace (location_of 7 3)))
 unfolding answer_of answer_from reading_from piece_at
 room_for_all = (refl, refl)
 
--- what `reads_back` asks for can be met
+-- The premises of `reads_back` can be met.
 pub premise_met : (read_text (bytes_of "add\n") 7 (replicate 27 0)).answer ≡ Ok 27
 unfolding read_text answer_of answer_from reading_from piece_at
 premise_met = refl
@@ -55,7 +55,7 @@ pub the_greatest : (answer "18446744073709551615" 99 ≡ Ok 20) × (answer "1844
 unfolding answer_of answer_from reading_from piece_at
 the_greatest = (refl, refl)
 
--- without room 21 and 22 go before 23
+-- If there is no room, 21 and 22 still go before 23.
 pub no_room : (answer "\"" 0 ≡ Err (BadByte (location_of 7 0))) × (answer "%" 0 ≡ Err (BadToken (location_of 7 0))) × (answer "+;" 0 ≡ Err (NoTokenSpace (location_of 7 0)))
 unfolding answer_of answer_from reading_from piece_at
 no_room = (refl, refl, refl)

@@ -1,4 +1,4 @@
--- Laws of a list of token records behind other bytes: places, tests and tokens are those of the list alone. Assumes nothing.
+-- Laws of a list of token records behind other bytes: its places, tests and tokens are those of the list alone. Assumes nothing.
 use Rattle.std.specs.Prelude.{ℕ, zero, suc, ◌+◌, ◌-◌, ◌≤◌, ◌<◌, Bool, true, false, ◌&&◌, ◌≡◌, length, get_or, leb, ltb, eqb, None}
 use Rattle.std.proofs.Common.{arith, ◌∙◌, length-append, le-leb, leb-true, leb-false, ltb-true, ltb-false}
 use mathlib.Core.List.{List, [], ◌∷◌, ◌++◌, map}
@@ -22,7 +22,7 @@ use Rattle.lexer.specs.declared.TokenKind.TheVariants.{Comment, Directive, Param
 use Rattle.token_bytes.specs.Meant.{Meant, meant, kind_meant, text_carried}
 use Rattle.token_bytes.specs.TokenBytes.{carried_by}
 
--- ---- a token and its test by what they read: the length of the payload, its first byte, its first eight and its text
+-- ---- a token and its test, from what they read: the payload's length, first byte, first eight bytes, and text
 abbrev pub ok_by : Payload → (n b : ℕ) → (text : List ℕ) → Bool
 ok_by Text n b text = leb n 64 && all is_text text
 ok_by Slot n b text = eqb n 1 && leb b 31
@@ -69,7 +69,7 @@ leb_add n a b = go (leb a b) refl
     go false e = lt-leb (n + a) (n + b) (omega (arith, leb-false a b e)) ∙ sym e
 
 module _ (l r : List ℕ) where
-  -- the place in both
+  -- A place of r, as a place of the joined list.
   abbrev pub behind : ℕ → ℕ
   behind i = length l + i
 

@@ -1,4 +1,4 @@
--- A register is the one of its number. Assumes nothing.
+-- A register's number gives the register back. Assumes nothing.
 use Rattle.std.specs.Prelude.{◌≡◌, refl}
 use Rattle.registers.specs.Numbers.{register_number, fp_register_number}
 use Rattle.registers.specs.Slots.{register_of, fp_register_of}

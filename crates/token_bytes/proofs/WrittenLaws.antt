@@ -76,7 +76,7 @@ sort_is NewLine = refl
 sort_is LeftBrace = refl
 sort_is RightBrace = refl
 
--- what is carried passes the test of its sort, whatever is behind it
+-- What a token carries passes the test of its sort, whatever follows.
 carried_ok : (texts r : List ℕ) (x : Carried) → CarriedFits texts x
     → ok_by (sort_of x) (carried_size x) (byte_at (carried_bytes texts x ++ r) 0) (carried_bytes texts x) ≡ true
 carried_ok texts r (Text t) f = both (le-leb t.len 64 f.most) f.text
@@ -85,7 +85,7 @@ carried_ok texts r (Number n) f = refl
 carried_ok texts r (Name t) f = both (both (le-leb 1 t.len f.1) (le-leb t.len 64 f.0.most)) f.0.text
 carried_ok texts r Nothing f = refl
 
--- and it is read as what the token means
+-- And it is read as what the token means.
 record Read (texts r : List ℕ) (kind : TokenKind) : Type 0 where
   kind_read : get_or (kinds_by (carried_size (carried_by kind)) (byte_at (carried_bytes texts (carried_by kind) ++ r) 0) (le64 (carried_bytes texts (carried_by kind) ++ r) 0)) (strip kind) NewLine ≡ kind_meant kind
   text_read : get_or (texts_by (carried_bytes texts (carried_by kind))) (strip kind) [] ≡ text_carried texts (carried_by kind)

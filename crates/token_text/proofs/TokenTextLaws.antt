@@ -1,4 +1,4 @@
--- A token buffer over its limit is refused, however long it is; the length of the tokens' line. Assumes nothing.
+-- A token buffer over its limit is refused, whatever its length; and the length of the tokens' line. Assumes nothing.
 use Rattle.std.specs.Prelude.{ℕ, zero, suc, ◌+◌, ◌*◌, ◌≤◌, ◌<◌, min, List, ◌∷◌, ◌++◌, Bool, true, false, ◌≡◌, refl, leb, length, take, replicate, Err, Result}
 use Rattle.std.proofs.Common.{arith, sym, ◌∙◌, length-append, length-take, leb-true, leb-false}
 use Rattle.std.proofs.Math.Path.{ap}
@@ -23,7 +23,7 @@ take_replicate zero n h = refl
 take_replicate (suc m) zero h = absurd (omega arith)
 take_replicate (suc m) (suc n) h = ap (λ (l : List ℕ). 0 ∷ l) (take_replicate m n (omega arith))
 
--- so much of a space of one byte more than the limit
+-- The part of the space that is lent; the space has one byte more than the limit.
 part_at : (space : List ℕ) (n room : ℕ) → length space ≡ 65537 → room ≡ min n 65537 → (room ≡ length (take room space)) × (length (take room space) ≤ 65537)
 part_at space n room z e =
     let l = length-take room space in
@@ -49,7 +49,7 @@ module _ (text : List ℕ) (source : ℕ) where
           let l = leb-false (length text) limit e in
           refused_text a _ (over_text text source a l) ∙ sym (refused_text b _ (over_text text source b l))
 
-  -- one byte more than the limit is as good as the whole buffer
+  -- A buffer cut at one byte over the limit prints the same as the whole buffer.
   pub held_text : (n room : ℕ) → room ≡ min n 65537 → outcome_text (read_text text source (take room (replicate 65537 0))) ≡ outcome_text (read_text text source (replicate n 0))
   held_text n room e = go (leb n 65537) refl
     where

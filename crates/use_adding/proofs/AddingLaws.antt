@@ -56,7 +56,7 @@ use_here d fill us l r u at i e p =
 pub here_at : (d : List ℕ) (fill at : ℕ) (u : Use) → fill ≤ length d → UseHere d fill at u → UseAt d at
 here_at d fill at u h x = record { room = omega (arith, x.count_is, x.next_is, body_length u); within = omega (arith, x.inside) }
 
--- ---- the walk: the uses before the place are all before the key
+-- ---- the walk: all uses before the place go before the key
 pub record Reached (us : List Use) (key : UseKey) (at : ℕ) : Type 0 where
   pub before : List Use
   pub rest : List Use
@@ -71,7 +71,7 @@ fill_is : (d : List ℕ) (fill : ℕ) (us l r : List Use) → IndexIn d fill us 
 fill_is d fill us l r i e =
     omega (arith, ap length (i.holds.filled ∙ ap uses_bytes e ∙ uses_append l r), length-take-le fill d i.holds.within, length-append (uses_bytes l) (uses_bytes r))
 
--- at a place before the end a record stands
+-- At a place before the end, a record stands.
 pub record Met (d : List ℕ) (fill : ℕ) (us : List Use) (key : UseKey) (at : ℕ) : Type 0 where
   pub before : List Use
   pub rest : List Use
@@ -156,7 +156,7 @@ walk_turn s us key p left ps w e =
       first = subst (λ (k : ℕ). places_from s k ≡ p ∷ ps) (sym c.1) f;
     }
 
--- the filled part is an index that fills its buffer
+-- The filled part, taken alone, is the same index.
 pub filled_part : (d : List ℕ) (fill : ℕ) (us : List Use) → IndexIn d fill us → IndexIn (take fill d) fill us
 filled_part d fill us i =
     let n = length-take-le fill d i.holds.within in
@@ -169,11 +169,11 @@ filled_part d fill us i =
 pub part_in : (d : List ℕ) (fill : ℕ) (us : List Use) → IndexIn d fill us → IndexIn (take fill d) (length (take fill d)) us
 part_in d fill us i = subst (λ (n : ℕ). IndexIn (take fill d) n us) (sym (length-take-le fill d i.holds.within)) (filled_part d fill us i)
 
--- the places left behind a record
+-- Behind a record, the places go on where it ends.
 pub left_behind : (s : List ℕ) (p : ℕ) (ps : List ℕ) → p < length s → whole s p ≡ true → places_from s p ≡ p ∷ ps → ps ≡ places_from s (next s p)
 left_behind s p ps h w f = let e : p ∷ ps ≡ p ∷ places_from s (next s p) = sym f ∙ places_step s p h w in cc
 
--- none are left at the end alone
+-- Only at the end are no places left.
 pub left_none : (s : List ℕ) (at : ℕ) → places_from s at ≡ [] → length s ≤ at
 left_none s at e = go (ltb at (length s)) refl (whole s at) refl
   where

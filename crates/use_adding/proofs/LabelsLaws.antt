@@ -1,4 +1,4 @@
--- A label list and its ordered index: an index has as many places as its list has records, and what a name stands for, by two lookups. Assumes nothing.
+-- A label list and its ordered index: the index has as many places as the list has records; two lookups say what a name stands for. Assumes nothing.
 use Rattle.std.specs.Prelude.{ℕ, ◌+◌, ◌≤◌, ◌<◌, List, [], ◌∷◌, ◌++◌, Bool, ◌≡◌, refl, length, take, drop, get_or, None, Option, Some}
 use Rattle.std.specs.Option.{is_some}
 use Rattle.std.proofs.Common.{arith, add-one, sym, ap, ap₂, ◌∙◌, length-append, take-append-drop, drop-cons}
@@ -14,7 +14,7 @@ use Rattle.label_uses.specs.Uses.{key_for}
 use Rattle.label_uses.specs.ReadUse.{key_with}
 use Rattle.label_uses.proofs.HitLaws.{is_hit, lookup_hits, standing_hit, standing_by_hits}
 
--- ---- lists of the same numbers are as long
+-- ---- lists of the same numbers have the same length
 split_at : (r : List ℕ) (i : ℕ) → i + 1 ≤ length r → r ≡ take i r ++ (get_or r i 0 ∷ drop (i + 1) r)
 split_at r i h = let k : i < length r = omega arith in sym (take-append-drop i r) ∙ ap (λ (x : List ℕ). take i r ++ x) (rw (add-one, drop-cons r i 0))
 
@@ -51,7 +51,7 @@ standing_scanned s source name own shared e f =
     ap (key_with name)
     (ap₂ (standing_hit source) (sym (hit_is (first_owned 4 s source name) ∙ e)) (sym (hit_is (first_owned 4 s for_all name) ∙ f)) ∙ sym (standing_by_hits s source name))
 
--- the same by two lookups in an index of the labels
+-- The same, with two lookups in an index of the labels.
 pub standing_as : (s l : List ℕ) → IndexOf 4 s l → (source : ℕ) (name : List ℕ) (own shared : Bool) → is_some (lookup 4 s l source name).named ≡ own
     → is_some (lookup 4 s l for_all name).named ≡ shared → key_with name (standing_hit source own shared) ≡ key_for s source name
 standing_as s l ix source name own shared e f =

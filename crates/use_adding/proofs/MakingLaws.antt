@@ -1,4 +1,4 @@
--- An index made afresh, pending by pending: one pending's use, and the fold. Assumes nothing.
+-- An index made from the start, pending by pending: one pending's use, and all of them in order. Assumes nothing.
 use Rattle.std.specs.Prelude.{ℕ, ◌+◌, ◌*◌, ◌-◌, ◌≤◌, ◌<◌, ◌^◌, ◌≡◌, refl, take, drop, None}
 use Rattle.std.proofs.Common.{arith, ap₂, ◌∙◌, subst, take-append-drop, length-take-le, drop-drop}
 use mathlib.Core.List.Memᴰ
@@ -28,7 +28,7 @@ use Rattle.use_adding.specs.Adding.{IndexIn, AnIndexWithRoom, AddsTo}
 use Rattle.use_adding.specs.Making.{AddsOneTo, KeepsOwners, RoomForOne, Made}
 
 -- ---- one pending
--- what is held is what would be written
+-- Writing the uses would leave the buffer as it is.
 pub held_is : (d : List ℕ) (fill : ℕ) (us : List Use) → IndexIn d fill us → (d ≡ append d 0 (uses_bytes us)) × (fill ≡ length (uses_bytes us))
 unfolding append
 held_is d fill us i =
@@ -42,7 +42,7 @@ constant_adds d labels pending fill n x value e us i =
     let u : us ≡ use_of labels pending x n us = sym (ap (λ (y : AddressLabel). use_of labels pending y n us) e) in
     record { bytes = h.0 ∙ ap (λ (y : List Use). append d 0 (uses_bytes y)) u; filled = h.1 ∙ ap (λ (y : List Use). length (uses_bytes y)) u }
 
--- with one use more, owners and sources have four bytes if those of its key have
+-- If a new key's owner or source fits four bytes, the index with its use still has only such owners and sources.
 pub owners_insert : (key : UseKey) (n : ℕ) (us : List Use) → kept_of key.standing < 2 ^ 32 → ((u : Use) → Memᴰ u us → kept_of u.key.standing < 2 ^ 32) → (u : Use)
     → Memᴰ u (insert_use key n us) → kept_of u.key.standing < 2 ^ 32
 owners_insert key n us h o u m = go (insert_stood key n us u m)
@@ -61,11 +61,11 @@ module _ (labels pending : List ℕ) (x : AddressLabel) (l : NamedLabel) (e : x 
       ap (λ (y : UseKey). insert_use y n us) (k ∙ ap (key_for labels l.location.source) (m ∙ ap (name_bytes pending) e))
       ∙ sym (ap (λ (y : AddressLabel). use_of labels pending y n us) e)
 
-  -- room for the label's use is room for its key's
+  -- Room for the label's use is room for its key's use.
   pub named_room : (d : List ℕ) (fill n : ℕ) → RoomForOne d labels pending fill x n → AnIndexWithRoom d fill key n
   named_room d fill n r = record { us = r.us; index_in = r.index_in; room = omega (arith, r.room, ap (λ (y : List Use). length (uses_bytes y)) (use_is n r.us)) }
 
-  -- and the index with its key's use is that with the label's
+  -- Adding the key's use adds the label's use.
   pub named_adds : (d f : List ℕ) (fill n after : ℕ) → AddsTo d f fill key n after → AddsOneTo d f labels pending fill x n after
   named_adds d f fill n after h us i =
       let a = h us i in
@@ -74,7 +74,7 @@ module _ (labels pending : List ℕ) (x : AddressLabel) (l : NamedLabel) (e : x 
   pub named_owners : (n : ℕ) → kept_of key.standing < 2 ^ 32 → KeepsOwners labels pending x n
   named_owners n h us o u t = owners_insert key n us h o u (subst (Memᴰ u) (sym (use_is n us)) t)
 
--- owners and sources that are read from bytes have four bytes
+-- Owners and sources read from bytes fit four bytes.
 pub bytes_owners : (labels pending : List ℕ) → AllBytes labels → AllBytes pending → (at n : ℕ) (y : AddressLabel) → label_of pending at ≡ y → KeepsOwners labels pending y n
 bytes_owners labels pending lb pb at n (Constant value) e = constant_owners labels pending (Constant value) value refl n
 bytes_owners labels pending lb pb at n (Label l) e =
@@ -146,7 +146,7 @@ module _ (d₀ labels pending : List ℕ) (room : length pending ≤ length d₀
     grows (Constant value) = omega arith
     grows (Label l) = omega (arith, (insert_length (key_for labels l.location.source (part pending l.name_at l.name_len)) n m.us).least)
 
-    -- where the lists are bytes, owners and sources still have four bytes with the next pending's use
+    -- If the lists are bytes, owners and sources still fit four bytes after the next pending's use.
     owners_next : AllBytes labels → AllBytes pending → (y : AddressLabel) → label_of pending at ≡ y → (u : Use) → Memᴰ u (use_of labels pending y n m.us)
         → kept_of u.key.standing < 2 ^ 32
     owners_next lb pb y e = bytes_owners labels pending lb pb at n y e m.us m.owners

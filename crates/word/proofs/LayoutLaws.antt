@@ -1,4 +1,4 @@
--- Writing a field of a laid-out word is replacing that field; reading one gives it. Assumes nothing.
+-- Writing a field of a laid-out word replaces that field; reading a field gives it. Assumes nothing.
 use Rattle.std.specs.Prelude.{◌≡◌, ℕ, ◌+◌, ◌*◌, ◌/◌, ◌%◌, ◌^◌, ◌<◌}
 use Rattle.std.proofs.Common.{ap, ◌∙◌}
 use native.Mathlib.Omega.{arith}
@@ -41,7 +41,7 @@ module _ (f : Fields) (h : Fits f) where
   unfolding set_field
   set_immediate v = omega arith
 
--- the base of an opcode is its fields laid out, and they fit
+-- An opcode's base word is its fields laid out, and they fit.
 pub base_layout : (op : Opcode) → instruction_base op ≡ layout (base_fields op)
 base_layout (Op key) = omega arith
 base_layout (Func key) = omega arith
@@ -91,7 +91,7 @@ module _ (f : Fields) (h : Fits f) (v : ℕ) (hv : v < 1024) where
       let o : or_field (layout f) 16 5 v ≡ bit_or (layout f / 2 ^ 21) (v / 32) * 2 ^ 21 + v % 32 * 2 ^ 16 + layout f % 2 ^ 16 = or_spill (layout f) 16 5 v in
       omega arith
 
--- what is read of a laid-out word in the immediate format
+-- Reads the fields of a laid-out word in the immediate format.
 module _ (opcode rs rt immediate : ℕ) (ho : opcode < 64) (hs : rs < 32) (ht : rt < 32) (hn : immediate < 65536) where
   pub get_opcode : get_field (immediate_layout opcode rs rt immediate) 26 6 ≡ opcode
   unfolding get_field
@@ -109,7 +109,7 @@ module _ (opcode rs rt immediate : ℕ) (ho : opcode < 64) (hs : rs < 32) (ht : 
   unfolding get_field
   get_immediate = omega arith
 
--- fields that fit still do after one that fits is put in
+-- Putting in a field that fits leaves all fields fitting.
 module _ (f : Fields) (h : Fits f) (v : ℕ) (hv : v < 32) where
   pub fits_rs : Fits (with_rs f v)
   fits_rs = record { opcode_fits = h.opcode_fits; rs_fits = hv; rt_fits = h.rt_fits; rd_fits = h.rd_fits; sa_fits = h.sa_fits; function_fits = h.function_fits }

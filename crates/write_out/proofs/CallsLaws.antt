@@ -1,4 +1,4 @@
--- Laws of calls: the body of a macro, and the token list itself, as bodies that are read. Assumes nothing.
+-- Laws of calls: a macro's body, and the token list itself, are read as bodies. Assumes nothing.
 use Prim.Native.Nat.{ℕ, zero, suc, ◌+◌, ◌-◌, ◌≤◌, ◌<◌}
 use native.Mathlib.Omega.{arith}
 use mathlib.Core.List.{List, [], ◌∷◌, map, reverse}
@@ -115,7 +115,7 @@ module _ (text macros : List ℕ) (k : ℕ) (small : length text ≤ limit) (goo
     inner_ready : Ready text macros k b inner
     inner_ready = record { readable = inner_readable; macros_good = good; most_in = omega (arith, inside); text_small = small }
 
-    -- its tokens are the body with the arguments put in
+    -- The tokens read are the body with the arguments put in.
     inner_is : read_from text macros b inner inner.start ≡ map (put_in (macro_at macros k).parameters given) (macro_at macros k).body
     unfolding macro_of
     inner_is =
@@ -128,7 +128,7 @@ module _ (text macros : List ℕ) (k : ℕ) (small : length text ≤ limit) (goo
     unfolding macro_of
     parameters_count = names_length b (count_of b) (behind_name b 0 + 1)
 
--- a call of the macro at k: its verdict, and its body
+-- A call of the macro at k: a refusal, or its body.
 abbrev pub called_of : Verdict → Body → Result Body Refusal
 called_of (Ok u) b = Ok b
 called_of (Err r) b = Err r

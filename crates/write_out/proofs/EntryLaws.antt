@@ -1,4 +1,4 @@
--- Laws of the call's checks, and its outcome by what its two passes answer and leave. Assumes nothing.
+-- Laws of the call's checks, and of its outcome from what its two passes answer and leave. Assumes nothing.
 use Rattle.std.specs.Prelude.{ℕ, ◌≤◌, ◌<◌, List, true, false, ◌≡◌, length, Err, None, Ok, Option, Result, Some}
 use Rattle.std.proofs.Common.{sym, ◌∙◌, le-leb}
 use Rattle.std.proofs.lemmas.Bool.{lt-leb}
@@ -124,7 +124,7 @@ module _ (tokens macros out : List ℕ) where
         room = (limit_good out None (layout_pass 2 (room_layout (length out)) c.0)).0;
       }
 
-  -- what the first pass answers and leaves
+  -- What the first pass answers and leaves.
   module _ (e : stop_by tokens macros (length out) ≡ Ok tt) (r : Result ℕ Refusal) (a : r ≡ answer_from (length out) 0 steps) (kept : List ℕ)
       (k : kept ≡ append out 0 (only false (written_from (length out) 0 steps))) where
     pub first_keeps : kept ≡ out
@@ -137,7 +137,7 @@ module _ (tokens macros out : List ℕ) where
     refused_outcome q w =
         first_is ∙ ap (λ (x : Result ℕ Refusal). outcome_of x (bytes_of steps) out) w ∙ ap (λ (x : List ℕ). record { answer = Err q; out = x }) (sym first_keeps)
 
-    -- and what the second answers and leaves
+    -- What the second pass answers and leaves.
     pub written_outcome : (f : ℕ) → r ≡ Ok f → (s : Result ℕ Refusal) → s ≡ answer_from (length kept) 0 steps → (left : List ℕ)
         → left ≡ append kept 0 (only true (written_from (length kept) 0 steps)) → write_out_outcome tokens macros out ≡ (record { answer = s; out = left })
     written_outcome f w s b left l =

@@ -75,7 +75,7 @@ both room fill (write t ∷ xs) ys = go (leb (fill + length t) room) refl (both 
     }
     go false e ih = record { answers = rw (e, answer_from); writes = rw (e, answer_from, written_from) }
 
--- where all is written, all records are
+-- If all steps are accepted, all their records are written.
 pub written_all : (room fill f : ℕ) (steps : List Step) → answer_from room fill steps ≡ Ok f → written_from room fill steps ≡ bytes_of steps
 unfolding answer_from written_from bytes_of
 written_all room fill f [] e = refl
@@ -109,7 +109,7 @@ split d at bs cs k e h =
     (ap (λ (n : ℕ). drop (n + length cs) (p ++ q)) (sym lp) ∙ drop-append-add p q (length cs) ∙ drop-drop (length cs) (at + length bs) d)
     ∙ ap₂ (λ (a : List ℕ) (n : ℕ). a ++ drop n d) (append_assoc (take at d) bs cs) n)
 
--- bytes and then others, where they are really written or not
+-- Bytes and then more bytes, whether they are really written or not.
 pub split_only : (really : Bool) (d : List ℕ) (at : ℕ) (bs cs : List ℕ) (k : ℕ) → at + length bs ≡ k → at ≤ length d
     → append d at (only really (bs ++ cs)) ≡ append (append d at (only really bs)) k (only really cs)
 split_only true d at bs cs k e h = split d at bs cs k e h

@@ -1,4 +1,4 @@
--- Writing steps from a fill on is writing the whole: what a loop keeps. Assumes nothing.
+-- Writing the remaining steps from a fill on is writing all steps: what a loop keeps. Assumes nothing.
 use Rattle.std.specs.Prelude.{ℕ, ◌≤◌, List, [], ◌++◌, Bool, ◌≡◌, refl, length, Err, Ok, Result}
 use Rattle.std.proofs.Common.{arith, append-nil, sym, ap, ◌∙◌}
 use Rattle.record.specs.Stores.{append}
@@ -9,7 +9,7 @@ use Rattle.macro_tokens.specs.Places.{only}
 use Rattle.write_out.specs.Body.{written_from}
 use Rattle.write_out.proofs.FillLaws.{answer_none, written_none, then_answer, then_bytes, both, fill_written, split_only, none_only}
 
--- all steps, from `from` on into the buffer, and whether it is really written
+-- All steps, from `from` on in the buffer; `really` says if they are written.
 module _ (really : Bool) (out₀ : List ℕ) (from : ℕ) (all : List Step) where
   abbrev room : ℕ
   room = length out₀
@@ -20,7 +20,7 @@ module _ (really : Bool) (out₀ : List ℕ) (from : ℕ) (all : List Step) wher
     pub answer : answer_from room from all ≡ answer_from room fill steps
     pub bytes : append out₀ from (only really (written_from room from all)) ≡ append out fill (only really (written_from room fill steps))
 
-  -- how it ends
+  -- How the loop ends.
   pub record Ends (r : Result ℕ Refusal) (out : List ℕ) : Type 0 where
     pub answered : r ≡ answer_from room from all
     pub left : out ≡ append out₀ from (only really (written_from room from all))
@@ -32,7 +32,7 @@ module _ (really : Bool) (out₀ : List ℕ) (from : ℕ) (all : List Step) wher
     abbrev shown : List Step → List ℕ
     shown x = append out fill (only really (written_from room fill x))
 
-    -- a part of the steps, with its own answer
+    -- The next part of the steps, with its own answer.
     module _ (part on : List Step) (e : steps ≡ part ++ on) (r : Result ℕ Refusal) (out' : List ℕ) (a : r ≡ answer_from (length out) fill part)
         (w : out' ≡ append out fill (only really (written_from (length out) fill part))) where
       a' : answer_from room fill part ≡ r

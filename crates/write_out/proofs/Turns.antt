@@ -1,4 +1,4 @@
--- One turn of the loop over a body: what the next token is met with. Assumes nothing.
+-- One turn of the loop over a body: what is done with the next token. Assumes nothing.
 use Rattle.std.specs.Prelude.{ℕ, ◌≤◌, ◌<◌, List, [], ◌∷◌, ◌++◌, ◌≡◌, refl, length}
 use Rattle.std.proofs.Common.{sym, ap, subst, ◌∙◌}
 use Rattle.record.specs.Records.{next}
@@ -18,7 +18,7 @@ use Rattle.macro_tokens.specs.Meant.{meant, ActIs}
 use Rattle.write_out.specs.Body.{steps_from}
 use Rattle.write_out.specs.Calls.{act_steps, mode_after}
 
--- the token at `at` of the body's list, at its place; `n` is behind it
+-- The body's token at `at`, at its place; the next one begins at `n`.
 pub record Turn (text macros : List ℕ) (most : ℕ) (list : List ℕ) (b : Body) (mode : Mode) (at n place : ℕ) (act : Act) : Type 0 where
   pub rest : ReadableFrom text macros list b at
   pub inside : at < length list

@@ -1,4 +1,4 @@
--- Laws of the macros before a place of the macro list, and of the one of a name, found from the first place on. Assumes nothing.
+-- Laws of the macros before a place of the macro list, and of finding one by its name from the first place on. Assumes nothing.
 use Rattle.std.specs.Prelude.{ℕ, ◌≤◌, ◌<◌, min, Bool, true, false, ◌≡◌, length, leb}
 use Rattle.std.proofs.Common.{arith, sym, ◌∙◌, ⊎_elim, lt-ltb, le-ltb, leb-true, leb-false}
 use mathlib.Core.List.{List, [], ◌∷◌, map, reverse, reverse_aux}
@@ -23,7 +23,7 @@ module _ (s : List ℕ) where
   unfolding above_from
   from_stop limit p ps ms h = rw (le-ltb p limit h, above_from)
 
-  -- from a place on, none is before it
+  -- None of the places from `at` on lies before `at`.
   none_from : (at : ℕ) (ms : List Macro) → above_from s at (places_from s at) ms ≡ ms
   none_from at ms = go (places_from s at) refl
     where
@@ -43,7 +43,7 @@ module _ (s : List ℕ) where
   unfolding above
   reached_first limit h = ap (λ (ps : List ℕ). above_from s limit ps []) (places_all s) ∙ ap (above_from s limit (places_from s 0)) (sym above_none)
 
-  -- the macro at a place is in front of those before it
+  -- The macro at a place is put in front of those before it.
   pub above_next : (at : ℕ) → Reached at → at < length s → whole s at ≡ true → above s (next s at) ≡ macro_at s at ∷ above s at
   above_next at r h w =
       r (next s at) (omega arith)
@@ -58,7 +58,7 @@ module _ (s : List ℕ) where
       ∙ from_here limit at (places_from s (next s at)) (above s at) (omega arith)
       ∙ ap (above_from s limit (places_from s (next s at))) (sym (above_next at r h w))
 
-  -- a limit inside a record: the macros above it are those before the next one
+  -- A limit inside a record cuts nothing off: the macros above are those before the next record.
   pub above_past : (limit at : ℕ) → Reached at → at < limit → limit ≤ next s at → at < length s → whole s at ≡ true → above s limit ≡ above s (next s at)
   above_past limit at r l m h w =
       r limit (omega arith)
@@ -81,7 +81,7 @@ module _ (s : List ℕ) where
           let k : min (next s at) limit ≡ limit = omega arith in
           ap (above s) k ∙ above_past limit at r l (omega arith) h w
 
-  -- ---- the macro of a name, as a loop finds it
+  -- ---- the macro with a name, as a loop finds it
   pub found_first : (name : List ℕ) (limit : ℕ) → Found s name limit 0 limit
   unfolding called
   found_first name limit = missing refl (rw above_none)
@@ -95,7 +95,7 @@ module _ (s : List ℕ) where
   found_next name limit at k r h w e (missing f g) = missing f (rw (above_next at r h w) (rw (e, called) g))
   found_next name limit at k r h w e (found f g) = found f (rw (above_next at r h w) (rw (e, called) g))
 
--- ---- at the end all macros are above
+-- ---- at the end of the list all macros are above
 all_above : (s ps : List ℕ) (at : ℕ) (ms : List Macro) → places_from s at ≡ ps → above_from s (length s) ps ms ≡ reverse_aux (map (macro_at s) ps) ms
 all_above s [] at ms e = from_none s (length s) ms
 all_above s (p ∷ ps) at ms e =

@@ -1,4 +1,4 @@
--- The walk by what is done with the next token: one equation for each arm of a loop. Assumes nothing.
+-- The walk, by what is done with the next token: one equation for each arm of a loop. Assumes nothing.
 use Rattle.std.specs.Prelude.{ℕ, List, ◌∷◌, ◌++◌, Bool, ◌||◌, ◌≡◌}
 use Rattle.std.proofs.Math.Bool.{true, false}
 use Rattle.std.proofs.Math.Path.{refl}

@@ -1,4 +1,4 @@
--- What was written out, written out again: it stays where no macro's name is left at a line's head. Assumes nothing.
+-- Writing out what was written out: nothing changes if no line's head is the name of a macro. Assumes nothing.
 use Rattle.std.specs.Prelude.{ℕ, ◌+◌, ◌≤◌, true, ◌≡◌, take, None, Ok, Option}
 use native.Mathlib.Omega.{arith}
 use mathlib.Core.List.{List, [], ◌∷◌, ◌++◌, map, reverse}
@@ -17,7 +17,7 @@ use Rattle.written_out.proofs.AsItself.{no_calls, as_itself}
 use Rattle.written_out.proofs.AsBytes.{joined_records}
 use Rattle.written_out.proofs.KeepsLayout.{filled_is}
 
--- records for which there is room are all written
+-- If there is room for all records, all are written.
 fits_all : (room fill : ℕ) (ts : List (List ℕ)) → fill + length (bytes_of (map write ts)) ≤ room → answer_from room fill (map write ts) ≡ Ok (fill + length (bytes_of (map write ts)))
 unfolding answer_from bytes_of
 fits_all room fill [] h = ap Ok (zero_more fill)
@@ -44,7 +44,7 @@ module _ (tokens macros out : List ℕ) (good : token_layout tokens ≡ None) (m
       ap₂ (λ (x y : Option ℕ). and_then (layout_verdict 0 x) (and_then (layout_verdict 1 y) (and_then (layout_verdict 2 (within_limit out None)) (name_verdict 1 (macro_repeat macros))))) good macros_good
       ∙ ap₂ (λ (x : Option ℕ) (r : Option ℕ). and_then (layout_verdict 2 x) (name_verdict 1 r)) (limit_kept out None small) differ
 
-  -- a list without calls is answered with its own length
+  -- The answer to a list without calls is its own length.
   pub stays : (write_out_outcome tokens macros out).answer ≡ Ok (length tokens)
   unfolding write_out_outcome
   stays =
@@ -57,6 +57,6 @@ module _ (tokens macros out : List ℕ) (good : token_layout tokens ≡ None) (m
       from_zero : (n : ℕ) → 0 + n ≡ n
       from_zero n = omega arith
 
-  -- and left as itself
+  -- And the list is written as it is.
   pub stays_so : take (length tokens) (write_out_outcome tokens macros out).out ≡ tokens
   stays_so = filled_is tokens macros out (length tokens) stays ∙ ap bytes_of steps_are ∙ bytes_are

@@ -1,4 +1,4 @@
--- Laws of a token's record by itself: it passes the test alone as it does in its list, and records that pass make a list that does. Assumes nothing.
+-- Laws of a token's record alone: it passes alone as it does in its list, and records that pass make a good list. Assumes nothing.
 use Rattle.std.specs.Prelude.{ℕ, ◌+◌, ◌-◌, ◌≤◌, ◌<◌, List, ◌∷◌, ◌++◌, map, Bool, false, ◌&&◌, ◌≡◌, refl, length, take, drop, leb, None}
 use Rattle.std.proofs.Common.{arith, ◌∙◌, length-append, length-drop, take-append-drop, length-take-le, leb-true, leb-false}
 use Rattle.std.proofs.Math.Bool.{true}
@@ -15,12 +15,12 @@ use Rattle.lexer.specs.declared.Payload.TheVariants.{Text, Slot, Number, Name, N
 use Rattle.token_bytes.proofs.BehindLaws.{ok_by, ok_by_lem, ok_behind, places_behind, good_behind}
 use Rattle.line_heads.specs.Lines.{record_at}
 
--- a token's record and nothing else
+-- A token's record, and nothing else.
 pub record Alone (t : List ℕ) : Type 0 where
   pub passes : token_ok t 0 ≡ true
   pub ends : next t 0 ≡ length t
 
--- a payload of no bytes has no first byte to look at
+-- With an empty payload, the test does not look at the first byte.
 empty_by : (p : Payload) (b c : ℕ) (text : List ℕ) → ok_by p 0 b text ≡ ok_by p 0 c text
 empty_by Text b c text = refl
 empty_by Slot b c text = refl
@@ -73,7 +73,7 @@ module _ (t r : List ℕ) (ends : next t 0 ≡ length t) (least : 8 ≤ body_len
 least_of : (t : List ℕ) → Alone t → 8 ≤ body_len t 0
 least_of t a = (token_is t 0 a.passes).least
 
--- one more token before a list that keeps its layout
+-- Puts one more token in front of a list that keeps its layout.
 pub alone_then : (t r : List ℕ) → Alone t → first_bad (token_ok r) (places r) ≡ None → first_bad (token_ok (t ++ r)) (places (t ++ r)) ≡ None
 alone_then t r a g =
     let l = least_of t a in

@@ -1,4 +1,4 @@
--- The records of a token list, joined, are the list: so a list without calls is written out byte for byte. Assumes nothing.
+-- Joining the records of a token list gives the list: so a list without calls is written out byte for byte. Assumes nothing.
 use Rattle.std.specs.Prelude.{ℕ, zero, suc, ◌+◌, ◌≤◌, ◌<◌, Bool, true, false, ◌≡◌, refl, length, ltb, None}
 use native.Mathlib.Omega.{arith}
 use mathlib.Core.List.{List, ◌++◌, map, reverse}

@@ -78,7 +78,7 @@ module _ (P : List ℕ → Type 0) where
   of_called name [] h = tt
   of_called name (m ∷ above) h = either_called (same_bytes m.name name) (macro m above) (called name above) h (of_called name above h.1)
 
-  -- what a call is replaced by keeps P
+  -- The replacement of a call keeps P.
   abbrev Keeps : Replacing → Type 0
   Keeps replace = (l : Location) (m : Macro) (above : List Macro) (given : List (List ℕ)) → Every m.body → EveryMacro above → Every given → EveryStep (replace l m above given)
 
@@ -126,7 +126,7 @@ pub data InBody (t : List ℕ) : List Macro → Type 0 where
   here : {m : Macro} {ms : List Macro} → Memᴰ t m.body → InBody t (m ∷ ms)
   later : {m : Macro} {ms : List Macro} → InBody t ms → InBody t (m ∷ ms)
 
--- byte for byte a record of the text, or of the body of one of the macros
+-- The token is, byte for byte, a record of the text or of a macro's body.
 abbrev pub Stands : (tokens macros : List ℕ) → List ℕ → Type 0
 Stands tokens macros t = Memᴰ t (records_of tokens) ⊎ InBody t (macros_of macros)
 

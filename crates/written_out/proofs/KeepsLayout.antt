@@ -61,7 +61,7 @@ steps_good (stop r ∷ steps) h = none
     none : first_bad (token_ok []) (places []) ≡ None
     none = refl
 
--- the fill is where the records end, within the room
+-- The fill is where the records end, and that is within the room.
 pub fill_is : (room fill f : ℕ) (steps : List Step) → fill ≤ room → answer_from room fill steps ≡ Ok f → (f ≡ fill + length (bytes_of steps)) × (f ≤ room)
 unfolding answer_from bytes_of
 fill_is room fill f [] h e = let k : fill ≡ f = cc in (omega arith, omega arith)
@@ -118,7 +118,7 @@ module _ (tokens macros out : List ℕ) (f : ℕ) where
   pub fill_within : (write_out_outcome tokens macros out).answer ≡ Ok f → f ≤ length out
   fill_within e = (fill_is (length out) 0 f steps (omega arith) (accepted e).answered).1
 
-  -- the filled part is the written records
+  -- The filled part is the records written.
   pub filled_is : (write_out_outcome tokens macros out).answer ≡ Ok f → take f (write_out_outcome tokens macros out).out ≡ bytes_of steps
   unfolding write_out_outcome
   filled_is e =

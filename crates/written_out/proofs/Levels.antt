@@ -15,7 +15,7 @@ use Rattle.written_out.specs.Written.{Step, write, stop, macro, Replacing, argum
 use Rattle.written_out.specs.Outcome.{answer_from, write_out_outcome}
 use Rattle.written_out.proofs.KeepsLayout.{accepted}
 
--- a line of the tokens calls the macro, which has those above it, with those arguments
+-- A line of the tokens calls this macro with these arguments; `above` are the macros above it.
 pub record Calls (ts : List (List ℕ)) (macros : List Macro) (m : Macro) (above : List Macro) (given : List (List ℕ)) : Type 0 where
   pub line : Line
   pub listed : Memᴰ line (lines ts)
@@ -26,7 +26,7 @@ pub record Calls (ts : List (List ℕ)) (macros : List Macro) (m : Macro) (above
   pub is : called (text_of name 0) macros ≡ macro m above
   pub given_is : arguments rest ≡ given
 
--- calls in the tokens, in the body that replaces one of these, and so on, so many deep
+-- Nested calls: in the tokens, in the body that replaces such a call, and so on. The number counts the levels.
 pub data Deep : (ts : List (List ℕ)) → (macros : List Macro) → ℕ → Type 0 where
   flat : {ts : List (List ℕ)} {macros : List Macro} → Deep ts macros zero
   deeper : {ts : List (List ℕ)} {macros : List Macro} {m : Macro} {above : List Macro} {given : List (List ℕ)} {n : ℕ} → Calls ts macros m above given
@@ -57,7 +57,7 @@ no_stop_answer room fill f (write t ∷ steps) e = go (leb (fill + length t) roo
         absurd (omega arith)
 
 module _ (replace : Replacing) (macros : List Macro) where
-  -- what replaces a call of one of the lines is among the steps
+  -- If a line has no refusal, neither has the replacement of its call.
   in_line : (l : Line) → NoStop (line_steps replace macros l) → (name : List ℕ) (rest : List (List ℕ)) (m : Macro) (above : List Macro)
       → drop (leads l.tokens) l.tokens ≡ name ∷ rest → is_symbol name ≡ true → called (text_of name 0) macros ≡ macro m above
       → NoStop (replace (location_at name 4) m above (arguments rest))
@@ -106,7 +106,7 @@ levels_left (suc n) (suc d) ts macros h (deeper {m = m} {above = above} {given =
     let k = counted_on (location_at c.name 4) m given _ (of_call (replaced (suc n)) macros ts m above given c h) in
     omega (arith, levels_left n d (map (put_in m.parameters given) m.body) above k p)
 
--- a list that is written out has no ninth level
+-- A list that is written out has at most eight levels.
 pub eight_levels : (tokens macros out : List ℕ) (f d : ℕ) → (write_out_outcome tokens macros out).answer ≡ Ok f → Deep (records_of tokens) (reverse (macros_of macros)) d → d ≤ 8
 unfolding written_out
 eight_levels tokens macros out f d e p =

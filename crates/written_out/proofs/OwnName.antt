@@ -18,7 +18,7 @@ at_is : (n : Option ℕ) (p : ℕ) → is_at n p ≡ true → n ≡ Some p
 at_is (Some q) p e = ap Some (eqb-true q p e)
 at_is None p e = let z : ◌≡◌ {A = ℕ} 0 1 = cc in absurd (omega arith)
 
--- where no name repeats, the first macro of a macro's name is that macro
+-- If no name repeats, searching for a macro's name finds that macro.
 first_of : (s list ps : List ℕ) → first_later (same_macro s) list ps ≡ None → (q : ℕ) → Memᴰ q ps → first_where (same_macro s q) list ≡ Some q
 first_of s list [] e q m = elim m [ ]
 first_of s list (p ∷ ps) e q m = go (is_at (first_where (same_macro s p) list) p) refl (first_of s list ps)
@@ -50,7 +50,7 @@ module _ (s : List ℕ) (limit q : ℕ) (h : limit ≤ q) where
           absurd (omega (arith, ltb-true p limit et))
       go false eb true et ih = rw (et, above_from) (ih (sym (rw (eb, first_where)) ∙ e) ∙ rw (eb, called))
 
--- the macro at q, or one below the place `limit`
+-- The macro at q, at or behind the place `limit`, is not called by its name.
 pub not_above : (s : List ℕ) (limit q : ℕ) → macro_repeat s ≡ None → Memᴰ q (places s) → limit ≤ q → called (macro_at s q).name (above s limit) ≡ no_macro
 unfolding macro_repeat above called
 not_above s limit q e m h = none_above s limit q h (places s) [] (first_of s (places s) (places s) e q m)

@@ -68,7 +68,7 @@ module _ (replace : Replacing) (macros : List Macro) where
   abbrev steps : List Line → List Step
   steps ls = lines_steps replace macros ls
 
-  -- what is left of the first line behind a call, and behind a head that is none
+  -- The rest of the first line: behind a call, or behind a head that calls nothing.
   abbrev left_steps : List Line → List Step
   left_steps [] = []
   left_steps (l ∷ ls) = map write l.end ++ steps ls
@@ -207,6 +207,6 @@ module _ (replace : Replacing) (macros : List Macro) where
       go false en false ec true es true el ih = by_more t ts ih en (by_label t ts ih en ec es el)
       go false en false ec true es false el ih = by_more t ts ih en (by_call t ts ih en ec es el)
 
-  -- line by line is token by token
+  -- Writing line by line is writing token by token.
   pub walk_is : (ts : List (List ℕ)) → lines_steps replace macros (lines ts) ≡ walk replace macros Leading ts
   walk_is ts = (all_is ts).head_is

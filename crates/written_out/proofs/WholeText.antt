@@ -25,7 +25,7 @@ module _ {S : Type 0} (emit : S → Line → S) where
     pub answer : Result ℕ Refusal
     pub state : S
 
-  -- a text is written out, and then its lines are emitted; where writing out is refused nothing is
+  -- Writes a text out, and then emits its lines. If writing out is refused, nothing is emitted.
   abbrev afterwards : S → Result ℕ Refusal → (out : List ℕ) → Emitted
   afterwards s (Ok f) out = record { answer = Ok f; state = emit_all s (lines (records_of (take f out))) }
   afterwards s (Err r) out = record { answer = Err r; state = s }
@@ -50,7 +50,7 @@ module _ {S : Type 0} (emit : S → Line → S) where
   unfolding macro_repeat first_later places places_from places_f
   differ_none = refl
 
-  -- the text with its macros is emitted as its written-out list is, as a text without macros
+  -- Emitting a text with macros is emitting its written-out list, as a text without macros.
   pub words_equal : (s : S) (tokens macros out : List ℕ) (f : ℕ) → (write_out_outcome tokens macros out).answer ≡ Ok f
       → emit_text s tokens macros out ≡ emit_text s (take f (write_out_outcome tokens macros out).out) [] out
   unfolding emit_text

@@ -6,7 +6,7 @@ use Rattle.address_label.specs.Entries.{entry_ok, entry_layout}
 use Rattle.address_label.proofs.EntriesLaws.{EntryIs, entry_is, entry_good, entry_none, entry_stated}
 use Rattle.address_label.proofs.read_entry.Goals as goal
 
--- where a record stands it is an entry
+-- If the list has a record, the record is an entry.
 first : (s : List ℕ) → entry_layout s ≡ None → 0 < length s → EntryIs s 0
 first s g h = entry_is s 0 (good_ok (entry_ok s) s 0 h (rw (places_all s) at (entry_good s g).1))
 

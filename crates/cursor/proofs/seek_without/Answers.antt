@@ -1,4 +1,4 @@
--- The search from each turn's position on ends where the search asked for does.
+-- From each turn's position on, the search ends where the whole search does.
 use Rattle.std.proofs.Common.{sym, ap, ◌∙◌, arith}
 use Rattle.lexer.specs.Tokens.{tokens}
 use Rattle.lexer.specs.declared.Token.{Token}

@@ -6,7 +6,7 @@ use Rattle.descriptors.proofs.MnemonicsLaws.{mnemonic_good, zeros, name_lowered,
 use Rattle.descriptors.proofs.read_mnemonic.Goals as goal
 use Rattle.descriptors.proofs.read_mnemonic.Goals.{After-half_at-len}
 
--- the list begins with a mnemonic, of which the length was read
+-- The list begins with a mnemonic, whose length was read.
 room : (c : After-half_at-len) → let s = c.args.list.now in
     (c.half_at-len.result ≡ body_len s 0) × (8 ≤ c.half_at-len.result) × (c.half_at-len.result ≤ 24) × (4 + c.half_at-len.result ≤ length s)
 room c =

@@ -1,4 +1,4 @@
--- No word is left, the first that is fits, or it does not.
+-- Either no word is left, or the first word left fits, or it does not.
 use Rattle.std.proofs.Common.{◌≡◌, ◌+◌, ◌-◌, ◌*◌, refl, sym, ◌∙◌, arith}
 use Rattle.emit_checks.proofs.RoomLaws.{edge_end, edge_next, edge_stop_lem}
 use Rattle.emit_checks.proofs.check_edge.Goals as goal

@@ -1,4 +1,4 @@
--- The layouts come first, and where they pass the names; the place of a name is at most 65,536.
+-- The layouts are checked first, and then the names. The place of a name is at most 65,536.
 use Rattle.std.specs.Prelude.{Err}
 use Rattle.std.proofs.Common.{refl, sym, ap, ◌∙◌, arith}
 use Rattle.std.proofs.lemmas.Result.{err_from_is_err_and}
@@ -18,6 +18,6 @@ pub check_names-requires : goal.check_names-requires
 check_names-requires c p e =
     omega (arith, repeat_place _ p (layouts_pass _ _ _ _ c.args.region _ (sym c.in_ok-check_layouts.ensures)).descriptors_good (sym (rw c.new.ensures at c.first_repeat.ensures) ∙ e))
 
--- where the layouts pass, the names decide
+-- If the layouts pass, the names decide.
 pub returns : goal.returns
 returns c = c.check_names.ensures ∙ sym (lists_are _ _ _ _ _ _ (sym c.in_ok-check_layouts.ensures) (sym (rw c.new.ensures at c.first_repeat.ensures)))

@@ -7,7 +7,7 @@ use Rattle.image_text.specs.Image.{region_line, data_lines, region_text}
 use Rattle.image_text.proofs.put_region.Goals as goal
 use Rattle.image_text.proofs.put_region.Goals.{After-bytes-list}
 
--- the region's text, by what was read of it
+-- The region's text, from what was read of it.
 read : (s : List ℕ) (number : ℕ) (r : Region) → r ≡ region_at s (region_place s number)
     → region_text number (image_region s (region_place s number)) ≡ region_line number r.address ++ data_lines r.address 0 (take (r.start + r.size - r.start) (drop r.start s))
 read s number r e = let n : r.start + r.size - r.start ≡ r.size = omega arith in rw (n, e)

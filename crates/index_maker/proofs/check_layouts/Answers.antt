@@ -12,7 +12,7 @@ use Rattle.indexed_outcome.specs.Make.{make_layouts}
 use Rattle.indexed_outcome.proofs.MakeLaws.{layouts_are}
 use Rattle.index_maker.proofs.check_layouts.Goals as goal
 
--- the layouts' verdict by that of each buffer
+-- The verdict of the layouts, from the verdict of each buffer.
 by_each : (fill : ℕ) (pending labels index : List ℕ) (u v w : Verdict) → layout_verdict 0 (pending_buffer_layout fill pending) ≡ u → layout_verdict 1 (label_layout labels) ≡ v
     → layout_verdict 2 (within_limit index None) ≡ w → make_layouts fill pending labels index ≡ and_then u (and_then v w)
 by_each fill pending labels index u v w e f g =

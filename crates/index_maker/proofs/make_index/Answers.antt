@@ -12,7 +12,7 @@ use Rattle.indexed_outcome.proofs.MakeLaws.{layouts_good, outcome_by}
 use Rattle.index_maker.proofs.make_index.Goals as goal
 use Rattle.index_maker.proofs.make_index.Goals.{After-first_repeat}
 
--- the outcome by the verdict of the labels' names, where the layouts are kept
+-- If the layouts are kept, the labels' names decide, and then the room.
 by_names : (fill : ℕ) (pending labels index : List ℕ) (v : Verdict) → make_layouts fill pending labels index ≡ Ok tt → name_verdict 1 (label_repeat labels) ≡ v
     → let new = index_of labels (take fill pending) in make_outcome fill pending labels index ≡ make_by (and_then v (room_for new index)) new index
 by_names fill pending labels index v e f =

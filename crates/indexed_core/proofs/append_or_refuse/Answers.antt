@@ -40,7 +40,7 @@ pass c =
     words_pass a.tokens.now a.numbers (lent c) a.read c.check_line-passed.ensures c.in_ok-words.words
     (stopped_ok a.read.position c.check_line-passed.result (sym c.at_position.ensures ∙ c.in_ok-words.was))
 
--- what holds of the words' line holds of the line that was made
+-- What holds of a line of these words holds of the line that was made.
 of_made : (c : In_ok-words) (out : IndexedOutcome) → let a = c.args in
     let by : Result EmitInstruction Unmade → IndexedOutcome = λ (m : Result EmitInstruction Unmade). let o = line_outcome a.tokens.now a.read.line a.numbers (lent c) (answer_line m a.read.position) in
     with_index a.read.line a.numbers (lent c) a.fill a.index.now (new_index a.labels.now a.tokens.now (old c) (answer_line m a.read.position).pairs) o o.answer in

@@ -21,7 +21,7 @@ call c =
     let a = c.args in
     indexed_call_of (call_of a.lists.tokens.now a.lists.mnemonic.now a.lists.descriptors.now (lent_of a.«data».now a.pending.now a.breakpoints.now) a.counts.counts a.place) a.labels.now a.index.now a.counts.index
 
--- why the call stops, by the verdict of each check
+-- Why the call stops, from the verdict of each check.
 by_each : (x : IndexedCall) (s t u v w : Verdict) → let c = x.call in
     layout_stop c.token_list c.mnemonic c.descriptors c.lent c.numbers.place.region c.numbers.counts ≡ s
     → layout_verdict 6 (label_layout x.labels) ≡ t
@@ -66,7 +66,7 @@ new-requires c =
 pub check_uses-uses-requires : goal.check_uses-uses-requires
 check_uses-uses-requires c = sym c.first_bad_label.ensures ∙ layout_pass 6 _ (sym c.in_ok-check_layout.ensures)
 
--- the layout that was found, by the filled pending list
+-- The layout that was found is that of the filled pending list.
 layout_is : (c : After-check_uses-uses) → let a = c.args in
     c.check_uses-uses.result.layout ≡ index_layout a.labels.now (filled_pending (lent_of a.«data».now a.pending.now a.breakpoints.now) a.counts.counts) a.counts.index a.index.now
 layout_is c = let a = c.args in c.check_uses-uses.ensures.0 ∙ ap (λ (p : List ℕ). index_layout a.labels.now p a.counts.index a.index.now) c.new.ensures
@@ -86,7 +86,7 @@ new-requires-2 c =
     let a = c.args in
     (layouts_pass _ _ _ (lent_of a.«data».now a.pending.now a.breakpoints.now) a.place.region _ (sym c.in_ok-check_layouts.ensures)).descriptors_good
 
--- the repeat that was found, by the descriptor list
+-- The repeat that was found is that of the descriptor list.
 repeat_is : (c : After-first_repeat) → c.first_repeat.result ≡ descriptor_repeat c.args.lists.descriptors.now
 repeat_is c = c.first_repeat.ensures ∙ ap descriptor_repeat c.new-2.ensures
 

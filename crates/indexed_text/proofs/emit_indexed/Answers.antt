@@ -1,4 +1,4 @@
--- The buffers are those of the input, of which one byte more than the limit is held at most.
+-- The buffers are the input's. Of each, at most one byte more than the limit is held.
 use Rattle.std.proofs.Common.{◌≡◌, ℕ, List, length, sym, ap, arith, ◌∙◌}
 use Rattle.emit_outcome.specs.Call.{Lent, lent_of}
 use Rattle.indexed_outcome.specs.Indexed.{indexed_outcome_of}
@@ -8,7 +8,7 @@ use Rattle.indexed_text.specs.IndexedText.{outcome_text, call_text, emit_indexed
 use Rattle.indexed_text.proofs.IndexedTextLaws.{outcome_most}
 use Rattle.indexed_text.proofs.emit_indexed.Goals as goal
 
--- the text of a call by equal buffers, whatever the text is
+-- Calls with equal buffers have equal texts.
 text_by : (text : Lent → List ℕ → List ℕ) (out d p b i d' p' b' i' : List ℕ) → d ≡ d' → p ≡ p' → b ≡ b' → i ≡ i'
     → out ≡ text (lent_of d p b) i → out ≡ text (lent_of d' p' b') i'
 text_by text out d p b i d' p' b' i' hd hp hb hi h = rw (← hd, ← hp, ← hb, ← hi) h

@@ -1,4 +1,4 @@
--- A pattern above that of infinity is a NaN, and 0 / 0 is the NaN; any other pattern is the float of its bits.
+-- A pattern above infinity's is a NaN, and 0 / 0 is the NaN. Any other pattern is the float with these bits.
 use Rattle.std.proofs.Common.{◌≡◌, true, refl, sym, ◌∙◌, lt-ltb}
 use Rattle.std.proofs.lemmas.Float.{not_nan_f64_bits}
 use Rattle.std.specs.Float.Ieee.{Float, nan, inf, fin, binary64, is_nan, of_bits, div}

@@ -1,4 +1,4 @@
--- `_` is past the list of kinds.
+-- The arm `_` is for kinds past the list.
 use Rattle.std.proofs.Common.{arith}
 use Rattle.std.proofs.lemmas.List.{get_or_past}
 use Rattle.record.specs.Records.{kind_at}

@@ -1,4 +1,4 @@
--- The buffers are those of the input, of which one byte more than the limit is held at most.
+-- The buffers are the input's. Of each, at most one byte more than the limit is held.
 use Rattle.std.proofs.Common.{◌≡◌, ℕ, List, length, sym, ap, arith, ◌∙◌}
 use Rattle.emit_outcome.specs.Call.{Lent, lent_of, outcome_of}
 use Rattle.input.specs.Input.{held}
@@ -7,7 +7,7 @@ use Rattle.line_text.specs.Line.{outcome_text, call_text, job_text}
 use Rattle.line_text.proofs.LineLaws.{outcome_most}
 use Rattle.line_text.proofs.put_job.Goals as goal
 
--- the text of a call by equal buffers, whatever the text is
+-- Calls with equal buffers have equal texts.
 text_by : (text : Lent → List ℕ) (out d p b d' p' b' : List ℕ) → d ≡ d' → p ≡ p' → b ≡ b' → out ≡ text (lent_of d p b) → out ≡ text (lent_of d' p' b')
 text_by text out d p b d' p' b' hd hp hb h = rw (← hd, ← hp, ← hb) h
 

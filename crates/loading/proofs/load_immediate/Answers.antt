@@ -1,4 +1,4 @@
--- The tests on the way say which words the definition has, and each word is what it has there.
+-- The tests on the way decide which words the definition has. Each word is the same as there.
 use Rattle.std.proofs.Common.{◌≡◌, ℕ, true, List, [], ◌∷◌, refl, ap, ap₂, ◌∙◌}
 use Rattle.registers.specs.Numbers.{register_number}
 use Rattle.registers.specs.NumberLaws.{register_lt}
@@ -9,7 +9,7 @@ use Rattle.loading.proofs.ContractLaws.{loaded_by}
 use Rattle.loading.proofs.load_immediate.Goals as goal
 use Rattle.loading.proofs.load_immediate.Goals.{then-low-lt32768-via-then-low-lt32768, then-low-lt32768-via-else-low-lt32768+then-low-ge4294934528}
 
--- the words of a form that has one
+-- the words of a form that has only one
 alone : (w v : ℕ) {words : List ℕ} → words ≡ w ∷ 0 ∷ [] → w ≡ v → words ≡ v ∷ 0 ∷ []
 alone w v e h = e ∙ ap (λ (x : ℕ). x ∷ 0 ∷ []) h
 

@@ -27,7 +27,7 @@ loop-other-init c =
     let low : c.from-low.result ≡ get_or l 0 0 = c.from-low.ensures ∙ sym (ap (λ (x : List ℕ). get_or x 0 0) f.0) in
     record { scanned = subst (λ (p : ℕ). Scanned s l 1 p (length s)) (sym low) (scan_start s l c.args.macros.now.good c.requires (omega (arith, f.1))); within = tt }
 
--- where the walk stands in the index
+-- The index at the walk's next step holds the place that was read.
 there : (c : After-from-p) → let i = c.loop-other.other-index + 1 in (i < length c.args.index.now) × (c.from-p.result ≡ get_or c.args.index.now i 0)
 there c =
     let f = c.in_ok-first.ensures.cases in
@@ -36,12 +36,12 @@ there c =
     behind : (l : List ℕ) (x : ℕ) (xs : List ℕ) (j : ℕ) → l ≡ x ∷ xs → get_or xs j 0 ≡ get_or l (j + 1) 0
     behind l x xs j e = rw (e, add-one j)
 
--- the least so far or a place within the list
+-- With no repeat so far, the defaults p and n give the same minimum.
 least_so : (o : Option ℕ) (n p : ℕ) → p < n → min (unwrap_or o p) p ≡ min (unwrap_or o n) p
 least_so None n p h = omega arith
 least_so (Some q) n p h = refl
 
--- the two macros that are compared
+-- The macro just read is good, so the two can be compared.
 ok_here : (c : After-from-p) → macro_at_ok c.args.macros.now.bytes.now c.from-p.result ≡ true
 ok_here c =
     let l = c.loop-other in
@@ -65,7 +65,7 @@ same_name-requires c =
     let ok : (p : ℕ) (b : List ℕ) → macro_at_ok s p ≡ true → b ≡ body_at s p → name_ok b 0 ≡ true = λ p b h e. ap (λ (x : List ℕ). name_ok x 0) e ∙ name_ok_lem s p (macro_is s p h) in
     (ok c.from-p.result _ (ok_here w) c.body_at.ensures, ok c.loop-other.low _ (ok_low w) c.body_at-in-loop-other.ensures)
 
--- what the test says
+-- The test compares the names of these two macros.
 tested : (c : After-same_name) → c.from-p.result ≡ get_or c.args.index.now (c.loop-other.other-index + 1) 0
     → c.same_name.result ≡ same_bytes (own_name c.args.macros.now.bytes.now (get_or c.args.index.now (c.loop-other.other-index + 1) 0)) (own_name c.args.macros.now.bytes.now c.loop-other.low)
 tested c e =
@@ -115,7 +115,7 @@ loop-other-preserved c =
           })
     ]
 
--- at the end it is the definition's
+-- At the end, `best` is what the definition finds.
 found : (s l : List ℕ) → macro_layout s ≡ None → IndexOf 0 s l → (i low : ℕ) (best : Option ℕ) → Scanned s l i low (unwrap_or best (length s)) → MatchOption best Unit (λ b. b < length s)
     → length l ≤ i → best ≡ macro_repeat s
 found s l g ix i low None b w h = sym (scan_none s l g ix i low _ b h (omega arith))

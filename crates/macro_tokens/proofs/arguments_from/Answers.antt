@@ -8,7 +8,7 @@ use Rattle.macro_tokens.proofs.ArgumentsLaws.{Took, took_last, took_line, took_n
 use Rattle.macro_tokens.proofs.arguments_from.Goals as goal
 use Rattle.macro_tokens.proofs.arguments_from.Goals.{In-Some, After-kind-kind}
 
--- the walk stands at the token of the turn, and behind it are the others
+-- The walk is at the turn's token, and the other tokens follow it.
 turn : (c : In-Some) → let a = c.args in
     Took a.source.now.text.now a.source.now.macros.now a.reading.now.list.now a.reading.now.body a.from c.in-Some.at c.loop-at.taken
     × (c.in-Some.at < length a.reading.now.list.now)
@@ -35,7 +35,7 @@ token_at-requires c =
     let t = turn (goal.at.token_at-requires c).In-Some in
     subst (TokenIn a.source.now.text.now a.source.now.macros.now) (sym c.place_at-place.ensures) (place_in a.source.now.text.now a.source.now.macros.now a.reading.now.list.now a.reading.now.body c.in-Some.at t.0.rest t.1)
 
--- the kind is that of the token
+-- The kind read is the token's kind.
 kind_is : (c : After-kind-kind) → c.kind-kind.result ≡ kind_at (token_record c.args.source.now.text.now c.args.source.now.macros.now (place_of c.args.reading.now.list.now c.args.reading.now.body c.in-Some.at)) 0
 kind_is c = c.kind-kind.ensures ∙ ap (λ (r : List ℕ). kind_at r 0) c.token_at.ensures ∙ ap (λ (p : ℕ). kind_at (token_record c.args.source.now.text.now c.args.source.now.macros.now p) 0) c.place_at-place.ensures
 
@@ -64,7 +64,7 @@ loop-at-preserved c =
           (took_next a.source.now.text.now a.source.now.macros.now a.reading.now.list.now a.reading.now.body a.from c.in-Some.at c.loop-at.taken t.0 t.1 c.kind-kind.result (kind_is w.After-kind-kind) c.if-kind-eq-NEW_LINE.false);
     }
 
--- a walk with nothing left stands at the end
+-- A walk with nothing left is at the end.
 ended : (s : List ℕ) (at : ℕ) → (at < length s → whole s at ≡ true) → places_from s at ≡ [] → length s ≤ at
 ended s at w e = go (ltb at (length s)) refl
   where

@@ -6,7 +6,7 @@ use Rattle.macro_tokens.proofs.PlacesLaws.{record_text, record_macros}
 use Rattle.macro_tokens.proofs.token_at.Goals as goal
 use Rattle.macro_tokens.proofs.token_at.Goals.{then-place-source, else-place-source}
 
--- the part between a record's place and the next
+-- The bytes from a record's place to the next place are the record.
 cut : (s : List ℕ) (at e : ℕ) → e ≡ next s at → part s at (e - at) ≡ record_at s at
 cut s at e h =
     let k : e - at ≡ 4 + body_len s at = omega arith in

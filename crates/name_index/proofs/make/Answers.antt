@@ -8,7 +8,7 @@ use Rattle.name_index.proofs.CountLaws.{count_at_least}
 use Rattle.name_index.proofs.PlacesLaws.{all_ok}
 use Rattle.name_index.proofs.make.Goals as goal
 
--- a record has four bytes at least
+-- A record has at least four bytes.
 few : (skip : ℕ) (list : List ℕ) → first_bad (has_owned_name skip list) (places list) ≡ None → length (places list) * 4 ≤ length list
 few skip list g = count_at_least 4 list (has_owned_name skip list) (λ p e. ((owned_is skip list p e).whole_at, omega arith)) g
 

@@ -9,7 +9,7 @@ use Rattle.name_index.specs.Index.{below}
 use Rattle.name_index.proofs.rises.Goals as goal
 use Rattle.name_index.proofs.rises.Goals.{After-is_below}
 
--- one record more
+-- Takes one more record.
 turn : (le : ℕ → ℕ → Bool) (last at : ℕ) (l ps : List ℕ) (b : Bool) → l ≡ at ∷ ps → b ≡ le last at → in_order le (last ∷ l) ≡ (b && in_order le (at ∷ ps))
 unfolding in_order
 turn le last at l ps b e f = ap (λ (l : List ℕ). in_order le (last ∷ l)) e ∙ ap (λ (b : Bool). b && in_order le (at ∷ ps)) (sym f)
@@ -39,7 +39,7 @@ record-requires-in-loop-at g c =
     let n = first_good ok _ _ (ap (first_bad ok) (sym c.in-Some-at.ensures.steps) ∙ c.loop-at.invariant.named) in
     (omega arith, (omega arith, n.0))
 
--- what the records at `last` and `at` say
+-- The test compares the records at `last` and `at`.
 told : (g : _) (c : After-is_below g) → c.is_below.result ≡ below g.row.SKIP c.args.list.now c.loop-at.last c.in-Some-at.at
 told g c = rw (c.record.ensures.0, c.record.ensures.1, c.record-in-loop-at.ensures.1) at c.is_below.ensures
 

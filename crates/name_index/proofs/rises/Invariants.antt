@@ -7,7 +7,7 @@ use Rattle.name_sort.specs.Sorting.{in_order}
 use Rattle.name_index.specs.Index.{below, names_rise}
 use Rattle.name_index.proofs.rises.Given as goal
 
--- the names rise where they do from the record at `last` on
+-- The whole list rises exactly when it rises from `last` on.
 abbrev pub invariant-loop-at : goal.invariant-loop-at
 invariant-loop-at g l = record {
   last_named : has_owned_name g.row.SKIP l.list l.last ≡ true;

@@ -2,7 +2,7 @@ use Rattle.std.proofs.Common.{◌≡◌, ◌+◌, length}
 use Rattle.name_order.specs.Order.{order}
 use Rattle.name_order.proofs.compare_bytes.Given as goal
 
--- the names stand as what is left of them, behind as many bytes of each
+-- The names compare as their remaining parts do; the same number of bytes was taken off each.
 abbrev pub invariant-loop-x : goal.invariant-loop-x
 invariant-loop-x l =
     let a = l.x-iterator.a.rest.now in

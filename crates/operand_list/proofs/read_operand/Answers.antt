@@ -1,4 +1,4 @@
--- Each arm is its reader's answer, and nothing is read where nothing is asked for.
+-- Each arm gives its reader's answer; if nothing is asked for, nothing is read.
 use Rattle.std.specs.Prelude.{refl}
 use Rattle.operand_list.specs.OperandLists.{read_operand}
 use Rattle.operand_list.proofs.read_operand.Goals as goal

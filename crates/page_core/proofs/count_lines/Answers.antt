@@ -10,7 +10,7 @@ use Rattle.page_core.proofs.ChecksLaws.{lines_left, left_all, left_next, left_no
 use Rattle.page_core.proofs.count_lines.Goals as goal
 use Rattle.page_core.proofs.count_lines.Goals.{In-Some, After-half_at}
 
--- a region stands at the place of the turn
+-- A region stands at the turn's place.
 one : (c : In-Some) → RegionIs c.args.regions.now c.in-Some.at
 one c =
     let s = c.args.regions.now in

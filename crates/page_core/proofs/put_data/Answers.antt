@@ -10,7 +10,7 @@ use Rattle.page_core.proofs.TextsLaws.{data_next, data_end}
 use Rattle.page_core.proofs.put_data.Goals as goal
 use Rattle.page_core.proofs.put_data.Goals.{After-name_in-name}
 
--- the line of the turn, and then the others
+-- The turn's line, and then the others.
 turn : (c : After-name_in-name) → let l = c.loop-i in
     let a = c.args in
     let at = 4 * c.in-Some.i in

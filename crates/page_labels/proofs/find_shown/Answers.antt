@@ -7,7 +7,7 @@ use Rattle.page_labels.proofs.SlotsLaws.{Last, last_of, label_at_lem, slotted_en
 use Rattle.page_labels.proofs.find_shown.Goals as goal
 use Rattle.page_labels.proofs.find_shown.Goals.{After-from, After-word_of}
 
--- the place of a turn is the last of the index's that are left
+-- A turn takes the last of the index's places that are left.
 last : (c : After-from) → Last c.args.labels.now.order c.loop-at.at-iterator.iter.rest.now c.next.new.self.iter.rest.now c.in-Some.field-0.now
 last c = last_of _ _ _ _ c.loop-at.invariant.left c.in-Some.ensures.steps
 
@@ -26,7 +26,7 @@ overflow_add-slots c =
     let t = turn (goal.at.overflow_add-slots c).After-from in
     omega (arith, t.body, t.least, labels_within _ c.loop-at.invariant.good, c.from.ensures)
 
--- the word that its address is of
+-- The word that the label's address belongs to.
 word : (c : After-word_of) → WordIs c.args.address c.args.size (le32 c.bytes-list.result.now (slice_index c.args.labels.now.order (length c.loop-at.at-iterator.iter.rest.now - 1) + 4)) c.word_of.result
 word c =
     let t = last (goal.at.After-word_of c).After-from in

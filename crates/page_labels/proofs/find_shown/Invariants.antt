@@ -5,7 +5,7 @@ use Rattle.labels.specs.Labels.{label_layout}
 use Rattle.page_labels.proofs.SlotsLaws.{Slotted}
 use Rattle.page_labels.proofs.find_shown.Given as goal
 
--- what is left of the index is its beginning
+-- The places that are left are the first of the index.
 abbrev pub invariant-loop-at : goal.invariant-loop-at
 invariant-loop-at l = record {
   good : label_layout l.list ≡ None;

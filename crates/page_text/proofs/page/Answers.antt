@@ -29,7 +29,7 @@ slice_bounds-page-end c = sym (zeros (goal.at.slice_bounds-page-end c).After-min
 within : (c : In-Ok) → c.in-Ok.length ≤ length c.lay_out.new.page
 within c = let w = page_within _ _ _ _ _ c.in-Ok.ensures in omega (arith, w)
 
--- what is printed, by what was read of the input
+-- What is printed, from what was read of the input.
 text_is : (input labels regions rest space : List ℕ) (asked room : ℕ) → labels ≡ list_of 0 input → regions ≡ list_of 1 input → rest ≡ behind_lists 2 input
     → asked ≡ length_in rest → room ≡ min asked 1195960 → length space ≡ 1195960
     → outcome_text (page_outcome labels regions (take room space)) ≡ page_text input

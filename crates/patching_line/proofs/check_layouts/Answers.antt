@@ -1,4 +1,4 @@
--- The first list that breaks its layout is the one that is named, and its place is at most 65,536.
+-- Names the first list that breaks its layout, with a place of at most 65,536.
 use Rattle.std.specs.Prelude.{Err, None, Ok, Option}
 use Rattle.std.proofs.Common.{◌≡◌, ℕ, List, refl, sym, ap, ◌∙◌, arith}
 use Rattle.std.proofs.lemmas.Result.{err_from_is_err_and}
@@ -15,14 +15,14 @@ use Rattle.patching_line.proofs.ListedLaws.{listed_place, listed_good}
 use Rattle.patching_line.proofs.ListsLaws.{stops_are}
 use Rattle.patching_line.proofs.check_layouts.Goals as goal
 
--- the layout of the pendings, by the count of the regions
+-- The pendings' layout, with the count of the regions put in.
 pendings_are : (pending : List ℕ) (counts : PatchCounts) {regions n : ℕ} {l : Option ℕ}
     → l ≡ filled_layout counts.pending pending (has_patched counts.patches (filled_pendings pending counts) (pending_layout n (filled_pendings pending counts))) → n ≡ regions
     → l ≡ filled_layout counts.pending pending (has_patched counts.patches (filled_pendings pending counts) (pending_layout regions (filled_pendings pending counts)))
 pendings_are pending counts e k =
     e ∙ ap (λ (m : ℕ). filled_layout counts.pending pending (has_patched counts.patches (filled_pendings pending counts) (pending_layout m (filled_pendings pending counts)))) k
 
--- a region list that has passed
+-- A region list that passes keeps its layout.
 listed_passed : (region fill : ℕ) (s : List ℕ) {bad : Option ℕ} → bad ≡ listed_in region fill s → Ok tt ≡ layout_verdict 3 bad → listed_in region fill s ≡ None
 listed_passed region fill s e f = layout_pass 3 (listed_in region fill s) (verdict (layout_verdict 3) e f)
 

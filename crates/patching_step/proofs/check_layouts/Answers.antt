@@ -1,4 +1,4 @@
--- The first list that breaks its layout is the one that is named, and its place is at most 65,536.
+-- Names the first list that breaks its layout, with a place of at most 65,536.
 use Rattle.std.specs.Prelude.{◌≡◌, ℕ, List, Err, None, Ok, Option}
 use Rattle.std.proofs.Common.{refl, sym, ap, ◌∙◌, arith, length-take}
 use Rattle.std.proofs.lemmas.Result.{err_from_is_err_and}
@@ -15,11 +15,11 @@ use Rattle.patching_checks.proofs.PlacesLaws.{regions_place, pendings_place, kep
 use Rattle.patching_step.proofs.StepLaws.{patched_layout, layouts_are}
 use Rattle.patching_step.proofs.check_layouts.Goals as goal
 
--- and where it passed, the list keeps its layout
+-- A list that passes keeps its layout.
 passed : (buffer : ℕ) {bad layout : Option ℕ} → layout ≡ bad → layout_verdict buffer bad ≡ Ok tt → layout ≡ None
 passed buffer e f = e ∙ layout_pass buffer _ f
 
--- the layout of the pendings, by the count of the regions
+-- The pendings' layout, with the count of the regions put in.
 pendings_are : (pending : List ℕ) (counts : PatchCounts) (regions n : ℕ) {l : Option ℕ}
     → l ≡ filled_layout counts.pending pending (has_patched counts.patches (filled_pendings pending counts) (pending_layout n (filled_pendings pending counts))) → n ≡ regions
     → l ≡ filled_layout counts.pending pending (has_patched counts.patches (filled_pendings pending counts) (pending_layout regions (filled_pendings pending counts)))

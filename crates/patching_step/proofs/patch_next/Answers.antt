@@ -20,7 +20,7 @@ use Rattle.refusal.specs.Verdicts.{Verdict}
 four : (m : ℕ) → m + 4 - m ≡ 4
 four m = omega arith
 
--- what passes ends within the list, and there is room for its word
+-- A patch that passes ends within the list, and there is room to keep its word.
 passed : (job : Job) (labels : Table) {regions pending kept order : List ℕ} {counts : PatchCounts} {at : ℕ} {q : Pending} {g : Region} {address : Option ℕ} {v : Verdict}
     → StepLists regions pending kept counts → InOrder regions pending counts order → counts.patches < length order → at ≡ get_or order counts.patches 0
     → q ≡ pending_at (filled_pendings pending counts) at → g ≡ region_for (filled_regions regions counts) q → address ≡ destination labels (filled_pendings pending counts) q.label

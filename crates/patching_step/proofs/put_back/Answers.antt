@@ -6,7 +6,7 @@ use Rattle.patching_step.proofs.UndoLaws.{LastOf, last_of, Undoing, undo_start, 
 use Rattle.patching_step.proofs.put_back.Goals as goal
 use Rattle.patching_step.proofs.put_back.Goals.{In-Some}
 
--- the place and the bytes of a turn are the last of those that are left
+-- A turn takes the last of the places and of the kept bytes that are left.
 last : (c : In-Some) → LastOf c.args.order.now c.args.kept.now c.loop-at.at-iterator.a.iter.rest.now c.next.new.self.a.iter.rest.now (rchunks_rest c.next.new.self.b) c.in-Some.field-0-0.now c.in-Some.bytes.now
 last c =
     let i = c.loop-at.invariant in

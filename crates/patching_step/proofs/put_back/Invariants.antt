@@ -4,7 +4,7 @@ use Rattle.patching_outcome.specs.Step.{put_back}
 use Rattle.patching_step.proofs.UndoLaws.{Undoing}
 use Rattle.patching_step.proofs.put_back.Given as goal
 
--- what is left of the places and of the kept bytes is their beginning
+-- The places and the kept bytes that are left are the first ones.
 abbrev pub invariant-loop-at : goal.invariant-loop-at
 invariant-loop-at l =
     let regions = take l.fill l.initial.regions in

@@ -8,7 +8,7 @@ use Rattle.patching_step.specs.Undo.{PatchAt, FilledRegions}
 use Rattle.patching_step.proofs.UndoLaws.{back_room}
 use Rattle.patching_step.proofs.put_back_one.Goals as goal
 
--- the patch ends within the list
+-- The patch ends within the list.
 inside : (regions pending : List ℕ) (fill at : ℕ) (p : Pending) (g : Region) → FilledRegions fill regions → PatchAt (take fill regions) pending at → p ≡ pending_at pending at
     → g ≡ region_at (take fill regions) (region_place (take fill regions) p.region) → p.offset + 4 ≤ g.size → g.start + p.offset + 4 ≤ fill
 inside regions pending fill at p g f a p-is g-is h =

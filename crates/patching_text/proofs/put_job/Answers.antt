@@ -1,4 +1,4 @@
--- The buffers are those of the input, of which one byte more than the limit is held at most.
+-- The buffers come from the input, held up to one byte over the limit.
 use Rattle.std.proofs.Common.{◌≡◌, ℕ, List, sym, ap, ◌∙◌, arith}
 use Rattle.input.specs.Input.{held}
 use Rattle.input.proofs.InputLaws.{held_is, rest_is}
@@ -6,7 +6,7 @@ use Rattle.patching_text.specs.Script.{lent_text, job_text}
 use Rattle.patching_text.proofs.TurnsLaws.{end_most}
 use Rattle.patching_text.proofs.put_job.Goals as goal
 
--- the text of a script by equal buffers, whatever the text is
+-- Equal buffers give the same text, whatever text it is.
 text_by : (text : (regions pending breakpoints : List ℕ) → List ℕ) (out r p b r' p' b' : List ℕ) → r ≡ r' → p ≡ p' → b ≡ b' → out ≡ text r p b → out ≡ text r' p' b'
 text_by text out r p b r' p' b' hr hp hb h = rw (← hr, ← hp, ← hb) h
 

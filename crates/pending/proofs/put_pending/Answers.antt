@@ -11,7 +11,7 @@ use Rattle.pending.specs.PendingBytes.{kind_number}
 use Rattle.pending.proofs.PendingBytesLaws.{low_bytes}
 use Rattle.pending.proofs.put_pending.Goals as goal
 
--- a kind's number is the enum's own
+-- A kind's number is its number in the enum.
 number : (kind : InstructionLabelKind) → tag_of the_type kind ≡ kind_number kind
 number Branch = refl
 number Jump = refl

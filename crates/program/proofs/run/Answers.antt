@@ -1,4 +1,4 @@
--- What is read is a part of its buffer, whose bytes the search would count one by one.
+-- What is read is a part of its buffer. The search would otherwise count the buffer's bytes one by one.
 use Rattle.std.proofs.Common.{ℕ, sym}
 use Rattle.std.proofs.lemmas.List.{length-replicate}
 use Rattle.program.proofs.run.Goals as goal

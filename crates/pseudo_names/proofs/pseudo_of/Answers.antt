@@ -6,7 +6,7 @@ use Rattle.record.specs.Bytes.{same_bytes}
 use Rattle.pseudo_names.proofs.PseudoNamesLaws.{row, found_in, mapped}
 use Rattle.pseudo_names.proofs.pseudo_of.Goals as goal
 
--- the table is the definition's list, which antt computes
+-- The table equals the definition's list; antt computes it.
 pub returns : goal.returns
 returns c =
     let name = c.args.name.now in

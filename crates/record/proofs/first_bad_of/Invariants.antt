@@ -3,7 +3,7 @@ use Rattle.record.specs.Records.{places, first_bad_of}
 use Rattle.record.specs.Left.{places_left}
 use Rattle.record.proofs.first_bad_of.Given as goal
 
--- what is left to test is the records that are left, of which so many may stand
+-- The records left are still to be tested; the rest of the allowed number may stand.
 abbrev pub invariant-loop-n : goal.invariant-loop-n
 invariant-loop-n g l =
     let ok = g.L.Layout.keeps l.layout l.list in

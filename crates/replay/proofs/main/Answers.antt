@@ -1,4 +1,4 @@
--- What is read and what is written is a part of its buffer.
+-- What is read, and what is written, is a part of its buffer.
 use Rattle.std.proofs.Common.{ℕ, sym}
 use Rattle.std.proofs.lemmas.List.{length-replicate}
 use Rattle.replay.proofs.main.Goals as goal

@@ -5,7 +5,7 @@ use Rattle.input.proofs.InputLaws.{held_is}
 use Rattle.replay_text.proofs.ReplayLaws.{line_held}
 use Rattle.replay_text.proofs.is_line_met.Goals as goal
 
--- a buffer holds a list of the call
+-- A buffer holds one list of the call.
 holds : (n : ℕ) (s : List ℕ) {list space : List ℕ} {count : ℕ} → count ≡ min (length list) (length (replicate {A = ℕ} 65537 0))
     → space ≡ append (replicate 65537 0) 0 (take count list) → list ≡ list_of n s → take count space ≡ held (list_of n s)
 holds n s e f g = (held_is _ _ _ e f).bytes ∙ ap held g

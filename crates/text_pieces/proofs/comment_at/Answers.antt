@@ -1,4 +1,4 @@
--- The counted bytes are the text where the line ends behind them.
+-- The counted bytes are the comment's text if the line ends behind them.
 use Rattle.std.proofs.Common.{sym, ◌∙◌}
 use Rattle.text_pieces.proofs.QuotedLaws.{comment_fits, comment_long, comment_bad}
 use Rattle.text_pieces.proofs.comment_at.Goals as goal

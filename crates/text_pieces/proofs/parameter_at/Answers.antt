@@ -1,4 +1,4 @@
--- The counted letters and digits are the name, of which there must be some.
+-- The counted letters and digits are the name; there must be at least one.
 use Rattle.text_pieces.proofs.WordLaws.{parameter_none, parameter_fits, parameter_long}
 use Rattle.text_pieces.proofs.parameter_at.Goals.{then-len-eq0-via-then-len-eq0, then-len-eq0-via-else-len-eq0+then-len-gt-LONGEST}
 use Rattle.text_pieces.proofs.parameter_at.Goals as goal

@@ -1,4 +1,4 @@
--- The register is that of the counted letters and digits.
+-- The counted letters and digits name the register.
 use Rattle.std.specs.Prelude.{Some}
 use Rattle.std.proofs.Common.{ap, ◌∙◌}
 use Rattle.register_names.specs.declared.NamedRegister.{NamedRegister}

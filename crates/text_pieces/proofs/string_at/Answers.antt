@@ -1,4 +1,4 @@
--- The counted bytes are the text where a quote closes it.
+-- The counted bytes are the string's text if a quote closes it.
 use Rattle.std.proofs.Common.{◌+◌, arith}
 use Rattle.text_pieces.proofs.TextLaws.{length_rest}
 use Rattle.text_pieces.proofs.QuotedLaws.{string_fits, string_long, string_bad, string_cut}

@@ -17,7 +17,7 @@ token c = stands c.args.source c.args.text.now c.loop-at.at _ c.loop-at-test.tru
 small : (c : In-Token) → carried_size (carried_by c.in-Token.kind) ≤ 64
 small c = stands_small _ _ _ _ (token c)
 
--- the answer behind a token that has room
+-- The answer continues behind a token that has room.
 onward : (c : In-Token) → c.loop-at.fill + record_size c.in-Token.kind ≤ length c.loop-at.tokens
     → answer_at c.args.source c.args.text.now 0 (length c.args.tokens.now) 0
     ≡ answer_at c.args.source c.args.text.now (c.loop-at.at + c.in-Token.size) (length c.loop-at.tokens) (c.loop-at.fill + record_size c.in-Token.kind)

@@ -17,7 +17,7 @@ returns-then-tokens-gt-LIMIT c =
     let a = c.args in
     refused_outcome a.text.now a.source a.tokens.now _ (over_tokens a.text.now a.source a.tokens.now c.if-text-gt-LIMIT.false c.if-tokens-gt-LIMIT.true) refl
 
--- what the first pass says is the answer
+-- The first pass gives the answer.
 answer : (c : After-pass) → answer_of c.args.text.now c.args.source (length c.args.tokens.now) ≡ c.pass.result
 answer c = within_limits c.args.text.now c.args.source c.args.tokens.now c.if-text-gt-LIMIT.false c.if-tokens-gt-LIMIT.false ∙ sym c.pass.ensures.0
 
@@ -28,7 +28,7 @@ returns-in_err-pass c =
     let e = answer (goal.at.returns-in_err-pass c).After-pass ∙ c.in_err-pass.was in
     rw (p.1, p.2, c.pass.ensures.1) (refused_outcome a.text.now a.source a.tokens.now _ e refl)
 
--- the buffer is still as long as it was
+-- The buffer still has its length.
 room : (c : After-pass) → answer_from c.args.text.now (length c.pass.new.tokens) 0 (reading c.args.source c.args.text.now) ≡ c.pass.result
 room c = ap (λ (k : ℕ). answer_from c.args.text.now k 0 (reading c.args.source c.args.text.now)) (ap length c.pass.ensures.1) ∙ sym c.pass.ensures.0
 

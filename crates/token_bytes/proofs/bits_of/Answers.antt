@@ -1,4 +1,4 @@
--- There is one NaN, and its bits are written out.
+-- There is only one NaN; its bits are written out here.
 use Rattle.std.proofs.Common.{◌≡◌, true, refl, sym, ap, ◌∙◌}
 use Rattle.std.specs.Float.Ieee.{Float, nan, inf, fin, binary64, is_nan, to_bits}
 use Rattle.token_bytes.proofs.bits_of.Goals as goal

@@ -4,7 +4,7 @@ use Rattle.use_adding.specs.Adding.{IndexIn, Finds, Adds}
 use Rattle.use_adding.proofs.AddingLaws.{part_in, found_room, found_adds, new_room, new_adds}
 use Rattle.use_adding.proofs.add_use.Goals as goal
 
--- what is found in the filled part stands so in the buffer
+-- What is found in the filled part is found in the buffer.
 found_in : (d part : List ℕ) (fill : ℕ) → part ≡ take fill d → (key : UseKey) (at : ℕ) (found : Bool) → Finds part (length part) key at found → Finds d fill key at found
 found_in d part fill e key at found f us i = f us (subst (λ (s : List ℕ). IndexIn s (length s) us) (sym e) (part_in d fill us i))
 

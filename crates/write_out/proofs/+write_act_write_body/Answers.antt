@@ -23,7 +23,7 @@ use Rattle.write_out.proofs.+write_act_write_body.Goals as goal
 
 -- ---- what is done with a token
 
--- the macro that is called stands above, and is one
+-- The macro called stands above, and is a good macro.
 above_it : {text macros list : List ℕ} {most place n k : ℕ} {b : Body} {act : Act} → Acting text macros most list b place n act → act ≡ Call k → (k < most) × (macro_at_ok macros k ≡ true)
 above_it {text} {macros} {list} {most} {place} {n} {k} s e = subst (Inside macros most) e s.inside
 

@@ -5,7 +5,7 @@ use Rattle.write_out.specs.Body.{steps_from}
 use Rattle.write_out.proofs.Same.{Same}
 use Rattle.write_out.proofs.+write_act_write_body.Given as goal
 
--- a body calls what is done with its tokens, and that the body of a macro above
+-- A body calls the work on its tokens, and that calls the body of a macro above.
 abbrev pub decreases-write_act : goal.decreases-write_act
 decreases-write_act l = 2 * l.frame.now.most
 

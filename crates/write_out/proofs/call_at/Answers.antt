@@ -42,7 +42,7 @@ all_steps c =
     replaced a.frame.now.levels (location_at (token_record a.frame.now.source.text.now a.frame.now.source.macros.now a.met.now.place) 4) (macro_at a.frame.now.source.macros.now a.k) (above a.frame.now.source.macros.now a.k)
     (arguments_from a.frame.now.source.text.now a.frame.now.source.macros.now a.frame.now.reading.list.now a.frame.now.reading.body a.met.now.next)
 
--- the call, by its verdict
+-- The call, from its verdict.
 called : (c : After-call_verdict) → CallIs c.args.frame.now.source.text.now c.args.frame.now.source.macros.now c.args.frame.now.levels c.args.k (all_steps c) (called_of c.call_verdict.result (body_from c))
 called c =
     let a = c.args in

@@ -9,7 +9,7 @@ use Rattle.dry_run_core.proofs.StepsLaws.{here_start, here_end, here_goes, here_
 use Rattle.dry_run_core.proofs.steps.run.Goals as goal
 use Rattle.dry_run_core.proofs.steps.run.Goals.{After-effect, in-SetRt, in-SetRd, in-Go}
 
--- an effect that is told is that of the step
+-- The effect that the code computes is what the step does.
 told : (c : After-effect) (e : Effect) → c.effect.result ≡ e → step c.args.image.now c.loop-steps.m ≡ apply e c.in-Some.word c.loop-steps.m
 told c e k =
     let m = c.loop-steps.m in

@@ -1,4 +1,4 @@
--- What is left to put are the records of the pairs from here on, and they have room.
+-- The records of the pairs from here on are left to put, and they have room.
 use Rattle.std.proofs.Common.{◌≡◌, ◌+◌, ◌*◌, drop}
 use Rattle.record.specs.Stores.{append}
 use Rattle.emit_bytes.specs.Appended.{pendings_len, pendings_bytes}

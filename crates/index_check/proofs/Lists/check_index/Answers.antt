@@ -24,7 +24,7 @@ is_index-requires c =
     let k = kept (goal.at.is_index-requires c).In_default in
     omega (arith, k.0, k.1, length-take-le c.args.fill c.args.index.now k.1)
 
--- a place where the bytes are no index
+-- Place 0 is named if the bytes are no index.
 unless : (b : Bool) → then_some {T = ℕ} (not b) 0 ≡ elim b [ true ↦ None | false ↦ Some 0 ]
 unless true = refl
 unless false = refl

@@ -28,7 +28,7 @@ same c = ap (λ (v : ListsIn). v.pending) c.self.view_is
 are : (c : After-half_at-n) → c.self.inside.places.now ≡ places c.args.self.now.pending
 are c = c.self.invariant.places_are ∙ ap places (same c)
 
--- the source that was read, as the lists have it
+-- The source that was read is the one in the lists.
 source_is : (c : After-half_at-n) (name : List ℕ) (place : ℕ) → name ≡ c.key_at-key.result.name
     → source_in c.self.inside.pending.now name (label_of c.self.inside.pending.now place) ≡ source_in c.args.self.now.pending c.key_at-key.result.name (label_of c.args.self.now.pending place)
 source_is c name place e = ap₂ (λ (s n : List ℕ). source_in s n (label_of s place)) (same c) e

@@ -9,7 +9,7 @@ pub returns-then-end-order : goal.returns-then-end-order
 returns-then-end-order c =
     rw (← c.self.view_is) (c.find_from.ensures ∙ for_all_past _ _ c.args.end _ c.args.before (rw c.order-order.ensures.value at c.if-end-order.true))
 
--- the label where the first search has ended, and what is told of it
+-- The label at which the first search ended, and whether its name is the same.
 told_of : (c : After-is_owned)
     → record { same = c.is_owned.result; compared = c.is_owned.new.compared } ≡ told 4 c.self.inside.index.list for_all c.args.name.now c.record-label.result.at c.args.before
 told_of c = sym (rw c.record-label.ensures.value.0 at c.is_owned.ensures)

@@ -24,7 +24,7 @@ module _ (s : List ℕ) (at : ℕ) (e : has_owned_name 4 s at ≡ true) where
   abbrev long : ℕ
   long = length (owned_name 4 s at)
 
-  -- a record that has a name is a label by its kind and its name
+  -- A record that has a name is a label if its kind and its name pass.
   by_name : label_ok s at ≡ (label_kind s at && leb 1 long && leb long 64 && all is_text (owned_name 4 s at))
   unfolding label_ok
   by_name =

@@ -3,7 +3,7 @@ use Rattle.machine.specs.Instructions.{table}
 use Rattle.machine.proofs.InstructionsLaws.{named}
 use Rattle.machine.proofs.words.decode.Goals as goal
 
--- an opcode that no row of the table has
+-- No row of the table has this opcode.
 pub returns-in_default : goal.returns-in_default
 unfolding table
 returns-in_default c =

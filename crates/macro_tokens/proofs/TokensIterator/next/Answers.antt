@@ -5,7 +5,7 @@ use Rattle.lexer.specs.Tokens.{TokenIs, token_ok}
 use Rattle.lexer.proofs.TokensLaws.{token_is}
 use Rattle.macro_tokens.proofs.TokensIterator.next.Goals as goal
 
--- the token that the walk stands at
+-- A token stands where the walk is.
 here : (s : List ℕ) (at : ℕ) → at < length s → first_bad (token_ok s) (places_from s at) ≡ None → TokenIs s at
 here s at h g = token_is s at (good_ok (token_ok s) s at h g)
 

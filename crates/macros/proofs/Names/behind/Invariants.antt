@@ -2,7 +2,7 @@ use Rattle.std.proofs.Common.{◌≡◌, ◌≤◌, length}
 use Rattle.macros.specs.Macros.{behind_names}
 use Rattle.macros.proofs.Names.behind.Given as goal
 
--- `end` is where the names that are left begin
+-- The names that are left begin at `end`.
 abbrev pub invariant-loop-rest : goal.invariant-loop-rest
 invariant-loop-rest l = record {
   list : l.rest-iterator.list.now ≡ l.self.list.now;

@@ -5,7 +5,7 @@ use Rattle.macros.proofs.WalkLaws.{list_on, differ_first, differ_behind}
 use Rattle.macros.proofs.Names.differ.Goals as goal
 use Rattle.macros.proofs.Names.differ.Goals.{After-index_of}
 
--- what is looked for is the name's number among those behind it
+-- The search looks for the name among the names behind it.
 index : (c : After-index_of) → let t = c.next.new.self in
     is_some c.index_of.result ≡ ltb (index_from c.args.self.now.list.now c.in-Some.name.now t.count t.at) t.count
 index c =

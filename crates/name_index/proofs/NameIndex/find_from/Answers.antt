@@ -12,7 +12,7 @@ loop-lo-init g c =
     let e = ap (λ (v : Ordered). length v.order) c.self.view_is in
     record { within = omega (arith, e); count = omega (arith, e); rest = rw e (lookup_from_lem _ _ _ _ _ _) }
 
--- how the middle one stands
+-- How the middle record compares to what is sought.
 stood : (g : _) (c : After-stands g) (o : Ordering) → c.stands.result ≡ o
     → standing g.row.SKIP c.args.self.now.list c.args.owner c.args.name.now (get_or c.args.self.now.order (middle c.loop-lo.lo c.loop-lo.hi) 0) ≡ o
 stood g c o e = sym (rw (c.record-named.ensures.value.0, c.record-named.ensures.value.1) at c.stands.ensures.0) ∙ e

@@ -39,7 +39,7 @@ loop-i-preserved g c =
           })
     ]
 
--- at the end it is the definition's
+-- At the end, `best` is what the definition finds.
 found : (skip : ℕ) (s l : List ℕ) → IndexOf skip s l → (i : ℕ) (best : Option ℕ) → LeastRepeat skip s l i (unwrap_or best (length s)) → MatchOption best Unit (λ b. b < length s)
     → length l ≤ i → best ≡ owned_repeat skip s
 found skip s l ix i None b w h = sym (repeat_none skip s l ix i _ b h (omega arith))

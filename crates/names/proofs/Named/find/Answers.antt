@@ -11,7 +11,7 @@ record-requires g c =
     let t = turn c.args.self.now _ _ _ (cc) c.loop-at.yielded_by c.in-Some.ensures.steps in
     (omega arith, (omega arith, t.passes (has_owned_name g.row.SKIP c.args.self.now) (rw c.self.view_is at c.self.invariant)))
 
--- what the test says of the list's record
+-- The test reads the list's record at this place.
 tested : (g : _) (c : After-is_owned g) → c.is_owned.result ≡ is_owned g.row.SKIP c.args.self.now c.args.owner c.args.name.now c.in-Some.at
 tested g c =
     c.is_owned.ensures

@@ -11,7 +11,7 @@ use Rattle.regions.proofs.RegionsLaws.{region_place_ok}
 use Rattle.regions.proofs.Regions.region.Goals as goal
 use Rattle.regions.proofs.Regions.region.Goals.{After-unwrap_or-at}
 
--- the place is that of the region of that number
+-- The place read is the place of the region with that number.
 place : (c : After-unwrap_or-at) → c.unwrap_or-at.result ≡ region_place c.args.self.now c.args.number
 place c =
     let r = c.nth.ensures.ran in

@@ -3,7 +3,7 @@ use Rattle.register_names.specs.RegisterNames.{names}
 use Rattle.register_names.specs.Padded.{padded_names}
 use Rattle.register_names.proofs.RegisterNames.new.Goals as goal
 
--- the table is the padded names, which antt computes
+-- The table is the list of padded names; antt computes it.
 pub invariant_of-result : goal.invariant_of-result
 unfolding padded_names names
 invariant_of-result c = record { of_names = refl }

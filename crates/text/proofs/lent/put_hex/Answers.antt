@@ -3,7 +3,7 @@ use Rattle.text.proofs.TextLaws.{width_fits}
 use Rattle.text.proofs.lent.put_hex.Goals as goal
 use Rattle.text.proofs.lent.put_hex.Goals.{After-hex-k}
 
--- the number has no more digits than the width, so as many as the width are put
+-- The number has no more digits than the width, so exactly the width's count of digits is written.
 count_is : (c : After-hex-k) → c.hex-k.result ≡ c.args.width
 count_is c =
     let p = c.requires.width_nonzero in

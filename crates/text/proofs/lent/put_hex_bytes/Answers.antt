@@ -5,7 +5,7 @@ use Rattle.text.proofs.TextLaws.{Left, left_first, left_room, left_next, left_no
 use Rattle.text.proofs.lent.put_hex_bytes.Goals as goal
 use Rattle.text.proofs.lent.put_hex_bytes.Goals.{In-loop-byte}
 
--- the byte of the turn, and then the others
+-- The turn's byte, and then the others.
 turn : (c : In-loop-byte) → let b = c.args.bytes.now in
     let l = c.loop-byte in
     Left c.args.out.now c.args.at (hex_bytes b) l.out l.end (last_digits 16 2 (get_or b l.byte-index 0) ++ hex_bytes (drop (l.byte-index + 1) b))

@@ -6,7 +6,7 @@ use Rattle.text_pieces.proofs.DigitLaws.{digit_is, no_digit}
 use Rattle.text_pieces.proofs.runs.number_in.Goals as goal
 use Rattle.text_pieces.proofs.runs.number_in.Goals.{In-Some}
 
--- the digit is that of the definition, and below the base
+-- The digit is the definition's, and it is below the base.
 digit_of : (c : In-Some) → (c.in-Some.digit ≡ digit_value (byte_at c.args.text.now c.loop-i.i)) × (c.in-Some.digit < c.args.base)
 digit_of c =
     let below : c.in-Some.digit < c.args.base = omega (arith, c.in-Some.ensures.value) in

@@ -10,7 +10,7 @@ use Rattle.use_adding.proofs.Uses.find.Goals.{In-Some}
 turn : (c : In-Some) (us : List Use) → let s = c.self.inside.bytes.now in IndexIn s (length s) us → WalkTurn s us c.args.key.now c.in-Some.at (places_left c.next.new.self)
 turn c us i = walk_turn c.self.inside.bytes.now us c.args.key.now c.in-Some.at _ _ (c.loop-at.invariant us i) c.in-Some.ensures.steps
 
--- the index as the caller sees it is the slice
+-- The index that the caller sees is this slice.
 seen : (c : In-Some) (us : List Use) → IndexIn c.args.self.now (length c.args.self.now) us → IndexIn c.self.inside.bytes.now (length c.self.inside.bytes.now) us
 seen c us i = subst (λ (s : List ℕ). IndexIn s (length s) us) (sym c.self.view_is) i
 

@@ -19,7 +19,7 @@ all_found c = c.self.invariant.0 ∙ ap places (sym c.bytes-list.ensures.value)
 region : (c : After-bytes-list) (i : ℕ) → i < length (found_in c) → RegionIs c.bytes-list.result.now (get_or (found_in c) i 0)
 region c i h = place_is c.bytes-list.result.now (found_in c) i (rw c.bytes-list.ensures.value c.bytes-list.ensures.layout) (all_found c) h
 
--- the whole image is that of the places
+-- A word read through the places is the word of the whole image.
 whole : (c : After-bytes-list) {f : Option ℕ} → fetch_at c.bytes-list.result.now (found_in c) c.args.pc ≡ f → fetch c.args.self.now c.args.pc ≡ f
 whole c r =
     let s = c.bytes-list.result.now in
