@@ -10,7 +10,7 @@ use Rattle.address_label.specs.declared.AddressLabel.{AddressLabel}
 use Rattle.address_label.specs.declared.AddressLabel.TheVariants.{Constant, Label}
 use Rattle.pending.specs.Pendings.{label_of}
 use Rattle.label_uses.specs.Uses.{UseKey, use_order, key_for}
-use Rattle.label_uses.proofs.UseOrderLaws.{never, use_same, use_is}
+use Rattle.label_uses.proofs.UseOrderLaws.{use_same, use_is}
 use Rattle.label_uses.proofs.FitsLaws.{key_name}
 use Rattle.label_uses.specs.Says.{key_in, key_at}
 use Rattle.index_check.specs.Checks.{Tells, source_in, StandsFrom}
@@ -18,6 +18,7 @@ use Rattle.index_check.proofs.NumbersLaws.{OneRight}
 use Rattle.std.specs.declared.cmp.Ordering.TheVariants.{Less, Equal, Greater}
 use Rattle.std.specs.declared.cmp.Ordering.{Ordering}
 use Rattle.std.specs.Ordering.{is_eq}
+use Rattle.name_order.proofs.OrderLaws.{never}
 
 -- ---- what a test says
 pub told : (P : Type 0) (b : Bool) → b ≡ true → Tells b P → P

@@ -7,8 +7,8 @@ use Rattle.std.specs.declared.cmp.Ordering.{Ordering}
 use Rattle.label_uses.specs.Uses.{UseKey, use_order, key_for}
 use Rattle.label_uses.specs.ReadUse.{key_with, key_read}
 use Rattle.label_uses.specs.declared.Standing.{Standing}
-use Rattle.label_uses.proofs.UseOrderLaws.{never}
 use Rattle.label_uses.proofs.StandingLaws.{standing_order, equal_keys, equal_order}
+use Rattle.name_order.proofs.OrderLaws.{never}
 
 -- ---- what a source's name stands for, compared with what a key says
 module _ (labels : List ℕ) (source : ℕ) (name : List ℕ) (met standing : Standing) (m : key_with name met ≡ key_for labels source name) where

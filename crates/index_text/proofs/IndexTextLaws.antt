@@ -12,8 +12,9 @@ use Rattle.breakpoints.specs.Breakpoints.{pending_buffer_layout}
 use Rattle.input.specs.Input.{held}
 use Rattle.text.specs.Text.{refused_line}
 use Rattle.indexed_outcome.specs.Make.{make_outcome}
-use Rattle.indexed_outcome.proofs.MakeLaws.{never, layouts_are, outcome_by}
+use Rattle.indexed_outcome.proofs.MakeLaws.{layouts_are, outcome_by}
 use Rattle.index_text.specs.IndexText.{outcome_text}
+use Rattle.name_order.proofs.OrderLaws.{never}
 
 over : (s : List ℕ) → limit < length s → within_limit s None ≡ Some limit
 unfolding within_limit

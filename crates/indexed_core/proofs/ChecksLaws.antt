@@ -18,8 +18,8 @@ use Rattle.emit_outcome.specs.Checks.{layout_stop, list_stop}
 use Rattle.emit_outcome.specs.declared.FillCounts.{FillCounts}
 use Rattle.label_uses.specs.UseBytes.{index_of, index_layout}
 use Rattle.label_uses.proofs.IndexLaws.{layout_long, layout_over, layout_by}
-use Rattle.label_uses.proofs.UseOrderLaws.{never}
 use Rattle.indexed_outcome.specs.Indexed.{IndexedCall, indexed_stop}
+use Rattle.name_order.proofs.OrderLaws.{never}
 
 -- If a check of an index names a place, the place is at most the limit.
 pub index_place : (labels pending index : List ℕ) (fill p : ℕ) → index_layout labels pending fill index ≡ Some p → p ≤ limit

@@ -37,11 +37,11 @@ use Rattle.label_uses.specs.Uses.{Use, uses_of}
 use Rattle.label_uses.specs.UseBytes.{uses_bytes, index_of, index_layout}
 use Rattle.label_uses.proofs.IndexLaws.{index_is}
 use Rattle.label_uses.proofs.OneMoreLaws.{AllBytes, uses_written, owners_fit}
-use Rattle.label_uses.proofs.UseOrderLaws.{never}
 use Rattle.line_uses.specs.LineUses.{pair_use, next_number, line_uses}
 use Rattle.use_adding.specs.Adding.{IndexIn}
 use Rattle.indexed_core.specs.Steps.{new_index}
 use Rattle.pending.specs.declared.InstructionLabel.{InstructionLabel}
+use Rattle.name_order.proofs.OrderLaws.{never}
 
 -- ---- records written behind a list, one after the other
 abbrev Kept : List ℕ → Type 0

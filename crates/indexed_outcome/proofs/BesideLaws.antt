@@ -19,9 +19,7 @@ use Rattle.emit_outcome.specs.Answer.{EmitAnswer, done_at, refused_at}
 use Rattle.label_uses.specs.UseBytes.{index_of, index_layout}
 use Rattle.indexed_outcome.specs.Indexed.{IndexedCall, IndexedOutcome, indexed_stop, indexed_refuse, indexed_accept, indexed_by, indexed_unless, indexed_outcome}
 use Rattle.indexed_outcome.specs.Beside.{Added, labels_bad, index_bad, labels_share, no_room, SameCall}
-
-pub never : {A : Type 0} → ◌≡◌ {A = ℕ} 0 1 → A
-never z = absurd (omega arith)
+use Rattle.name_order.proofs.OrderLaws.{never}
 
 layout_stop_lem : (n : ℕ) (l : Option ℕ) (r : Refusal) → layout_verdict n l ≡ Err r → (place : ℕ) × (r ≡ BadLayout n place)
 layout_stop_lem n None r e = never (cc)

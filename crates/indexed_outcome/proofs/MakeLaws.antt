@@ -16,9 +16,7 @@ use Rattle.breakpoints.specs.Breakpoints.{pending_buffer_layout}
 use Rattle.breakpoints.proofs.BreakpointsLaws.{pending_buffer_good}
 use Rattle.label_uses.specs.UseBytes.{index_of}
 use Rattle.indexed_outcome.specs.Make.{room_for, make_layouts, make_stop, make_by, make_outcome, made_of}
-
-pub never : {A : Type 0} → ◌≡◌ {A = ℕ} 0 1 → A
-never z = absurd (omega arith)
+use Rattle.name_order.proofs.OrderLaws.{never}
 
 -- a list of pendings within the limit
 pub kept_layout : (pending : List ℕ) → first_bad (pending_ok 16 pending) (places pending) ≡ None → length pending ≤ limit → pending_layout 16 pending ≡ None

@@ -10,7 +10,8 @@ use Rattle.label_uses.specs.UseBytes.{index_of, index_layout}
 use Rattle.label_uses.proofs.IndexLaws.{index_taken}
 use Rattle.label_uses.proofs.IndexFits.{index_fits}
 use Rattle.indexed_outcome.specs.Make.{MakeOutcome, room_for, make_layouts, make_stop, make_by, make_outcome}
-use Rattle.indexed_outcome.proofs.MakeLaws.{never, made_is, stop_is, room_pass, layouts_good, filled_layout}
+use Rattle.indexed_outcome.proofs.MakeLaws.{made_is, stop_is, room_pass, layouts_good, filled_layout}
+use Rattle.name_order.proofs.OrderLaws.{never}
 
 module _ (fill : ℕ) (pending labels index : List ℕ) where
   abbrev new : List ℕ

@@ -13,8 +13,9 @@ use Rattle.emit_outcome.specs.Call.{filled_pending}
 use Rattle.label_uses.specs.UseBytes.{index_of, index_layout}
 use Rattle.label_uses.proofs.IndexLaws.{index_taken, index_room}
 use Rattle.indexed_outcome.specs.Indexed.{IndexedCall, IndexedOutcome, indexed_stop, indexed_accept, indexed_by, indexed_unless, indexed_outcome}
-use Rattle.indexed_outcome.proofs.BesideLaws.{never, lists, labels_well, index_well, stop_is, indexed_is, passes_is, accept_fits, accept_short}
+use Rattle.indexed_outcome.proofs.BesideLaws.{lists, labels_well, index_well, stop_is, indexed_is, passes_is, accept_fits, accept_short}
 use Rattle.refusal.specs.Verdicts.{Verdict}
+use Rattle.name_order.proofs.OrderLaws.{never}
 
 pub next_takes : (job : Job) (x : IndexedCall) (position : ℕ) (loaded : LoadForm) → (indexed_outcome job x).answer ≡ done_at position loaded
     → index_layout x.labels (filled_pending (indexed_outcome job x).lent (indexed_outcome job x).counts.counts) (indexed_outcome job x).counts.index (indexed_outcome job x).index ≡ None

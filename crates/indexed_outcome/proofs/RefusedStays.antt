@@ -9,8 +9,9 @@ use Rattle.emit_outcome.specs.Emit.{emit_outcome}
 use Rattle.emit_outcome.specs.Call.{filled_pending}
 use Rattle.label_uses.specs.UseBytes.{index_of}
 use Rattle.indexed_outcome.specs.Indexed.{IndexedCall, IndexedOutcome, indexed_stop, indexed_refuse, indexed_accept, indexed_by, indexed_unless, indexed_outcome}
-use Rattle.indexed_outcome.proofs.BesideLaws.{never, indexed_is, passes_is, accept_fits, accept_short}
+use Rattle.indexed_outcome.proofs.BesideLaws.{indexed_is, passes_is, accept_fits, accept_short}
 use Rattle.refusal.specs.Verdicts.{Verdict}
+use Rattle.name_order.proofs.OrderLaws.{never}
 
 pub refused_stays : (job : Job) (x : IndexedCall) (r : Refusal) (position : ℕ) → (indexed_outcome job x).answer ≡ refused_at r position → indexed_outcome job x ≡ indexed_refuse x r position
 refused_stays job x r position e = go (indexed_stop x) refl

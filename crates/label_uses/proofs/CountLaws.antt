@@ -12,11 +12,12 @@ use borrow.Author.Tests.{ltb-true, ltb-false, eq-eqb, ne_eqb, eqb-true}
 use Rattle.name_sort.specs.Sorting.{one, count, In}
 use Rattle.name_sort.proofs.SortingLaws.{in_cons, not_in}
 use Rattle.label_uses.specs.Uses.{UseKey, Use, use_order}
-use Rattle.label_uses.proofs.UseOrderLaws.{never, use_same}
+use Rattle.label_uses.proofs.UseOrderLaws.{use_same}
 use Rattle.label_uses.proofs.InsertLaws.{Rises, one_left}
 use Rattle.label_uses.proofs.SaysLaws.{SaysTo}
 use Rattle.label_uses.specs.Says.{NumbersRise, end, then}
 use Rattle.std.specs.declared.cmp.Ordering.TheVariants.{Less}
+use Rattle.name_order.proofs.OrderLaws.{never}
 
 -- ---- sums
 unfoldable pub sum_to : (ℕ → ℕ) → ℕ → ℕ

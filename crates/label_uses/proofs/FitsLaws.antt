@@ -15,9 +15,9 @@ use Rattle.address_label.specs.declared.AddressLabel.TheVariants.{Constant, Labe
 use Rattle.pending.specs.Pendings.{label_of, pending_ok, PendingIs}
 use Rattle.pending.proofs.PendingsLaws.{pending_is}
 use Rattle.label_uses.specs.Uses.{Use, key_for, use_of, uses_from}
-use Rattle.label_uses.proofs.UseOrderLaws.{never}
 use Rattle.label_uses.specs.UseBytes.{uses_bytes}
 use Rattle.label_uses.proofs.UseBytesLaws.{insert_length}
+use Rattle.name_order.proofs.OrderLaws.{never}
 
 pub key_name : (labels : List ℕ) (source : ℕ) (name : List ℕ) → (key_for labels source name).name ≡ name
 unfolding key_for

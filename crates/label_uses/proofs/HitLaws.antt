@@ -11,7 +11,7 @@ use Rattle.names.specs.Names.{first_where}
 use Rattle.names.proofs.NamesLaws.{where_hit, where_pass}
 use Rattle.names.specs.Owners.{for_all, owner_of, owned_name, is_owned, first_owned}
 use Rattle.name_order.specs.Order.{Key, key_order}
-use Rattle.name_order.proofs.OrderLaws.{key_same, key_is}
+use Rattle.name_order.proofs.OrderLaws.{never, key_same, key_is}
 use Rattle.name_sort.specs.Sorting.{In}
 use Rattle.name_sort.proofs.SortingLaws.{at_in, in_cons, not_in}
 use Rattle.name_sort.specs.Before.{key_of}
@@ -22,7 +22,6 @@ use Rattle.name_index.proofs.IndexLaws.{owned_key, key_owned, in_index, at_list,
 use Rattle.name_index.proofs.SearchLaws.{search_end, search_up, search_hit, search_down, lookup_all}
 use Rattle.labels.specs.Labels.{or_else, labelled}
 use Rattle.label_uses.specs.Uses.{standing_by}
-use Rattle.label_uses.proofs.UseOrderLaws.{never}
 use Rattle.label_uses.specs.declared.Standing.{Standing}
 use Rattle.label_uses.specs.declared.Standing.TheVariants.{Known, Unknown}
 use Rattle.std.specs.declared.cmp.Ordering.TheVariants.{Less, Equal, Greater}

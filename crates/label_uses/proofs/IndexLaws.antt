@@ -12,8 +12,8 @@ use Rattle.breakpoints.specs.Breakpoints.{filled_layout}
 use Rattle.breakpoints.proofs.BreakpointsLaws.{filled_kept, filled_over, filled_passed, filled_good}
 use Rattle.label_uses.specs.Uses.{uses_from, uses_of}
 use Rattle.label_uses.specs.UseBytes.{uses_bytes, index_of, index_layout}
-use Rattle.label_uses.proofs.UseOrderLaws.{never}
 use Rattle.label_uses.proofs.UseBytesLaws.{uses_none}
+use Rattle.name_order.proofs.OrderLaws.{never}
 
 module _ (labels pending : List ℕ) (fill : ℕ) (index : List ℕ) where
   abbrev by_bytes : Bool → Option ℕ

@@ -25,8 +25,8 @@ use Rattle.pending.specs.declared.Origin.{Origin}
 use Rattle.pending.specs.declared.Pending.{Pending}
 use Rattle.label_uses.specs.Uses.{kept_of, UseKey, Use, key_for, standing_by, insert_use, use_of, uses_from, uses_of}
 use Rattle.label_uses.specs.Says.{key_in}
-use Rattle.label_uses.proofs.UseOrderLaws.{never}
 use Rattle.label_uses.proofs.SaysLaws.{says_all}
+use Rattle.name_order.proofs.OrderLaws.{never}
 
 -- ---- a label and its name's bytes give the key
 abbrev key_by : (labels : List ℕ) → AddressLabel → (name : List ℕ) → Option UseKey

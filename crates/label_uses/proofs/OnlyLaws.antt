@@ -3,9 +3,9 @@ use Rattle.std.specs.Prelude.{ℕ, ◌<◌, ◌≡◌, refl, length, Option}
 use Rattle.std.proofs.Common.{arith, ⊎_elim, sym, ap, ap₂, ◌∙◌, subst}
 use mathlib.Core.List.Memᴰ
 use mathlib.Core.List.{List, [], ◌∷◌, Memᴰ}
-use Rattle.name_order.proofs.OrderLaws.{turned}
+use Rattle.name_order.proofs.OrderLaws.{never, turned}
 use Rattle.label_uses.specs.Uses.{UseKey, Use, use_order}
-use Rattle.label_uses.proofs.UseOrderLaws.{never, use_same, use_turned}
+use Rattle.label_uses.proofs.UseOrderLaws.{use_same, use_turned}
 use Rattle.label_uses.proofs.InsertLaws.{Rises, one_left}
 use Rattle.label_uses.proofs.SaysLaws.{SaysTo}
 use Rattle.label_uses.specs.Says.{NumbersRise, then}

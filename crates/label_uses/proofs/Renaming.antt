@@ -14,9 +14,9 @@ use Rattle.pending.specs.Pendings.{label_of}
 use Rattle.label_uses.specs.declared.Standing.{Standing}
 use Rattle.label_uses.specs.declared.Standing.TheVariants.{Known}
 use Rattle.label_uses.specs.Uses.{UseKey, Use, kept_of, standing_by, key_for, uses_of}
-use Rattle.label_uses.proofs.UseOrderLaws.{never}
 use Rattle.label_uses.specs.Says.{key_in, key_at}
 use Rattle.label_uses.proofs.IndexSays.{index_says}
+use Rattle.name_order.proofs.OrderLaws.{never}
 
 -- the key of a label: "the owner (0xFFFFFFFF for all)"
 abbrev pub label_standing : ℕ → Standing

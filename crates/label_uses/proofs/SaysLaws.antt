@@ -11,9 +11,9 @@ use Rattle.address_label.specs.declared.AddressLabel.{AddressLabel}
 use Rattle.address_label.specs.declared.AddressLabel.TheVariants.{Constant, Label}
 use Rattle.pending.specs.Pendings.{label_of}
 use Rattle.label_uses.specs.Uses.{UseKey, Use, more_use, insert_use, use_of, uses_from, uses_of}
-use Rattle.label_uses.proofs.UseOrderLaws.{never}
 use Rattle.label_uses.proofs.InsertLaws.{Rises, none_left, rise_all, all_rise, Stood, before, new, grown, insert_stood, insert_keeps, insert_has, insert_rises}
 use Rattle.label_uses.specs.Says.{key_in, key_at, NumbersRise, last, then, Says}
+use Rattle.name_order.proofs.OrderLaws.{never}
 
 -- ---- rising numbers, and one more number above them
 pub rise_behind : (ns : List ℕ) (n : ℕ) → NumbersRise ns → ((m : ℕ) → Memᴰ m ns → m < n) → NumbersRise (ns ++ (n ∷ []))

@@ -2,16 +2,13 @@
 use Rattle.std.specs.Prelude.{ℕ, List, [], Bool, true, false, ◌≡◌, refl}
 use Rattle.std.proofs.Common.{arith, ⊎_elim, sym, ap, ap₂, ◌∙◌}
 use Rattle.name_order.specs.Order.{then_by, numbers, order, Key, key_order}
-use Rattle.name_order.proofs.OrderLaws.{turned, then_same, then_less, then_turned, key_same, key_is, key_turned, key_trans}
+use Rattle.name_order.proofs.OrderLaws.{never, turned, then_same, then_less, then_turned, key_same, key_is, key_turned, key_trans}
 use Rattle.label_uses.specs.Uses.{is_known, kept_of, UseKey, known_order, use_order}
 use Rattle.label_uses.specs.ReadUse.{standing_read}
 use Rattle.label_uses.specs.declared.Standing.{Standing}
 use Rattle.label_uses.specs.declared.Standing.TheVariants.{Known, Unknown}
 use Rattle.std.specs.declared.cmp.Ordering.TheVariants.{Less, Equal, Greater}
 use Rattle.std.specs.declared.cmp.Ordering.{Ordering}
-
-pub never : {A : Type 0} → ◌≡◌ {A = ℕ} 0 1 → A
-never z = absurd (omega arith)
 
 -- what an order has to keep
 record Orders {A : Type 0} (by : A → A → Ordering) : Type 0 where

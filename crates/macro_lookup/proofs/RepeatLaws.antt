@@ -24,9 +24,7 @@ use Rattle.macro_lookup.proofs.LookupLaws.{macro_is, name_ok_lem}
 use Rattle.macro_lookup.proofs.TogetherLaws.{AtMost, same_at_most, name_between, body_name}
 use Rattle.std.specs.declared.cmp.Ordering.TheVariants.{Less, Greater}
 use Rattle.std.specs.declared.cmp.Ordering.{Ordering}
-
-never : {A : Type 0} → ◌≡◌ {A = ℕ} 0 1 → A
-never z = absurd (omega arith)
+use Rattle.name_order.proofs.OrderLaws.{never}
 
 pub macros_good : (s : List ℕ) → macro_layout s ≡ None → (length s ≤ limit) × (first_bad (macro_at_ok s) (places s) ≡ None)
 unfolding macro_layout

@@ -10,13 +10,10 @@ use Rattle.names.proofs.NamesLaws.{has_name_lem, all_named}
 use Rattle.names.specs.Owners.{has_owner, owned_name, has_owned_name}
 use Rattle.names.proofs.OwnersLaws.{without_owner}
 use Rattle.name_order.specs.Order.{order}
-use Rattle.name_order.proofs.OrderLaws.{numbers_more, numbers_same, order_same}
+use Rattle.name_order.proofs.OrderLaws.{never, numbers_more, numbers_same, order_same}
 use Rattle.macros.specs.Macros.{name_at, name_ok, macro_ok, body_at, macro_at_ok, macro_layout}
 use Rattle.macros.proofs.NamesLaws.{name_is}
 use Rattle.std.specs.declared.cmp.Ordering.TheVariants.{Equal, Greater}
-
-never : {A : Type 0} → ◌≡◌ {A = ℕ} 0 1 → A
-never z = absurd (omega arith)
 
 abbrev pub AtMost : List ℕ → List ℕ → Type 0
 AtMost a b = order a b ≡ Greater → ⊥

@@ -9,7 +9,7 @@ use Rattle.record.specs.Records.{places, first_bad}
 use Rattle.names.specs.Names.{is_at, first_where}
 use Rattle.names.specs.Owners.{owner_of, owned_name, has_owned_name, is_owned, same_owned, owned_repeat}
 use Rattle.name_order.specs.Order.{Key, key_order}
-use Rattle.name_order.proofs.OrderLaws.{key_same, key_trans}
+use Rattle.name_order.proofs.OrderLaws.{never, key_same, key_trans}
 use Rattle.name_sort.specs.Sorting.{In}
 use Rattle.name_sort.proofs.SortingLaws.{in_at, at_in, sorted_at}
 use Rattle.name_sort.specs.Before.{key_of, before}
@@ -17,9 +17,6 @@ use Rattle.name_sort.proofs.BeforeLaws.{before_is}
 use Rattle.name_index.specs.Index.{IndexOf, owned_first}
 use Rattle.name_index.proofs.PlacesLaws.{all_ok, rising, once, apart, within, none_later, least_later, least_where, where_least}
 use Rattle.std.specs.declared.cmp.Ordering.TheVariants.{Less}
-
-never : {A : Type 0} → ◌≡◌ {A = ℕ} 0 1 → A
-never z = absurd (omega arith)
 
 -- ---- testing owner and name is testing the key
 module _ (skip : ℕ) (s : List ℕ) (owner : ℕ) (name : List ℕ) (p : ℕ) where

@@ -8,7 +8,7 @@ use Rattle.record.proofs.RecordsLaws.{places_all, places_end, places_step, good_
 use Rattle.names.specs.Owners.{has_owned_name, same_owned, owned_repeat}
 use Rattle.names.proofs.OwnersLaws.{good_owned}
 use Rattle.name_order.specs.Order.{key_order}
-use Rattle.name_order.proofs.OrderLaws.{key_trans}
+use Rattle.name_order.proofs.OrderLaws.{never, key_trans}
 use Rattle.name_sort.specs.Sorting.{Sorted, none, more, in_order}
 use Rattle.name_sort.proofs.SortingLaws.{at_in, sorted_at, sorted_already}
 use Rattle.name_sort.specs.Before.{key_of, decided, before}
@@ -17,9 +17,6 @@ use Rattle.name_index.proofs.PlacesLaws.{none_later}
 use Rattle.name_index.proofs.IndexLaws.{first_is}
 use Rattle.std.specs.declared.cmp.Ordering.TheVariants.{Less, Equal, Greater}
 use Rattle.std.specs.declared.cmp.Ordering.{Ordering}
-
-never : {A : Type 0} → ◌≡◌ {A = ℕ} 0 1 → A
-never z = absurd (omega arith)
 
 is_less_lem : (o : Ordering) → is_less o ≡ true → o ≡ Less
 is_less_lem Less e = refl

@@ -8,7 +8,7 @@ use Rattle.record.specs.Records.{places}
 use Rattle.names.specs.Names.{first_where}
 use Rattle.names.specs.Owners.{is_owned, same_owned, first_owned, owned_repeat}
 use Rattle.name_order.specs.Order.{Key, key_order}
-use Rattle.name_order.proofs.OrderLaws.{key_same, key_is}
+use Rattle.name_order.proofs.OrderLaws.{never, key_same, key_is}
 use Rattle.name_sort.proofs.SortingLaws.{at_in}
 use Rattle.name_sort.specs.Before.{key_of}
 use Rattle.name_index.specs.declared.Looked.{Looked}
@@ -17,9 +17,6 @@ use Rattle.name_index.proofs.PlacesLaws.{none_where, all_first}
 use Rattle.name_index.proofs.IndexLaws.{owned_key, is_at_lem, in_index, at_list, key_at, goes, below_before}
 use Rattle.std.specs.declared.cmp.Ordering.TheVariants.{Less, Equal, Greater}
 use Rattle.std.specs.declared.cmp.Ordering.{Ordering}
-
-never : {A : Type 0} → ◌≡◌ {A = ℕ} 0 1 → A
-never z = absurd (omega arith)
 
 from_not : (a b : ℕ) → (b ≤ a → ⊥) → a < b
 from_not a b h = go (ltb a b) refl

@@ -11,7 +11,7 @@ use Rattle.name_order.specs.EightBytes.{Bytes, more, four, high_first}
 use Rattle.std.specs.declared.cmp.Ordering.TheVariants.{Less, Equal, Greater}
 use Rattle.std.specs.declared.cmp.Ordering.{Ordering}
 
-never : {A : Type 0} → ◌≡◌ {A = ℕ} 0 1 → A
+pub never : {A : Type 0} → ◌≡◌ {A = ℕ} 0 1 → A
 never z = absurd (omega arith)
 
 abbrev pub turned : Ordering → Ordering

@@ -10,7 +10,7 @@ use Rattle.record.specs.Bytes.{le32}
 use Rattle.record.specs.Records.{places}
 use Rattle.names.specs.Owners.{owned_name, owner_of, has_owned_name}
 use Rattle.name_order.specs.Order.{then_by, numbers, order, Key, key_order}
-use Rattle.name_order.proofs.OrderLaws.{key_same, key_trans}
+use Rattle.name_order.proofs.OrderLaws.{never, key_same, key_trans}
 use Rattle.name_sort.specs.Sorting.{In}
 use Rattle.name_sort.proofs.SortingLaws.{in_head, in_tail, in_cons, not_in, at_in}
 use Rattle.name_index.specs.Index.{IndexOf}
@@ -23,9 +23,6 @@ use Rattle.page_outcome.proofs.Shown.{Stands, shown_smallest, shown_none}
 use Rattle.page_labels.specs.Slots.{SlotOk, name_in, pc_of, WordOf, Empty, Shows}
 use Rattle.std.specs.declared.cmp.Ordering.TheVariants.{Less}
 use Rattle.std.specs.declared.cmp.Ordering.{Ordering}
-
-never : {A : Type 0} → ◌≡◌ {A = ℕ} 0 1 → A
-never z = absurd (omega arith)
 
 -- ---- a slot that is not 0
 pub slot_named : (labels : List ℕ) (slot : ℕ) → 0 < slot → SlotOk labels slot → has_owned_name 4 labels (slot - 1) ≡ true

@@ -22,9 +22,7 @@ use Rattle.reading.specs.Reading.{image_of, readings, destinations}
 use Rattle.reading.specs.Premises.{SameTarget, Pair, StraightPremises}
 use Rattle.reading.proofs.Demand.{straight_reads_back}
 use Rattle.reading.proofs.InstanceLaws.{InAll, in_each}
-
-never : {A : Type 0} → ◌≡◌ {A = ℕ} 0 1 → A
-never z = absurd (omega arith)
+use Rattle.name_order.proofs.OrderLaws.{never}
 
 -- ---- by computation
 record Evaluated : Type 0 where
