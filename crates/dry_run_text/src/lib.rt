@@ -7,7 +7,7 @@ ghost use Rattle.dry_run_text.specs.Lines.{run_text, machine_in, dry_run_text};
 use dry_run_outcome::Stopped;
 use machine::{Machine, Reason};
 use program::Program;
-use text::{MOST, Printed};
+use text::{Printed, Text};
 
 mod lines;
 
@@ -23,19 +23,20 @@ fn machine_in(numbers: &[u8]) -> Machine
 
 // Writes the four lines of a run.
 #[tactic(auto, using(std::proofs::lemmas::Grind::common_steps))]
-fn put_run(out: &mut Printed, reason: Reason, steps: u32, machine: Machine)
-    requires { length out.old + length (run_text reason steps machine) ≤ MOST }
+fn put_run<const N: usize>(out: &mut Text<N>, reason: Reason, steps: u32, machine: Machine)
+    requires { length out.old + length (run_text reason steps machine) ≤ N }
     ensures { out.new ≡ out.old ++ run_text reason steps machine }
 {
     lines::put_reason(&mut *out, reason);
-    out.push_number_line(b"steps", steps as u64);
+    out.push_number_line(b"steps", u64::from(steps));
     lines::put_pc(&mut *out, machine.pc);
     lines::put_registers(out, &machine.registers);
 }
 
 // Writes what `dry_run` prints for an input: the run's lines, or the refusal alone.
 #[tactic(auto, using(text::proofs::TextLaws::refused_most, crate::proofs::LinesLaws::run_most), unfolding(crate::specs::Lines::dry_run_text))]
-pub fn dry_run(input: &[u8], out: &mut Printed)
+pub fn dry_run<const N: usize>(input: &[u8], out: &mut Text<N>)
+    requires { 400000 ≤ N }
     ensures { out.new ≡ dry_run_text input.now }
 {
     let numbers = input::behind_lists(input, 1);

@@ -3,11 +3,11 @@ ghost use Rattle.std.specs.Prelude.{◌≡◌, ◌++◌, ◌+◌, ◌≤◌, len
 ghost use Rattle.dry_run_text.specs.Lines.{reason_line, hex_field, hex_fields, pc_line, registers_line};
 
 use machine::Reason;
-use text::{MOST, Printed};
+use text::Text;
 
 #[tactic(auto, unfolding(crate::specs::Lines::reason_line))]
-pub(crate) fn put_reason(out: &mut Printed, reason: Reason)
-    requires { length out.old + length (reason_line reason) ≤ MOST }
+pub(crate) fn put_reason<const N: usize>(out: &mut Text<N>, reason: Reason)
+    requires { length out.old + length (reason_line reason) ≤ N }
     ensures { out.new ≡ out.old ++ reason_line reason }
 {
     match reason {
@@ -19,8 +19,8 @@ pub(crate) fn put_reason(out: &mut Printed, reason: Reason)
 }
 
 // Writes a blank and eight hexadecimal digits.
-fn put_hex_field(out: &mut Printed, n: u32)
-    requires { length out.old + length (hex_field n) ≤ MOST }
+fn put_hex_field<const N: usize>(out: &mut Text<N>, n: u32)
+    requires { length out.old + length (hex_field n) ≤ N }
     ensures { out.new ≡ out.old ++ hex_field n }
 {
     out.push_byte(b' ');
@@ -28,8 +28,8 @@ fn put_hex_field(out: &mut Printed, n: u32)
 }
 
 #[tactic(auto, using(crate::proofs::LinesLaws::fields_next, crate::proofs::LinesLaws::fields_end, std::proofs::lemmas::Grind::common_steps))]
-fn put_hex_fields(out: &mut Printed, numbers: &[u32])
-    requires { length out.old + length (hex_fields numbers.now) ≤ MOST }
+fn put_hex_fields<const N: usize>(out: &mut Text<N>, numbers: &[u32])
+    requires { length out.old + length (hex_fields numbers.now) ≤ N }
     ensures { out.new ≡ out.old ++ hex_fields numbers.now }
 {
     for &number in numbers {
@@ -38,8 +38,8 @@ fn put_hex_fields(out: &mut Printed, numbers: &[u32])
 }
 
 #[tactic(auto, using(crate::proofs::LinesLaws::pc_length, std::proofs::lemmas::Grind::common_steps), unfolding(crate::specs::Lines::pc_line))]
-pub(crate) fn put_pc(out: &mut Printed, pc: u32)
-    requires { length out.old + length (pc_line pc) ≤ MOST }
+pub(crate) fn put_pc<const N: usize>(out: &mut Text<N>, pc: u32)
+    requires { length out.old + length (pc_line pc) ≤ N }
     ensures { out.new ≡ out.old ++ pc_line pc }
 {
     out.push(b"pc");
@@ -48,8 +48,8 @@ pub(crate) fn put_pc(out: &mut Printed, pc: u32)
 }
 
 #[tactic(auto, using(crate::proofs::LinesLaws::registers_length, crate::proofs::LinesLaws::fields_length, std::proofs::lemmas::Grind::common_steps), unfolding(crate::specs::Lines::registers_line))]
-pub(crate) fn put_registers(out: &mut Printed, registers: &[u32])
-    requires { length out.old + length (registers_line registers.now) ≤ MOST }
+pub(crate) fn put_registers<const N: usize>(out: &mut Text<N>, registers: &[u32])
+    requires { length out.old + length (registers_line registers.now) ≤ N }
     ensures { out.new ≡ out.old ++ registers_line registers.now }
 {
     out.push(b"registers");

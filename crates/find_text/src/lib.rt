@@ -28,7 +28,7 @@ fn put_found<const N: usize>(out: &mut Text<N>, found: Found)
     ensures { out.new ≡ out.old ++ found_lines found }
 {
     put_address(&mut *out, found.address);
-    out.push_number_line(b"compared", found.compared as u64);
+    out.push_number_line(b"compared", u64::from(found.compared));
 }
 
 // Writes the text for an input: the labels and the name, each after its count, and then the source. The text is at most 128 bytes.

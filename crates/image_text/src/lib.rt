@@ -10,14 +10,14 @@ ghost use Rattle.image_text.specs.Image.{data_lines, region_text, regions_text, 
 use jobs::Job;
 use program::Program;
 use regions::{Region, Regions};
-use text::{MOST, Printed};
+use text::{Printed, Text};
 
 mod lines;
 
 // Appends a line for each four bytes, and one for a shorter rest.
-fn put_data(out: &mut Printed, address: u32, data: &[u8])
+fn put_data<const N: usize>(out: &mut Text<N>, address: u32, data: &[u8])
     requires data_len_bound { length «data».now ≤ 65536 }
-    requires data_in_bounds { length out.old + length (data_lines address 0 «data».now) ≤ MOST }
+    requires data_in_bounds { length out.old + length (data_lines address 0 «data».now) ≤ N }
     ensures { out.new ≡ out.old ++ data_lines address 0 «data».now }
 {
     for (i, bytes) in data.chunks(4).enumerate() {
@@ -26,10 +26,10 @@ fn put_data(out: &mut Printed, address: u32, data: &[u8])
 }
 
 // Appends the region with this number.
-fn put_region(out: &mut Printed, regions: &Regions<'_>, number: usize, region: Region)
+fn put_region<const N: usize>(out: &mut Text<N>, regions: &Regions<'_>, number: usize, region: Region)
     requires number_bound { number < region_count regions.now }
     requires region_value { region ≡ region_at regions.now (region_place regions.now number) }
-    requires number_in_bounds { length out.old + length (region_text number (image_region regions.now (region_place regions.now number))) ≤ MOST }
+    requires number_in_bounds { length out.old + length (region_text number (image_region regions.now (region_place regions.now number))) ≤ N }
     ensures { out.new ≡ out.old ++ region_text number (image_region regions.now (region_place regions.now number)) }
 {
     let list = regions.bytes();
@@ -39,8 +39,8 @@ fn put_region(out: &mut Printed, regions: &Regions<'_>, number: usize, region: R
     put_data(out, region.address, &list[start..end]);
 }
 
-fn put_regions(out: &mut Printed, regions: &Regions<'_>)
-    requires { length out.old + length (regions_text 0 (image_of regions.now)) ≤ MOST }
+fn put_regions<const N: usize>(out: &mut Text<N>, regions: &Regions<'_>)
+    requires { length out.old + length (regions_text 0 (image_of regions.now)) ≤ N }
     ensures { out.new ≡ out.old ++ regions_text 0 (image_of regions.now) }
 {
     for (number, at) in regions.places().enumerate() {
@@ -50,8 +50,8 @@ fn put_regions(out: &mut Printed, regions: &Regions<'_>)
 
 // Appends the image of the patched regions.
 #[tactic(auto, using(crate::proofs::ImageLaws::entry_length, std::proofs::lemmas::Grind::common_steps))]
-fn put_image(out: &mut Printed, entry: u32, regions: &Regions<'_>)
-    requires { length out.old + length (image_text entry (image_of regions.now)) ≤ MOST }
+fn put_image<const N: usize>(out: &mut Text<N>, entry: u32, regions: &Regions<'_>)
+    requires { length out.old + length (image_text entry (image_of regions.now)) ≤ N }
     ensures { out.new ≡ out.old ++ image_text entry (image_of regions.now) }
 {
     lines::put_entry(&mut *out, entry);
@@ -60,12 +60,12 @@ fn put_image(out: &mut Printed, entry: u32, regions: &Regions<'_>)
 
 // Builds an input in a job, and writes the image, or the refusal alone.
 #[tactic(auto, using(text::proofs::TextLaws::refused_most))]
-fn put_input(job: Job, input: &[u8], out: &mut Printed)
+fn put_input<const N: usize>(job: Job, input: &[u8], out: &mut Text<N>)
+    requires { 400000 ≤ N }
     ensures { out.new ≡ finish_text_by job input.now }
 {
     let mut space = [0u8; record::LIMIT + 1];
-    let count = input::hold(&mut space, input::list_of(input, 2));
-    let regions = &mut space[..count];
+    let regions = input::hold(&mut space, input::list_of(input, 2));
     let labels = input::list_of(input, 0);
     let entry = input::list_of(input, 1);
     let pending = input::list_of(input, 3);
@@ -77,14 +77,16 @@ fn put_input(job: Job, input: &[u8], out: &mut Printed)
 }
 
 // Writes the text that `finish` prints for an input.
-pub fn finish(input: &[u8], out: &mut Printed)
+pub fn finish<const N: usize>(input: &[u8], out: &mut Text<N>)
+    requires { 400000 ≤ N }
     ensures { out.new ≡ finish_text input.now }
 {
     put_input(Job::Commit, input, out);
 }
 
 // Writes the text that `finish_manual` prints for an input.
-pub fn finish_manual(input: &[u8], out: &mut Printed)
+pub fn finish_manual<const N: usize>(input: &[u8], out: &mut Text<N>)
+    requires { 400000 ≤ N }
     ensures { out.new ≡ finish_text_by Job.Manual input.now }
 {
     put_input(Job::Manual, input, out);

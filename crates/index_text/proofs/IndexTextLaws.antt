@@ -1,7 +1,8 @@
 -- An index buffer over its limit is refused, however long it is. Assumes nothing.
-use Rattle.std.specs.Prelude.{ℕ, ◌<◌, List, Bool, true, false, ◌≡◌, refl, leb, length, Err, None, Ok, Some}
-use Rattle.std.proofs.Common.{arith, sym, ap, ◌∙◌, length-take, take_all, leb-true, leb-false}
+use Rattle.std.specs.Prelude.{ℕ, ◌≤◌, ◌<◌, ◌++◌, List, Bool, true, false, ◌≡◌, refl, leb, length, Err, None, Ok, Some}
+use Rattle.std.proofs.Common.{arith, sym, ap, ◌∙◌, length-append, length-take, take_all, leb-true, leb-false}
 use Rattle.std.proofs.lemmas.Bool.{lt-leb}
+use Rattle.record.specs.Texts.{bytes_of}
 use Rattle.record.specs.Records.{limit, within_limit}
 use Rattle.refusal.specs.Numbers.{numbered}
 use Rattle.refusal.specs.Verdicts.{and_then, layout_verdict, Verdict}
@@ -10,11 +11,20 @@ use Rattle.refusal.specs.declared.Refusal.TheVariants.{BadLayout}
 use Rattle.labels.specs.Labels.{label_layout, label_repeat}
 use Rattle.breakpoints.specs.Breakpoints.{pending_buffer_layout}
 use Rattle.input.specs.Input.{held}
-use Rattle.text.specs.Text.{refused_line}
+use Rattle.text.specs.Text.{last_field, refused_line}
+use Rattle.text.proofs.TextLaws.{last_most}
+use Rattle.bytes_line.specs.BytesLine.{bytes_line}
+use Rattle.bytes_line.proofs.BytesLineLaws.{bytes_length}
 use Rattle.indexed_outcome.specs.Make.{make_outcome}
 use Rattle.indexed_outcome.proofs.MakeLaws.{layouts_are, outcome_by}
-use Rattle.index_text.specs.IndexText.{outcome_text}
 use Rattle.name_order.proofs.OrderLaws.{never}
+use Rattle.index_text.specs.IndexText.{made_text, outcome_text}
+
+-- What is printed fits 400,000 bytes, since a held buffer has at most 65,537.
+pub made_most : (fill : ℕ) (index : List ℕ) → length index ≤ 65537 → length (made_text fill index) ≤ 400000
+made_most fill index h =
+    let front = bytes_of "fill" ++ last_field fill in
+    omega (arith, length-append front (bytes_line (bytes_of "index ") index), length-append (bytes_of "fill") (last_field fill), last_most fill, bytes_length (bytes_of "index ") index, h)
 
 over : (s : List ℕ) → limit < length s → within_limit s None ≡ Some limit
 unfolding within_limit

@@ -5,27 +5,27 @@ ghost use Rattle.std.specs.Prelude.{◌≡◌, ◌++◌, ◌+◌, ◌≤◌, len
 ghost use Rattle.index_text.specs.IndexText.{made_text, make_index_text};
 
 use program::Program;
-use text::{MOST, Printed};
+use text::{Printed, Text};
 
 // Prints the fill count and the whole buffer.
 #[tactic(auto, using(std::proofs::lemmas::Grind::common_steps))]
-fn put_made(out: &mut Printed, fill: u32, index: &[u8])
-    requires { length out.old + length (made_text fill index.now) ≤ MOST }
+fn put_made<const N: usize>(out: &mut Text<N>, fill: u32, index: &[u8])
+    requires { length out.old + length (made_text fill index.now) ≤ N }
     ensures { out.new ≡ out.old ++ made_text fill index.now }
 {
-    out.push_number_line(b"fill", fill as u64);
+    out.push_number_line(b"fill", u64::from(fill));
     bytes_line::push_bytes(out, b"index ", index);
 }
 
 // Writes the text that `make_index` prints for an input: the index, or the refusal alone. Of an index buffer over its limit, one byte
 // more than the limit is kept, so that the call still refuses it.
-#[tactic(auto, using(text::proofs::TextLaws::refused_most, text::proofs::TextLaws::last_most, bytes_line::proofs::BytesLineLaws::bytes_length, std::proofs::lemmas::Grind::common_steps))]
-pub fn make_index(input: &[u8], out: &mut Printed)
+#[tactic(auto, using(text::proofs::TextLaws::refused_most))]
+pub fn make_index<const N: usize>(input: &[u8], out: &mut Text<N>)
+    requires { 400000 ≤ N }
     ensures { out.new ≡ make_index_text input.now }
 {
     let mut space = [0u8; record::LIMIT + 1];
-    let kept = input::hold(&mut space, input::list_of(input, 2));
-    let index = &mut space[..kept];
+    let index = input::hold(&mut space, input::list_of(input, 2));
     let fill = input::word_or_zero(input::behind_lists(input, 3), 0);
     let pending = input::list_of(input, 0);
     let labels = input::list_of(input, 1);

@@ -1,17 +1,22 @@
 -- The lengths of the lines of an emit call's outcome with an index. Assumes nothing.
-use Rattle.std.specs.Prelude.{◌+◌, ◌≤◌, ◌≡◌, ◌++◌, length}
+use Rattle.std.specs.Prelude.{ℕ, List, drop, ◌+◌, ◌≤◌, ◌≡◌, ◌++◌, length}
 use Rattle.std.proofs.Common.{arith, length-append}
 use Rattle.record.specs.Texts.{bytes_of}
 use Rattle.emit_outcome.specs.Answer.{EmitAnswer}
 use Rattle.indexed_outcome.specs.declared.IndexedCounts.{IndexedCounts}
+use Rattle.input.proofs.InputLaws.{word_behind, half_behind}
 use Rattle.text.specs.Text.{field, last_field}
 use Rattle.text.proofs.TextLaws.{field_most, last_most}
-use Rattle.line_text.specs.Line.{answer_text, loaded_text}
+use Rattle.line_text.specs.Line.{answer_text, loaded_text, place_of}
 use Rattle.line_text.proofs.LineLaws.{answer_most, loaded_most}
 use Rattle.bytes_line.specs.BytesLine.{bytes_line}
 use Rattle.bytes_line.proofs.BytesLineLaws.{bytes_length}
 use Rattle.indexed_outcome.specs.Indexed.{IndexedOutcome}
-use Rattle.indexed_text.specs.IndexedText.{fills_line, head_text, outcome_text}
+use Rattle.indexed_text.specs.IndexedText.{fills_line, head_text, outcome_text, place_in}
+
+-- the place of a line, read behind the fill counts
+pub place_behind_counts : (s : List ℕ) → place_of (drop 16 s) ≡ place_in s
+place_behind_counts s = rw (word_behind s 16 0, half_behind s 16 4, word_behind s 16 6)
 
 pub fills_length : (c : IndexedCounts) → length (fills_line c)
     ≡ 5 + length (field c.counts.data_len) + length (field c.counts.pending) + length (field c.counts.breakpoints) + length (last_field c.index)

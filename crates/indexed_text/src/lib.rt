@@ -9,53 +9,46 @@ ghost use Rattle.indexed_outcome.specs.Indexed.{indexed_outcome_of};
 ghost use Rattle.indexed_outcome.specs.Contract.{IndexedBy};
 ghost use Rattle.indexed_text.specs.IndexedText.{fills_line, head_text, outcome_text, counts_in, place_in, call_in, emit_indexed_text};
 
-use emit_outcome::{EmitAnswer, FillCounts, LinePlace};
+use emit_outcome::{EmitAnswer, LinePlace};
 use indexed_outcome::{IndexedCounts, IndexedEmitted};
 use jobs::Job;
 use program::Program;
-use text::{MOST, Printed};
+use text::{Printed, Text};
 
 // Reads the four fill counts, which follow the buffers.
 fn counts_in(rest: &[u8]) -> IndexedCounts
     ensures { result ≡ counts_in rest.now }
 {
-    let counts = FillCounts {
-        data_len: input::word_or_zero(rest, 0),
-        pending: input::word_or_zero(rest, 4),
-        breakpoints: input::word_or_zero(rest, 8),
-    };
+    let counts = line_text::counts_in(rest);
     let index = input::word_or_zero(rest, 12);
     IndexedCounts { counts, index }
 }
 
 // Reads the numbers after the fill counts.
+#[tactic(auto, using(crate::proofs::IndexedTextLaws::place_behind_counts))]
 fn place_in(rest: &[u8]) -> LinePlace
     ensures { result ≡ place_in rest.now }
 {
-    LinePlace {
-        position: input::word_or_zero(rest, 16),
-        region: input::half_or_zero(rest, 20),
-        address: input::word_or_zero(rest, 22),
-    }
+    line_text::place_of(input::behind(rest, 16))
 }
 
 #[tactic(auto, using(crate::proofs::IndexedTextLaws::fills_length), unfolding(crate::specs::IndexedText::fills_line))]
-fn put_fills(out: &mut Printed, counts: IndexedCounts)
-    requires { length out.old + length (fills_line counts) ≤ MOST }
+fn put_fills<const N: usize>(out: &mut Text<N>, counts: IndexedCounts)
+    requires { length out.old + length (fills_line counts) ≤ N }
     ensures { out.new ≡ out.old ++ fills_line counts }
 {
     let three = counts.counts;
     out.push(b"fills");
-    out.push_field(three.data_len as u64);
-    out.push_field(three.pending as u64);
-    out.push_field(three.breakpoints as u64);
-    out.push_last_field(counts.index as u64);
+    out.push_field(u64::from(three.data_len));
+    out.push_field(u64::from(three.pending));
+    out.push_field(u64::from(three.breakpoints));
+    out.push_last_field(u64::from(counts.index));
 }
 
 // Prints everything but the buffers.
 #[tactic(auto, using(crate::proofs::IndexedTextLaws::head_length, std::proofs::lemmas::Grind::common_steps), unfolding(crate::specs::IndexedText::head_text))]
-fn put_head(out: &mut Printed, answer: EmitAnswer, counts: IndexedCounts)
-    requires { length out.old + length (head_text answer counts) ≤ MOST }
+fn put_head<const N: usize>(out: &mut Text<N>, answer: EmitAnswer, counts: IndexedCounts)
+    requires { length out.old + length (head_text answer counts) ≤ N }
     ensures { out.new ≡ out.old ++ head_text answer counts }
 {
     line_text::lines::put_answer(&mut *out, answer);
@@ -94,8 +87,8 @@ fn make_call(
 
 // Prints the call's answer and counts, and the buffers after it.
 #[tactic(auto, using(crate::proofs::IndexedTextLaws::outcome_length, std::proofs::lemmas::Grind::common_steps), unfolding(crate::specs::IndexedText::outcome_text))]
-fn put_emitted(
-    out: &mut Printed,
+fn put_emitted<const N: usize>(
+    out: &mut Text<N>,
     emitted: IndexedEmitted,
     data: &[u8],
     pending: &[u8],
@@ -103,7 +96,7 @@ fn put_emitted(
     index: &[u8],
 )
     requires { length out.old + length (outcome_text (indexed_outcome_of emitted.answer emitted.counts
-        (lent_of «data».now pending.now breakpoints.now) index.now)) ≤ MOST }
+        (lent_of «data».now pending.now breakpoints.now) index.now)) ≤ N }
     ensures { out.new ≡ out.old ++ outcome_text (indexed_outcome_of emitted.answer emitted.counts
         (lent_of «data».now pending.now breakpoints.now) index.now) }
 {
@@ -115,21 +108,18 @@ fn put_emitted(
 }
 
 // Writes the text that `emit_indexed` prints for an input.
-pub fn emit_indexed(input: &[u8], out: &mut Printed)
+pub fn emit_indexed<const N: usize>(input: &[u8], out: &mut Text<N>)
+    requires { 525000 ≤ N }
     ensures { out.new ≡ emit_indexed_text input.now }
 {
     let mut data = [0u8; record::LIMIT + 1];
     let mut pending = [0u8; record::LIMIT + 1];
     let mut breakpoints = [0u8; record::LIMIT + 1];
     let mut index = [0u8; record::LIMIT + 1];
-    let d = input::hold(&mut data, input::list_of(input, 3));
-    let p = input::hold(&mut pending, input::list_of(input, 4));
-    let b = input::hold(&mut breakpoints, input::list_of(input, 5));
-    let u = input::hold(&mut index, input::list_of(input, 7));
-    let data = &mut data[..d];
-    let pending = &mut pending[..p];
-    let breakpoints = &mut breakpoints[..b];
-    let index = &mut index[..u];
+    let data = input::hold(&mut data, input::list_of(input, 3));
+    let pending = input::hold(&mut pending, input::list_of(input, 4));
+    let breakpoints = input::hold(&mut breakpoints, input::list_of(input, 5));
+    let index = input::hold(&mut index, input::list_of(input, 7));
     let emitted = make_call(
         input,
         &mut *data,

@@ -59,6 +59,10 @@ counts_in s = record { data_len = word_or_zero s 0; pending = word_or_zero s 4; 
 abbrev pub place_in : List ℕ → LinePlace
 place_in s = record { position = word_or_zero s 12; region = half_or_zero s 16; address = word_or_zero s 18 }
 
+-- the same numbers at the start of a list
+abbrev pub place_of : List ℕ → LinePlace
+place_of s = record { position = word_or_zero s 0; region = half_or_zero s 4; address = word_or_zero s 6 }
+
 abbrev pub numbers_in : List ℕ → LineNumbers
 numbers_in s = record { counts = counts_in s; place = place_in s }
 

@@ -5,29 +5,44 @@ ghost use Rattle.std.specs.Prelude.{◌≡◌, ◌++◌, ◌+◌, ◌≤◌, len
 ghost use Rattle.record.specs.Texts.{bytes_of};
 ghost use Rattle.emit_outcome.specs.Call.{lent_of, outcome_of};
 ghost use Rattle.emit_outcome.specs.Contract.{EmittedBy};
-ghost use Rattle.line_text.specs.Line.{numbers_in, outcome_text, call_in, job_text, job_numbered, job_in, line_text};
+ghost use Rattle.line_text.specs.Line.{counts_in, place_of, numbers_in, outcome_text, call_in, job_text, job_numbered, job_in, line_text};
 
 use emit_outcome::{Emitted, FillCounts, LineNumbers, LinePlace};
 use jobs::Job;
 use program::Program;
-use text::{MOST, Printed};
+use text::{Printed, Text};
 
 pub mod lines;
 
+// Reads the three fill counts that `bytes` begins with.
+pub fn counts_in(bytes: &[u8]) -> FillCounts
+    ensures { result ≡ counts_in bytes.now }
+{
+    FillCounts {
+        data_len: input::word_or_zero(bytes, 0),
+        pending: input::word_or_zero(bytes, 4),
+        breakpoints: input::word_or_zero(bytes, 8),
+    }
+}
+
+// Reads the position, the region and the region's address that `bytes` begins with.
+pub fn place_of(bytes: &[u8]) -> LinePlace
+    ensures { result ≡ place_of bytes.now }
+{
+    LinePlace {
+        position: input::word_or_zero(bytes, 0),
+        region: input::half_or_zero(bytes, 4),
+        address: input::word_or_zero(bytes, 6),
+    }
+}
+
 // Reads the numbers of a call. `input` starts after the six buffers.
+#[tactic(auto, using(crate::proofs::PlaceLaws::place_behind_counts))]
 fn numbers_in(input: &[u8]) -> LineNumbers
     ensures { result ≡ numbers_in input.now }
 {
-    let counts = FillCounts {
-        data_len: input::word_or_zero(input, 0),
-        pending: input::word_or_zero(input, 4),
-        breakpoints: input::word_or_zero(input, 8),
-    };
-    let place = LinePlace {
-        position: input::word_or_zero(input, 12),
-        region: input::half_or_zero(input, 16),
-        address: input::word_or_zero(input, 18),
-    };
+    let counts = counts_in(input);
+    let place = place_of(input::behind(input, 12));
     LineNumbers { counts, place }
 }
 
@@ -60,9 +75,15 @@ fn make_call(
 
 // Appends a call's answer, and what the buffers hold after it.
 #[tactic(auto, using(crate::proofs::LineLaws::outcome_length, std::proofs::lemmas::Grind::common_steps), unfolding(crate::specs::Line::outcome_text))]
-fn put_emitted(out: &mut Printed, emitted: Emitted, data: &[u8], pending: &[u8], breakpoints: &[u8])
+fn put_emitted<const N: usize>(
+    out: &mut Text<N>,
+    emitted: Emitted,
+    data: &[u8],
+    pending: &[u8],
+    breakpoints: &[u8],
+)
     requires { length out.old + length (outcome_text (outcome_of emitted.answer emitted.counts
-        (lent_of «data».now pending.now breakpoints.now))) ≤ MOST }
+        (lent_of «data».now pending.now breakpoints.now))) ≤ N }
     ensures { out.new ≡ out.old ++ outcome_text (outcome_of emitted.answer emitted.counts
         (lent_of «data».now pending.now breakpoints.now)) }
 {
@@ -73,18 +94,16 @@ fn put_emitted(out: &mut Printed, emitted: Emitted, data: &[u8], pending: &[u8],
 }
 
 // Makes an input's call in a job, and writes its text.
-fn put_job(job: Job, input: &[u8], out: &mut Printed)
+fn put_job<const N: usize>(job: Job, input: &[u8], out: &mut Text<N>)
+    requires { 400000 ≤ N }
     ensures { out.new ≡ job_text job input.now }
 {
     let mut data = [0u8; record::LIMIT + 1];
     let mut pending = [0u8; record::LIMIT + 1];
     let mut breakpoints = [0u8; record::LIMIT + 1];
-    let d = input::hold(&mut data, input::list_of(input, 3));
-    let p = input::hold(&mut pending, input::list_of(input, 4));
-    let b = input::hold(&mut breakpoints, input::list_of(input, 5));
-    let data = &mut data[..d];
-    let pending = &mut pending[..p];
-    let breakpoints = &mut breakpoints[..b];
+    let data = input::hold(&mut data, input::list_of(input, 3));
+    let pending = input::hold(&mut pending, input::list_of(input, 4));
+    let breakpoints = input::hold(&mut breakpoints, input::list_of(input, 5));
     let emitted = make_call(job, input, &mut *data, &mut *pending, &mut *breakpoints);
     out.clear();
     put_emitted(out, emitted, data, pending, breakpoints);
@@ -104,7 +123,8 @@ fn job_in(input: &[u8]) -> Option<Job>
 }
 
 // Writes the text of an input whose job's byte names no job.
-pub fn put_no_job(out: &mut Printed)
+pub fn put_no_job<const N: usize>(out: &mut Text<N>)
+    requires { 12 ≤ N }
     ensures { out.new ≡ bytes_of "no such job\n" }
 {
     out.clear();
@@ -113,7 +133,8 @@ pub fn put_no_job(out: &mut Printed)
 
 // Writes the text that `emit_line` prints for an input.
 #[tactic(auto, unfolding(crate::specs::Line::line_text))]
-pub fn emit_line(input: &[u8], out: &mut Printed)
+pub fn emit_line<const N: usize>(input: &[u8], out: &mut Text<N>)
+    requires { 400000 ≤ N }
     ensures { out.new ≡ line_text input.now }
 {
     match job_in(input) {

@@ -4,7 +4,7 @@ ghost use Rattle.line_text.specs.Line.{answer_text, fills_line, loaded_line, loa
 
 use emit_outcome::{EmitAnswer, FillCounts};
 use loading::LoadForm;
-use text::{MOST, Printed, Text};
+use text::Text;
 
 // Room for the line of three counts of at most twenty digits.
 const MOST_FILLS: usize = 69;
@@ -15,10 +15,10 @@ pub fn put_answer<const N: usize>(out: &mut Text<N>, answer: EmitAnswer)
     ensures { out.new ≡ out.old ++ answer_text answer }
 {
     match answer {
-        Ok(done) => out.push_number_line(b"position", done.position as u64),
+        Ok(done) => out.push_number_line(b"position", u64::from(done.position)),
         Err(refused) => {
             out.push_refusal(refused.refusal);
-            out.push_number_line(b"position", refused.position as u64);
+            out.push_number_line(b"position", u64::from(refused.position));
         }
     }
 }
@@ -30,9 +30,9 @@ fn fills_line(counts: FillCounts) -> Text<MOST_FILLS>
 {
     let mut line = Text::new();
     line.push(b"fills");
-    line.push_field(counts.data_len as u64);
-    line.push_field(counts.pending as u64);
-    line.push_last_field(counts.breakpoints as u64);
+    line.push_field(u64::from(counts.data_len));
+    line.push_field(u64::from(counts.pending));
+    line.push_last_field(u64::from(counts.breakpoints));
     line
 }
 
@@ -62,16 +62,15 @@ pub fn put_loaded<const N: usize>(out: &mut Text<N>, answer: EmitAnswer)
     requires { length out.old + length (loaded_text answer) ≤ N }
     ensures { out.new ≡ out.old ++ loaded_text answer }
 {
-    match answer {
-        Ok(done) => put_form(out, done.loaded),
-        Err(_) => {}
+    if let Ok(done) = answer {
+        put_form(out, done.loaded);
     }
 }
 
 // Appends all lines but the buffers'.
 #[tactic(auto, using(crate::proofs::LineLaws::head_length, std::proofs::lemmas::Grind::common_steps), unfolding(crate::specs::Line::head_text))]
-pub(crate) fn put_head(out: &mut Printed, answer: EmitAnswer, counts: FillCounts)
-    requires { length out.old + length (head_text answer counts) ≤ MOST }
+pub(crate) fn put_head<const N: usize>(out: &mut Text<N>, answer: EmitAnswer, counts: FillCounts)
+    requires { length out.old + length (head_text answer counts) ≤ N }
     ensures { out.new ≡ out.old ++ head_text answer counts }
 {
     put_answer(&mut *out, answer);

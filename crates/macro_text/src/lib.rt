@@ -1,16 +1,17 @@
 // What `expand` does (document 02, P8), from its input bytes to the bytes that it prints.
 #![tactic(auto)]
 
-ghost use Rattle.std.specs.Prelude.{◌≡◌};
+ghost use Rattle.std.specs.Prelude.{◌≡◌, ◌≤◌};
 ghost use Rattle.macro_text.specs.MacroText.{expand_text};
 
 use program::Program;
-use text::Printed;
+use text::{Printed, Text};
 
 // Writes what `expand` prints for an input: the written-out tokens, or the refusal alone. A buffer over the limit is held as the limit
 // plus one byte: that is enough for its refusal.
 #[tactic(auto, using(text::proofs::TextLaws::refused_most, crate::proofs::MacroTextLaws::held_text, token_text::proofs::TokenTextLaws::line_length, token_text::proofs::TokenTextLaws::part_held, written_out::proofs::KeepsLayout::fill_within, std::proofs::lemmas::Grind::common_steps), unfolding(crate::specs::MacroText::expand_text))]
-pub fn expand(input: &[u8], out: &mut Printed)
+pub fn expand<const N: usize>(input: &[u8], out: &mut Text<N>)
+    requires { 400000 ≤ N }
     ensures { out.new ≡ expand_text input.now }
 {
     let asked = input::word_or_zero(input::behind_lists(input, 2), 0);

@@ -10,7 +10,7 @@ ghost use Rattle.patching_text.specs.Turns.{Turns, StepTurns, LineTurns};
 use jobs::Job;
 use patching_outcome::PatchCounts;
 use program::Program;
-use text::{MOST, Printed};
+use text::{Printed, Text};
 
 mod lines;
 
@@ -23,7 +23,7 @@ const STEP: u8 = 0;
 const LINE: u8 = 1;
 
 // Four bytes for each pending that a list may have.
-const KEPT: usize = 7_280;
+const KEPT: usize = 4 * pending::MOST;
 
 // What every turn uses: the job, the labels, the entry record and the descriptors.
 #[derive(Clone, Copy)]
@@ -45,21 +45,20 @@ fn behind_turn(script: &[u8]) -> &[u8]
         return rest;
     }
     let numbers = input::behind_lists(rest, 2);
-    let start = numbers.len().min(6);
-    &numbers[start..]
+    input::behind(numbers, 6)
 }
 
 // Makes a step, prints its answer and returns the caller's record after it.
 #[tactic(auto, using(crate::proofs::TurnsLaws::step_most))]
-fn do_step(
-    out: &mut Printed,
+fn do_step<const N: usize>(
+    out: &mut Text<N>,
     setup: Setup<'_>,
     counts: PatchCounts,
     regions: &mut [u8],
     pending: &[u8],
     kept: &mut [u8],
 ) -> PatchCounts
-    requires { length out.old + 144 ≤ MOST }
+    requires { length out.old + 144 ≤ N }
     ensures { let g = given_by setup.entry in StepTurns g.job g.labels g.entry regions.old pending.now kept.old counts
         out.old out.new result regions.new kept.new }
 {
@@ -78,8 +77,8 @@ fn do_step(
 
 // Adds a line, prints its answer and returns the caller's record after it. `line` is the script after the byte LINE.
 #[tactic(auto, using(crate::proofs::TurnsLaws::line_most))]
-fn do_line(
-    out: &mut Printed,
+fn do_line<const N: usize>(
+    out: &mut Text<N>,
     setup: Setup<'_>,
     line: &[u8],
     counts: PatchCounts,
@@ -87,7 +86,7 @@ fn do_line(
     pending: &mut [u8],
     breakpoints: &mut [u8],
 ) -> PatchCounts
-    requires { length out.old + 144 ≤ MOST }
+    requires { length out.old + 144 ≤ N }
     ensures { let g = given_by setup.entry in LineTurns g.job (line_in g.descriptors line.now) regions.old pending.old breakpoints.old counts
         out.old out.new result regions.new pending.new breakpoints.new }
 {
@@ -109,8 +108,8 @@ fn do_line(
 }
 
 // Makes the next turn of a script: a step or a line.
-fn do_turn(
-    out: &mut Printed,
+fn do_turn<const N: usize>(
+    out: &mut Text<N>,
     setup: Setup<'_>,
     script: &[u8],
     counts: PatchCounts,
@@ -119,7 +118,7 @@ fn do_turn(
     breakpoints: &mut [u8],
     kept: &mut [u8],
 ) -> PatchCounts
-    requires { (length out.old + 144 ≤ MOST) × (1 ≤ length script.now) }
+    requires { (length out.old + 144 ≤ N) × (1 ≤ length script.now) }
     ensures { Turns (turn_of (given_by setup.entry)
         (patching_of regions.old pending.old breakpoints.old kept.old counts) script.now)
         out.old out.new (patching_of regions.new pending.new breakpoints.new kept.new result) }
@@ -139,8 +138,8 @@ fn do_turn(
 }
 
 // Clears `out`, makes all turns and prints their lines. Returns the caller's record after them; only the lines of the end are then missing.
-fn put_turns(
-    out: &mut Printed,
+fn put_turns<const N: usize>(
+    out: &mut Text<N>,
     setup: Setup<'_>,
     script: &[u8],
     start: PatchCounts,
@@ -149,6 +148,7 @@ fn put_turns(
     breakpoints: &mut [u8],
     kept: &mut [u8],
 ) -> PatchCounts
+    requires { 1000000 ≤ N }
     ensures text { script_text most_turns (given_by setup.entry)
         (patching_of regions.old pending.old breakpoints.old kept.old start) script.now
         ≡ out.new ++ end_text result regions.new pending.new breakpoints.new }
@@ -193,21 +193,18 @@ fn counts_in(numbers: &[u8]) -> PatchCounts
 }
 
 // Writes the text of an input's script in this job.
-fn put_job(job: Job, input: &[u8], out: &mut Printed)
+fn put_job<const N: usize>(job: Job, input: &[u8], out: &mut Text<N>)
+    requires { 1000000 ≤ N }
     ensures { out.new ≡ job_text job input.now }
 {
     let mut regions = [0u8; record::LIMIT + 1];
     let mut pending = [0u8; record::LIMIT + 1];
     let mut breakpoints = [0u8; record::LIMIT + 1];
     let mut kept = [0u8; KEPT];
-    let r = input::hold(&mut regions, input::list_of(input, 3));
-    let p = input::hold(&mut pending, input::list_of(input, 4));
-    let b = input::hold(&mut breakpoints, input::list_of(input, 5));
-    let regions = &mut regions[..r];
-    let pending = &mut pending[..p];
-    let breakpoints = &mut breakpoints[..b];
+    let regions = input::hold(&mut regions, input::list_of(input, 3));
+    let pending = input::hold(&mut pending, input::list_of(input, 4));
+    let breakpoints = input::hold(&mut breakpoints, input::list_of(input, 5));
     let numbers = input::behind_lists(input, 6);
-    let start = numbers.len().min(13);
     let setup = Setup {
         job,
         labels: input::list_of(input, 0),
@@ -217,7 +214,7 @@ fn put_job(job: Job, input: &[u8], out: &mut Printed)
     let counts = put_turns(
         &mut *out,
         setup,
-        &numbers[start..],
+        input::behind(numbers, 13),
         counts_in(numbers),
         &mut *regions,
         &mut *pending,
@@ -229,7 +226,8 @@ fn put_job(job: Job, input: &[u8], out: &mut Printed)
 
 // Writes the text that `patch_steps` prints for an input.
 #[tactic(auto, unfolding(crate::specs::Script::steps_text))]
-pub fn patch_steps(input: &[u8], out: &mut Printed)
+pub fn patch_steps<const N: usize>(input: &[u8], out: &mut Text<N>)
+    requires { 1000000 ≤ N }
     ensures { out.new ≡ steps_text input.now }
 {
     let numbers = input::behind_lists(input, 6);

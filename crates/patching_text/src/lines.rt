@@ -4,11 +4,11 @@ ghost use Rattle.patching_text.specs.Script.{step_text, line_text, state_text, c
 
 use emit_outcome::{EmitAnswer, FillCounts};
 use patching_outcome::{PatchCounts, Progress, StepAnswer};
-use text::{MOST, Printed};
+use text::Text;
 
 // Prints the entry address once patching has ended.
-fn put_ended(out: &mut Printed, address: u32)
-    requires { length out.old + length (step_text (Ok (Progress.Ended address))) ≤ MOST }
+fn put_ended<const N: usize>(out: &mut Text<N>, address: u32)
+    requires { length out.old + length (step_text (Ok (Progress.Ended address))) ≤ N }
     ensures { out.new ≡ out.old ++ step_text (Ok (Progress.Ended address)) }
 {
     out.push(b"ended ");
@@ -16,12 +16,12 @@ fn put_ended(out: &mut Printed, address: u32)
     out.push_byte(b'\n');
 }
 
-pub(crate) fn put_step(out: &mut Printed, answer: StepAnswer)
-    requires { length out.old + length (step_text answer) ≤ MOST }
+pub(crate) fn put_step<const N: usize>(out: &mut Text<N>, answer: StepAnswer)
+    requires { length out.old + length (step_text answer) ≤ N }
     ensures { out.new ≡ out.old ++ step_text answer }
 {
     match answer {
-        Ok(Progress::Patched(count)) => out.push_number_line(b"patched", count as u64),
+        Ok(Progress::Patched(count)) => out.push_number_line(b"patched", u64::from(count)),
         Ok(Progress::Ended(address)) => put_ended(out, address),
         Err(refusal) => out.push_refusal(refusal),
     }
@@ -29,8 +29,8 @@ pub(crate) fn put_step(out: &mut Printed, answer: StepAnswer)
 
 // Prints a line's answer, with `accepted` before it unless the line is refused.
 #[tactic(auto, using(crate::proofs::TurnsLaws::accepted_is, crate::proofs::TurnsLaws::refused_is, std::proofs::lemmas::Grind::common_steps))]
-pub(crate) fn put_line(out: &mut Printed, answer: EmitAnswer)
-    requires { length out.old + length (line_text answer) ≤ MOST }
+pub(crate) fn put_line<const N: usize>(out: &mut Text<N>, answer: EmitAnswer)
+    requires { length out.old + length (line_text answer) ≤ N }
     ensures { out.new ≡ out.old ++ line_text answer }
 {
     if answer.is_ok() {
@@ -39,8 +39,8 @@ pub(crate) fn put_line(out: &mut Printed, answer: EmitAnswer)
     line_text::lines::put_answer(out, answer);
 }
 
-fn put_state(out: &mut Printed, state: u32)
-    requires { length out.old + length (state_text state) ≤ MOST }
+fn put_state<const N: usize>(out: &mut Text<N>, state: u32)
+    requires { length out.old + length (state_text state) ≤ N }
     ensures { out.new ≡ out.old ++ state_text state }
 {
     match state {
@@ -52,8 +52,8 @@ fn put_state(out: &mut Printed, state: u32)
 
 // Prints the caller's record.
 #[tactic(auto, using(crate::proofs::TurnsLaws::counts_length, std::proofs::lemmas::Grind::common_steps), unfolding(crate::specs::Script::counts_text))]
-fn put_counts(out: &mut Printed, counts: PatchCounts)
-    requires { length out.old + length (counts_text counts) ≤ MOST }
+fn put_counts<const N: usize>(out: &mut Text<N>, counts: PatchCounts)
+    requires { length out.old + length (counts_text counts) ≤ N }
     ensures { out.new ≡ out.old ++ counts_text counts }
 {
     let fills = FillCounts {
@@ -63,19 +63,19 @@ fn put_counts(out: &mut Printed, counts: PatchCounts)
     };
     put_state(&mut *out, counts.state);
     line_text::lines::put_fills(&mut *out, fills);
-    out.push_number_line(b"patches", counts.patches as u64);
+    out.push_number_line(b"patches", u64::from(counts.patches));
 }
 
 // Prints what comes after the turns: the caller's record and the buffers.
 #[tactic(auto, using(crate::proofs::TurnsLaws::end_length, std::proofs::lemmas::Grind::common_steps), unfolding(crate::specs::Script::end_text))]
-pub(crate) fn put_end(
-    out: &mut Printed,
+pub(crate) fn put_end<const N: usize>(
+    out: &mut Text<N>,
     counts: PatchCounts,
     regions: &[u8],
     pending: &[u8],
     breakpoints: &[u8],
 )
-    requires { length out.old + length (end_text counts regions.now pending.now breakpoints.now) ≤ MOST }
+    requires { length out.old + length (end_text counts regions.now pending.now breakpoints.now) ≤ N }
     ensures { out.new ≡ out.old ++ end_text counts regions.now pending.now breakpoints.now }
 {
     put_counts(&mut *out, counts);

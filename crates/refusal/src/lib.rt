@@ -4,7 +4,6 @@
 ghost use Rattle.std.specs.Prelude.{◌≡◌, ◌<◌, ◌^◌};
 ghost use Rattle.std.specs.Option.{ForSome};
 ghost use Rattle.refusal.specs.Numbers.{zero_location, numbered};
-ghost use Rattle.refusal.specs.Split.{is_negative, size};
 ghost use Rattle.refusal.specs.Verdicts.{layout_verdict, name_verdict};
 
 use record::Location;
@@ -140,22 +139,5 @@ pub fn check_names(buffer: u32, later: Option<usize>) -> Result<(), Refusal>
     match later {
         None => Ok(()),
         Some(place) => Err(Refusal::DuplicateName(buffer, place as u32)),
-    }
-}
-
-// A signed number in two parts: it is `size`, or -1 - `size` if negative.
-#[derive(Clone, Copy)]
-pub struct Parts {
-    pub negative: bool,
-    pub size: u64,
-}
-
-pub fn split(n: i64) -> Parts
-    ensures { (result.negative ≡ is_negative n) × (result.size ≡ size n) × (result.size < 2 ^ 63) }
-{
-    let negative = n.is_negative();
-    Parts {
-        negative,
-        size: n.unsigned_abs() - u64::from(negative),
     }
 }

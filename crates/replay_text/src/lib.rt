@@ -51,8 +51,7 @@ fn is_build_met(call: &[u8]) -> bool
     ensures { result ≡ build_met call.now }
 {
     let mut regions = [0u8; record::LIMIT + 1];
-    let count = input::hold(&mut regions, input::list_of(call, 2));
-    is_built(call, &mut regions[..count])
+    is_built(call, input::hold(&mut regions, input::list_of(call, 2)))
 }
 
 // Makes a stored line's call on these copies of its buffers and counts. Returns whether the answer and the copies come out as stored.
@@ -96,16 +95,12 @@ fn is_line_met(call: &[u8]) -> bool
     let mut pending = [0u8; record::LIMIT + 1];
     let mut breakpoints = [0u8; record::LIMIT + 1];
     let mut counts = [0u8; record::LIMIT + 1];
-    let d = input::hold(&mut data, input::list_of(call, 3));
-    let p = input::hold(&mut pending, input::list_of(call, 4));
-    let b = input::hold(&mut breakpoints, input::list_of(call, 5));
-    let c = input::hold(&mut counts, input::list_of(call, 6));
     is_emitted(
         call,
-        &mut data[..d],
-        &mut pending[..p],
-        &mut breakpoints[..b],
-        &mut counts[..c],
+        input::hold(&mut data, input::list_of(call, 3)),
+        input::hold(&mut pending, input::list_of(call, 4)),
+        input::hold(&mut breakpoints, input::list_of(call, 5)),
+        input::hold(&mut counts, input::list_of(call, 6)),
     )
 }
 
@@ -158,5 +153,5 @@ pub fn replay(input: &[u8], out: &mut Text<MOST_TEXT>)
     let calls = input::word_or_zero(head, 4);
     let tally = tally_of(input, builds as usize, calls as usize);
     out.clear();
-    put_tally(out, calls as u64, tally);
+    put_tally(out, u64::from(calls), tally);
 }

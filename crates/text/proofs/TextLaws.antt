@@ -1,5 +1,6 @@
 -- Text written behind text, text written piece by piece, and the digits of a number. Assumes nothing.
-use Rattle.std.specs.Prelude.{ℕ, zero, suc, ◌+◌, ◌-◌, ◌*◌, ◌/◌, ◌%◌, ◌^◌, ◌≤◌, ◌<◌, min, max, ◌≡◌, refl, List, [], ◌∷◌, ◌++◌, Bool, true, false, ltb, eqb, ℤ, pos, negsuc, length, take, drop, get_or}
+use Rattle.std.specs.Prelude.{ℕ, zero, suc, ◌+◌, ◌-◌, ◌*◌, ◌/◌, ◌%◌, ◌^◌, ◌≤◌, ◌<◌, min, max, ◌≡◌, refl, List, [], ◌∷◌, ◌++◌, Bool, true, false, ltb, eqb, ℤ, pos, negsuc, nat_abs, length, take, drop, get_or}
+use Rattle.std.specs.Int as std
 use Rattle.std.proofs.Math.Nat.{one-le-pow, pow-le-pow_right}
 use Rattle.std.proofs.Common.{pow-suc, mod-eq_of_lt, add-one, arith, sym, ap, ◌∙◌, length-append, length-take, length-drop, drop_of_length-le, drop-cons, length-take-le, ltb-true, ltb-false, lt-ltb, le-ltb, eqb-true, ne_eqb}
 use Rattle.io.specs.Counts.{IsPrefixLen}
@@ -184,6 +185,17 @@ pub signed_below : (z : ℤ) → is_negative z ≡ true → signed_field z ≡ b
 unfolding is_negative size signed_field
 signed_below (pos n) h = cc
 signed_below (negsuc n) h = refl
+
+-- the same by the number's absolute value
+pub positive_is : (z : ℤ) → std.is_negative z ≡ false → signed_field z ≡ field (nat_abs z)
+unfolding signed_field
+positive_is (pos n) h = refl
+positive_is (negsuc n) h = cc
+
+pub negative_is : (z : ℤ) → std.is_negative z ≡ true → signed_field z ≡ bytes_of " -" ++ decimal (nat_abs z)
+unfolding signed_field
+negative_is (pos n) h = absurd (omega (arith, ltb-true n 0 h))
+negative_is (negsuc n) h = rw (add-one n)
 
 -- ---- the most that a number and a refusal take
 pub field_most : (n : ℕ) → length (field n) ≤ 21

@@ -27,7 +27,7 @@ pub fn put_hex(out: &mut [u8], at: usize, n: u32, width: usize) -> usize
     ensures { Put out.old at (last_digits 16 width n) out.new result }
 {
     let mut text = [0u8; 16];
-    let k = io::hex(n as u64, width, &mut text);
+    let k = io::hex(u64::from(n), width, &mut text);
     put_text(out, at, &text[..k])
 }
 
@@ -38,7 +38,7 @@ pub fn put_hex_bytes(out: &mut [u8], at: usize, bytes: &[u8]) -> usize
 {
     let mut end = at;
     for &byte in bytes {
-        end = put_hex(&mut *out, end, byte as u32, 2);
+        end = put_hex(&mut *out, end, u32::from(byte), 2);
     }
     end
 }

@@ -152,17 +152,16 @@ impl<const N: usize> Text<N> {
     }
 
     // Appends a blank and a number, with a minus if it is negative.
-    #[tactic(auto, using(crate::proofs::TextLaws::signed_from, crate::proofs::TextLaws::signed_below, std::proofs::lemmas::Grind::common_steps))]
+    #[tactic(auto, using(crate::proofs::TextLaws::positive_is, crate::proofs::TextLaws::negative_is, std::proofs::lemmas::Grind::common_steps))]
     fn push_signed_field(&mut self, n: i64)
         requires { length self.old + length (signed_field n) ≤ N }
         ensures { self.new ≡ self.old ++ signed_field n }
     {
-        let parts = refusal::split(n);
-        if !parts.negative {
-            self.push_field(parts.size);
-        } else {
+        if n.is_negative() {
             self.push(b" -");
-            self.push_decimal(parts.size + 1);
+            self.push_decimal(n.unsigned_abs());
+        } else {
+            self.push_field(n.unsigned_abs());
         }
     }
 
@@ -170,8 +169,8 @@ impl<const N: usize> Text<N> {
         requires { length self.old + length (location_fields location) ≤ N }
         ensures { self.new ≡ self.old ++ location_fields location }
     {
-        self.push_field(location.source as u64);
-        self.push_field(location.index as u64);
+        self.push_field(u64::from(location.source));
+        self.push_field(u64::from(location.index));
     }
 
     // Appends the line of a refusal: "refused" and number, source, index, a, b.
@@ -182,9 +181,9 @@ impl<const N: usize> Text<N> {
     {
         let n = refusal::numbers(refusal);
         self.push(b"refused");
-        self.push_field(n.number as u64);
+        self.push_field(u64::from(n.number));
         self.push_location(n.location);
         self.push_signed_field(n.a);
-        self.push_last_field(n.b as u64);
+        self.push_last_field(u64::from(n.b));
     }
 }

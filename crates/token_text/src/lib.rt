@@ -1,19 +1,11 @@
 // What `read_text` does (document 02, P7), from its input bytes to the bytes that it prints.
 #![tactic(auto)]
 
-ghost use Rattle.std.specs.Prelude.{◌≡◌, ◌++◌, ◌+◌, ◌≤◌, length, drop};
+ghost use Rattle.std.specs.Prelude.{◌≡◌, ◌++◌, ◌+◌, ◌≤◌, length};
 ghost use Rattle.token_text.specs.TokenText.{tokens_line, read_text_text};
 
 use program::Program;
 use text::{Printed, Text};
-
-// Returns the text, which follows the two numbers.
-fn text_of(input: &[u8]) -> &[u8]
-    ensures { result.now ≡ drop 8 input.now }
-{
-    let start = input.len().min(8);
-    &input[start..]
-}
 
 // Writes a token list as one line.
 pub fn put_tokens<const N: usize>(out: &mut Text<N>, list: &[u8])
@@ -28,7 +20,8 @@ pub fn put_tokens<const N: usize>(out: &mut Text<N>, list: &[u8])
 // Writes what `read_text` prints for an input: the tokens, or the refusal alone. A token buffer over the limit is held as the limit
 // plus one byte: that is enough for its refusal.
 #[tactic(auto, using(text::proofs::TextLaws::refused_most, crate::proofs::TokenTextLaws::held_text, crate::proofs::TokenTextLaws::line_length, crate::proofs::TokenTextLaws::part_held, text_reader::proofs::ReadsBack::fill_within, std::proofs::lemmas::Grind::common_steps), unfolding(crate::specs::TokenText::read_text_text))]
-pub fn read_text(input: &[u8], out: &mut Printed)
+pub fn read_text<const N: usize>(input: &[u8], out: &mut Text<N>)
+    requires { 400000 ≤ N }
     ensures { out.new ≡ read_text_text input.now }
 {
     let source = input::word_or_zero(input, 0);
@@ -37,7 +30,7 @@ pub fn read_text(input: &[u8], out: &mut Printed)
     let room = (asked as usize).min(record::LIMIT + 1);
     let tokens = &mut space[..room];
     out.clear();
-    match text_reader::read_text(text_of(input), source, &mut *tokens) {
+    match text_reader::read_text(input::behind(input, 8), source, &mut *tokens) {
         Ok(fill) => put_tokens(out, &tokens[..fill as usize]),
         Err(refusal) => out.push_refusal(refusal),
     }

@@ -5,7 +5,7 @@ use Rattle.image_text.proofs.put_data.Given as goal
 
 -- behind the text so far stand the lines of the bytes that are left
 abbrev pub invariant-loop-i : goal.invariant-loop-i
-invariant-loop-i l =
+invariant-loop-i g l =
     let rest = chunks_rest l.i-iterator.iter in
     let at = 4 * l.i-iterator.count in
     record {

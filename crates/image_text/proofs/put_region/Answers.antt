@@ -13,18 +13,18 @@ read : (s : List ℕ) (number : ℕ) (r : Region) → r ≡ region_at s (region_
 read s number r e = let n : r.start + r.size - r.start ≡ r.size = omega arith in rw (n, e)
 
 -- where the data stands
-within : (c : After-bytes-list) → (c.args.region.start + c.args.region.size ≤ length c.bytes-list.result.now) × (length c.bytes-list.result.now ≤ 65536)
-within c =
+within : (g : _) (c : After-bytes-list g) → (c.args.region.start + c.args.region.size ≤ length c.bytes-list.result.now) × (length c.bytes-list.result.now ≤ 65536)
+within g c =
     let l = c.bytes-list.ensures in
     rw (c.requires.region_value, l.value) (region_within c.args.regions.now c.args.number l.layout c.requires.number_bound, (region_good c.args.regions.now l.layout).0)
 
 pub slice_bounds-put_data-end : goal.slice_bounds-put_data-end
-slice_bounds-put_data-end c = let w = within (goal.at.slice_bounds-put_data-end c).After-bytes-list in search rules
+slice_bounds-put_data-end g c = let w = within g (goal.at.slice_bounds-put_data-end g c).After-bytes-list in search rules
 
 pub put_data-requires-clause-data_len_bound : goal.put_data-requires-clause-data_len_bound
-put_data-requires-clause-data_len_bound c = let w = within (goal.at.put_data-requires-clause-data_len_bound c).After-bytes-list in simp length-take (omega arith)
+put_data-requires-clause-data_len_bound g c = let w = within g (goal.at.put_data-requires-clause-data_len_bound g c).After-bytes-list in simp length-take (omega arith)
 
 pub put_data-requires-clause-data_in_bounds : goal.put_data-requires-clause-data_in_bounds
-put_data-requires-clause-data_in_bounds c =
+put_data-requires-clause-data_in_bounds g c =
     rw c.bytes-list.ensures.value
     (omega (arith, length-append {A = ℕ}, ap length (read c.args.regions.now c.args.number c.args.region c.requires.region_value), ap length c.put_region_line.ensures, c.requires.number_in_bounds))

@@ -11,56 +11,56 @@ use Rattle.image_text.proofs.put_regions.Goals as goal
 use Rattle.image_text.proofs.put_regions.Goals.{In-Some, After-into_iter-number-iterator}
 
 -- the place of the turn is that of the number
-taken : (c : In-Some) → Turn c.args.regions.now c.in-Some.number c.in-Some.at (places_left c.next.new.self.iter)
-taken c = numbered_turn c.args.regions.now _ _ _ (cc) (cc) c.loop-number.yielded_by c.in-Some.ensures.steps.0 c.in-Some.ensures.steps.1
+taken : (g : _) (c : In-Some g) → Turn c.args.regions.now c.in-Some.number c.in-Some.at (places_left c.next.new.self.iter)
+taken g c = numbered_turn c.args.regions.now _ _ _ (cc) (cc) c.loop-number.yielded_by c.in-Some.ensures.steps.0 c.in-Some.ensures.steps.1
 
 -- the text of its region, and then of the others
-turn : (c : In-Some) → let l = c.loop-number in
+turn : (g : _) (c : In-Some g) → let l = c.loop-number in
     let s = c.args.regions.now in
     l.out ++ (region_text c.in-Some.number (image_region s (region_place s c.in-Some.number)) ++ left_text s (c.in-Some.number + 1) (places_left c.next.new.self.iter))
     ≡ c.args.out.now ++ regions_text 0 (image_of s)
-turn c =
+turn g c =
     let s = c.args.regions.now in
     let t = c.in-Some.ensures.steps in
     let e = left_next s c.loop-number.number-iterator.count c.in-Some.at (places_left c.next.new.self.iter) in
-    rw (← place_taken _ _ _ _ (taken c), t.1) (rw (t.0, e) at c.loop-number.invariant)
+    rw (← place_taken _ _ _ _ (taken g c), t.1) (rw (t.0, e) at c.loop-number.invariant)
 
 -- the loop begins with all places
-begins : (c : After-into_iter-number-iterator) → let it = c.into_iter-number-iterator.result in (it.count ≡ 0) × (places_left it.iter ≡ places c.args.regions.now)
-begins c = (cc, cc)
+begins : (g : _) (c : After-into_iter-number-iterator g) → let it = c.into_iter-number-iterator.result in (it.count ≡ 0) × (places_left it.iter ≡ places c.args.regions.now)
+begins g c = (cc, cc)
 
 pub loop-number-init-derived : goal.loop-number-init-derived
-loop-number-init-derived c =
-    let b = begins (goal.at.loop-number-init-derived c).After-into_iter-number-iterator in
+loop-number-init-derived g c =
+    let b = begins g (goal.at.loop-number-init-derived g c).After-into_iter-number-iterator in
     let few = (region_good c.args.regions.now c.places.ensures.layout).3 in
     ((tt, tt, inl (omega (arith, b.0, ap length b.1, few))), tt)
 
 pub loop-number-init : goal.loop-number-init
-loop-number-init c =
-    let b = begins (goal.at.loop-number-init c).After-into_iter-number-iterator in
+loop-number-init g c =
+    let b = begins g (goal.at.loop-number-init g c).After-into_iter-number-iterator in
     rw (b.0, b.1, left_all c.args.regions.now) refl
 
 pub region_at-requires : goal.region_at-requires
-region_at-requires c = region_taken _ _ _ _ c.places.ensures.layout (taken (goal.at.region_at-requires c).In-Some)
+region_at-requires g c = region_taken _ _ _ _ c.places.ensures.layout (taken g (goal.at.region_at-requires g c).In-Some)
 
 pub put_region-requires-clause-number_bound : goal.put_region-requires-clause-number_bound
-put_region-requires-clause-number_bound c = (taken (goal.at.put_region-requires-clause-number_bound c).In-Some).numbered
+put_region-requires-clause-number_bound g c = (taken g (goal.at.put_region-requires-clause-number_bound g c).In-Some).numbered
 
 pub put_region-requires-clause-region_value : goal.put_region-requires-clause-region_value
-put_region-requires-clause-region_value c =
-    c.region_at.ensures ∙ ap (region_at c.args.regions.now) (place_taken _ _ _ _ (taken (goal.at.put_region-requires-clause-region_value c).In-Some))
+put_region-requires-clause-region_value g c =
+    c.region_at.ensures ∙ ap (region_at c.args.regions.now) (place_taken _ _ _ _ (taken g (goal.at.put_region-requires-clause-region_value g c).In-Some))
 
 pub put_region-requires-clause-number_in_bounds : goal.put_region-requires-clause-number_in_bounds
-put_region-requires-clause-number_in_bounds c =
-    omega (arith, length-append {A = ℕ}, ap length (turn (goal.at.put_region-requires-clause-number_in_bounds c).In-Some), c.requires)
+put_region-requires-clause-number_in_bounds g c =
+    omega (arith, length-append {A = ℕ}, ap length (turn g (goal.at.put_region-requires-clause-number_in_bounds g c).In-Some), c.requires)
 
 pub loop-number-preserved : goal.loop-number-preserved
-loop-number-preserved c =
-    let e = turn (goal.at.loop-number-preserved c).In-Some in
+loop-number-preserved g c =
+    let e = turn g (goal.at.loop-number-preserved g c).In-Some in
     let behind : c.next.new.self.count ≡ c.in-Some.number + 1 = omega (arith, c.in-Some.ensures.steps.1, c.in-Some.ensures.steps.2) in
     rw (c.put_region.ensures, behind) (append_assoc c.loop-number.out _ _ ∙ e)
 
 pub returns : goal.returns
-returns c =
+returns g c =
     let l = c.loop-number in
     sym (append-nil l.out) ∙ rw (c.in-None.ensures.steps.0.0, left_none) at l.invariant

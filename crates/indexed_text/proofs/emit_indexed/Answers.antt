@@ -3,7 +3,7 @@ use Rattle.std.proofs.Common.{◌≡◌, ℕ, List, length, sym, ap, arith, ◌�
 use Rattle.emit_outcome.specs.Call.{Lent, lent_of}
 use Rattle.indexed_outcome.specs.Indexed.{indexed_outcome_of}
 use Rattle.input.specs.Input.{held}
-use Rattle.input.proofs.InputLaws.{held_is}
+use Rattle.input.proofs.InputLaws.{held_in}
 use Rattle.indexed_text.specs.IndexedText.{outcome_text, call_text, emit_indexed_text}
 use Rattle.indexed_text.proofs.IndexedTextLaws.{outcome_most}
 use Rattle.indexed_text.proofs.emit_indexed.Goals as goal
@@ -14,25 +14,26 @@ text_by : (text : Lent → List ℕ → List ℕ) (out d p b i d' p' b' i' : Lis
 text_by text out d p b i d' p' b' i' hd hp hb hi h = rw (← hd, ← hp, ← hb, ← hi) h
 
 pub put_emitted-requires : goal.put_emitted-requires
-put_emitted-requires c =
+put_emitted-requires g c =
     let m = c.make_call-emitted in
-    let d = held_is c.list_of.result.now _ _ c.hold-d.ensures.value c.hold-d.ensures.space_after in
-    let p = held_is c.list_of-2.result.now _ _ c.hold-p.ensures.value c.hold-p.ensures.space_after in
-    let b = held_is c.list_of-3.result.now _ _ c.hold-b.ensures.value c.hold-b.ensures.space_after in
-    let u = held_is c.list_of-4.result.now _ _ c.hold-u.ensures.value c.hold-u.ensures.space_after in
+    let d = held_in c.list_of.result.now _ c.hold-data.ensures in
+    let p = held_in c.list_of-2.result.now _ c.hold-pending.ensures in
+    let b = held_in c.list_of-3.result.now _ c.hold-breakpoints.ensures in
+    let u = held_in c.list_of-4.result.now _ c.hold-index.ensures in
     let o = indexed_outcome_of m.result.answer m.result.counts (lent_of m.new.data m.new.pending m.new.breakpoints) m.new.index in
     omega (
       arith,
       ap length c.clear.ensures,
       outcome_most o (omega (arith, m.auto.data, d.most)) (omega (arith, m.auto.pending, p.most)) (omega (arith, m.auto.breakpoints, b.most)) (omega (arith, m.auto.index, u.most)),
+      c.requires,
     )
 
 pub returns : goal.returns
 unfolding emit_indexed_text
-returns c =
+returns g c =
     text_by (call_text c.args.input.now) _ _ _ _ _ _ _ _ _
-    ((held_is c.list_of.result.now _ _ c.hold-d.ensures.value c.hold-d.ensures.space_after).bytes ∙ ap held c.list_of.ensures)
-    ((held_is c.list_of-2.result.now _ _ c.hold-p.ensures.value c.hold-p.ensures.space_after).bytes ∙ ap held c.list_of-2.ensures)
-    ((held_is c.list_of-3.result.now _ _ c.hold-b.ensures.value c.hold-b.ensures.space_after).bytes ∙ ap held c.list_of-3.ensures)
-    ((held_is c.list_of-4.result.now _ _ c.hold-u.ensures.value c.hold-u.ensures.space_after).bytes ∙ ap held c.list_of-4.ensures)
+    ((held_in c.list_of.result.now _ c.hold-data.ensures).bytes ∙ ap held c.list_of.ensures)
+    ((held_in c.list_of-2.result.now _ c.hold-pending.ensures).bytes ∙ ap held c.list_of-2.ensures)
+    ((held_in c.list_of-3.result.now _ c.hold-breakpoints.ensures).bytes ∙ ap held c.list_of-3.ensures)
+    ((held_in c.list_of-4.result.now _ c.hold-index.ensures).bytes ∙ ap held c.list_of-4.ensures)
     (rw c.clear.ensures at c.put_emitted.ensures ∙ ap outcome_text (sym c.make_call-emitted.ensures.outcome_is))

@@ -1,9 +1,5 @@
-use Rattle.std.proofs.Common.{sym, ◌∙◌, arith}
-use Rattle.input.proofs.InputLaws.{half_there, half_missing}
+use Rattle.input.proofs.InputLaws.{half_from}
 use Rattle.input.proofs.half_or_zero.Goals as goal
 
-pub returns-then-at-input : goal.returns-then-at-input
-returns-then-at-input c = sym (half_missing _ _ (omega arith))
-
 pub returns : goal.returns
-returns c = c.half_at.ensures.0 ∙ sym (half_there _ _ (omega arith))
+returns c = half_from c.args.input.now c.args.at c.bytes_at.result c.map_or.result c.bytes_at.ensures c.map_or.ensures

@@ -1,9 +1,5 @@
-use Rattle.std.proofs.Common.{sym, ◌∙◌, arith}
-use Rattle.input.proofs.InputLaws.{word_there, word_missing}
+use Rattle.input.proofs.InputLaws.{word_from}
 use Rattle.input.proofs.word_or_zero.Goals as goal
 
-pub returns-then-at-input : goal.returns-then-at-input
-returns-then-at-input c = sym (word_missing _ _ (omega arith))
-
 pub returns : goal.returns
-returns c = c.word_at.ensures ∙ sym (word_there _ _ (omega arith))
+returns c = word_from c.args.input.now c.args.at c.bytes_at.result c.map_or.result c.bytes_at.ensures c.map_or.ensures

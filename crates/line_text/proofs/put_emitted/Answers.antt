@@ -5,4 +5,4 @@ use Rattle.line_text.proofs.put_emitted.Goals as goal
 
 pub returns : goal.returns
 unfolding outcome_text
-returns c = simp (c.push_bytes-3.ensures, c.push_bytes-2.ensures, c.push_bytes.ensures, c.put_head.ensures, append_assoc)
+returns g c = simp (c.push_bytes-3.ensures, c.push_bytes-2.ensures, c.push_bytes.ensures, c.put_head.ensures, append_assoc)

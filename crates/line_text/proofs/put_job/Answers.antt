@@ -2,7 +2,7 @@
 use Rattle.std.proofs.Common.{◌≡◌, ℕ, List, length, sym, ap, arith, ◌∙◌}
 use Rattle.emit_outcome.specs.Call.{Lent, lent_of, outcome_of}
 use Rattle.input.specs.Input.{held}
-use Rattle.input.proofs.InputLaws.{held_is}
+use Rattle.input.proofs.InputLaws.{held_in}
 use Rattle.line_text.specs.Line.{outcome_text, call_text, job_text}
 use Rattle.line_text.proofs.LineLaws.{outcome_most}
 use Rattle.line_text.proofs.put_job.Goals as goal
@@ -12,19 +12,19 @@ text_by : (text : Lent → List ℕ) (out d p b d' p' b' : List ℕ) → d ≡ d
 text_by text out d p b d' p' b' hd hp hb h = rw (← hd, ← hp, ← hb) h
 
 pub put_emitted-requires : goal.put_emitted-requires
-put_emitted-requires c =
+put_emitted-requires g c =
     let m = c.make_call-emitted in
-    let d = held_is c.list_of.result.now _ _ c.hold-d.ensures.value c.hold-d.ensures.space_after in
-    let p = held_is c.list_of-2.result.now _ _ c.hold-p.ensures.value c.hold-p.ensures.space_after in
-    let b = held_is c.list_of-3.result.now _ _ c.hold-b.ensures.value c.hold-b.ensures.space_after in
+    let d = held_in c.list_of.result.now _ c.hold-data.ensures in
+    let p = held_in c.list_of-2.result.now _ c.hold-pending.ensures in
+    let b = held_in c.list_of-3.result.now _ c.hold-breakpoints.ensures in
     let o = outcome_of m.result.answer m.result.counts (lent_of m.new.data m.new.pending m.new.breakpoints) in
-    omega (arith, ap length c.clear.ensures, outcome_most o (omega (arith, m.auto.data, d.most)) (omega (arith, m.auto.pending, p.most)) (omega (arith, m.auto.breakpoints, b.most)))
+    omega (arith, ap length c.clear.ensures, outcome_most o (omega (arith, m.auto.data, d.most)) (omega (arith, m.auto.pending, p.most)) (omega (arith, m.auto.breakpoints, b.most)), c.requires)
 
 pub returns : goal.returns
 unfolding job_text
-returns c =
+returns g c =
     text_by (call_text c.args.job c.args.input.now) _ _ _ _ _ _ _
-    ((held_is c.list_of.result.now _ _ c.hold-d.ensures.value c.hold-d.ensures.space_after).bytes ∙ ap held c.list_of.ensures)
-    ((held_is c.list_of-2.result.now _ _ c.hold-p.ensures.value c.hold-p.ensures.space_after).bytes ∙ ap held c.list_of-2.ensures)
-    ((held_is c.list_of-3.result.now _ _ c.hold-b.ensures.value c.hold-b.ensures.space_after).bytes ∙ ap held c.list_of-3.ensures)
+    ((held_in c.list_of.result.now _ c.hold-data.ensures).bytes ∙ ap held c.list_of.ensures)
+    ((held_in c.list_of-2.result.now _ c.hold-pending.ensures).bytes ∙ ap held c.list_of-2.ensures)
+    ((held_in c.list_of-3.result.now _ c.hold-breakpoints.ensures).bytes ∙ ap held c.list_of-3.ensures)
     (rw c.clear.ensures at c.put_emitted.ensures ∙ ap outcome_text (sym c.make_call-emitted.ensures.outcome_is))

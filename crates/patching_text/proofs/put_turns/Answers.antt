@@ -22,17 +22,17 @@ no_turn : (s : List ℕ) (r : Option (Bor ℕ)) → option_copied r ≡ slice_ge
 no_turn s r e f = no_byte s (sym (ap (λ (o : Option (Bor ℕ)). option_copied o) f) ∙ e)
 
 pub loop-preserved : goal.loop-preserved
-loop-preserved c =
+loop-preserved g c =
     rw c.behind_turn-rest.ensures
     (here_then c.loop.invariant (omega arith) (omega (arith, turn_is c.loop.rest.now c.first.result c.in-Some.field-0 c.first.ensures.value c.in-Some.is, c.if-turn-gt-LINE.false)) _ _ c.do_turn-counts.ensures)
 
 pub returns-after-loop-clause-text : goal.returns-after-loop-clause-text
-returns-after-loop-clause-text c = here_full c.loop.invariant (omega arith)
+returns-after-loop-clause-text g c = here_full c.loop.invariant (omega arith)
 
 pub returns-then-turn-gt-LINE-clause-text : goal.returns-then-turn-gt-LINE-clause-text
-returns-then-turn-gt-LINE-clause-text c =
+returns-then-turn-gt-LINE-clause-text g c =
     here_over c.loop.invariant (omega (arith, turn_is c.loop.rest.now c.first.result c.in-Some.field-0 c.first.ensures.value c.in-Some.is, c.if-turn-gt-LINE.true))
 
 pub returns-in_default-clause-text : goal.returns-in_default-clause-text
-returns-in_default-clause-text c =
+returns-in_default-clause-text g c =
     here_over c.loop.invariant (omega (arith, no_turn c.loop.rest.now c.first.result c.first.ensures.value c.in_default.is))

@@ -4,4 +4,4 @@ use Rattle.image_text.proofs.lines.put_entry.Goals as goal
 
 pub returns : goal.returns
 unfolding entry_line
-returns c = rw (c.push_byte.ensures, c.push_hex.ensures, c.push.ensures) (simp append_assoc)
+returns g c = rw (c.push_byte.ensures, c.push_hex.ensures, c.push.ensures) (simp append_assoc)

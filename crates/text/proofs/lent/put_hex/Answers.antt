@@ -7,7 +7,7 @@ use Rattle.text.proofs.lent.put_hex.Goals.{After-hex-k}
 count_is : (c : After-hex-k) → c.hex-k.result ≡ c.args.width
 count_is c =
     let p = c.requires.width_nonzero in
-    width_fits c.args.width c.args.n c.hex-k.result p.0 p.1 p.2 c.hex-k.ensures.len
+    width_fits c.args.width c.args.n c.hex-k.result p.0 p.1 p.2 (rw c.from.ensures at c.hex-k.ensures.len)
 
 pub put_text-requires : goal.put_text-requires
 put_text-requires c =
@@ -15,4 +15,4 @@ put_text-requires c =
     simp length-take (omega arith)
 
 pub returns : goal.returns
-returns c = rw (c.hex-k.ensures.digits, count_is (goal.at.returns c).After-hex-k) at c.put_text.ensures
+returns c = rw (c.hex-k.ensures.digits, count_is (goal.at.returns c).After-hex-k, c.from.ensures) at c.put_text.ensures

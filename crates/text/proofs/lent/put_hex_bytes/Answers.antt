@@ -25,7 +25,7 @@ loop-byte-preserved c =
     let b = c.args.bytes.now in
     let l = c.loop-byte in (
       omega arith,
-      left_next l.out l.end (last_digits 16 2 (get_or b l.byte-index 0)) (hex_bytes (drop (l.byte-index + 1) b)) _ _ (turn (goal.at.loop-byte-preserved c).In-loop-byte) c.put_hex-end.ensures,
+      left_next l.out l.end (last_digits 16 2 (get_or b l.byte-index 0)) (hex_bytes (drop (l.byte-index + 1) b)) _ _ (turn (goal.at.loop-byte-preserved c).In-loop-byte) (rw c.from.ensures at c.put_hex-end.ensures),
     )
 
 pub returns : goal.returns
