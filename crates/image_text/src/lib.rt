@@ -26,7 +26,12 @@ fn put_data<const N: usize>(out: &mut Text<N>, address: u32, data: &[u8])
 }
 
 // Appends the region with this number.
-fn put_region<const N: usize>(out: &mut Text<N>, regions: &Regions<'_>, number: usize, region: Region)
+fn put_region<const N: usize>(
+    out: &mut Text<N>,
+    regions: &Regions<'_>,
+    number: usize,
+    region: Region,
+)
     requires number_bound { number < region_count regions.now }
     requires region_value { region ≡ region_at regions.now (region_place regions.now number) }
     requires number_in_bounds { length out.old + length (region_text number (image_region regions.now (region_place regions.now number))) ≤ N }

@@ -1,3 +1,2 @@
-pub mod ByteLaws
 pub mod FromLaws
 pub mod OrderLaws

@@ -14,19 +14,6 @@ fn high_first(s: &[u8; 8]) -> u64
     u64::from_be_bytes(*s)
 }
 
-// Compares two names byte by byte. For fewer than eight bytes this is quicker than the library's call.
-fn compare_bytes(a: &[u8], b: &[u8]) -> Ordering
-    ensures { result ≡ order a.now b.now }
-{
-    for (x, y) in a.iter().zip(b) {
-        let found = x.cmp(y);
-        if found.is_ne() {
-            return found;
-        }
-    }
-    a.len().cmp(&b.len())
-}
-
 // Compares two names by the first byte in which they differ; a prefix goes first. Reads eight bytes at a time, as names often begin alike.
 pub fn compare(a: &[u8], b: &[u8]) -> Ordering
     ensures { result ≡ order a.now b.now }
@@ -43,5 +30,5 @@ pub fn compare(a: &[u8], b: &[u8]) -> Ordering
         a = a_rest;
         b = b_rest;
     }
-    compare_bytes(a, b)
+    a.cmp(b)
 }

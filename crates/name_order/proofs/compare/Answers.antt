@@ -1,5 +1,5 @@
 use Rattle.std.proofs.Common.{sym, ◌∙◌}
-use Rattle.name_order.proofs.OrderLaws.{eight_differ, eight_same}
+use Rattle.name_order.proofs.OrderLaws.{order_cmp, eight_differ, eight_same}
 use Rattle.name_order.proofs.compare.Goals as goal
 
 pub returns-then-is_ne : goal.returns-then-is_ne
@@ -13,4 +13,4 @@ loop-x-preserved c =
     c.loop-x.invariant ∙ eight_same _ _ _ _ _ _ i.ensures.cases i.ensures'.cases c.high_first.ensures.1 c.high_first-in-Some-Some.ensures.1 c.cmp-found.result (cc) (cc)
 
 pub returns : goal.returns
-returns c = c.compare_bytes.ensures ∙ sym c.loop-x.invariant
+returns c = c.cmp.ensures ∙ order_cmp _ _ ∙ sym c.loop-x.invariant
