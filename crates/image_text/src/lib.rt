@@ -70,7 +70,7 @@ fn put_input<const N: usize>(job: Job, input: &[u8], out: &mut Text<N>)
     ensures { out.new ≡ finish_text_by job input.now }
 {
     let mut space = [0u8; record::LIMIT + 1];
-    let regions = input::hold(&mut space, input::list_of(input, 2));
+    let regions = input::hold_in(&mut space, input::list_of(input, 2));
     let labels = input::list_of(input, 0);
     let entry = input::list_of(input, 1);
     let pending = input::list_of(input, 3);

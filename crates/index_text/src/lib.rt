@@ -25,7 +25,7 @@ pub fn make_index<const N: usize>(input: &[u8], out: &mut Text<N>)
     ensures { out.new ≡ make_index_text input.now }
 {
     let mut space = [0u8; record::LIMIT + 1];
-    let index = input::hold(&mut space, input::list_of(input, 2));
+    let index = input::hold_in(&mut space, input::list_of(input, 2));
     let fill = input::word_or_zero(input::behind_lists(input, 3), 0);
     let pending = input::list_of(input, 0);
     let labels = input::list_of(input, 1);

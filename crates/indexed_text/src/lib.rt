@@ -116,10 +116,10 @@ pub fn emit_indexed<const N: usize>(input: &[u8], out: &mut Text<N>)
     let mut pending = [0u8; record::LIMIT + 1];
     let mut breakpoints = [0u8; record::LIMIT + 1];
     let mut index = [0u8; record::LIMIT + 1];
-    let data = input::hold(&mut data, input::list_of(input, 3));
-    let pending = input::hold(&mut pending, input::list_of(input, 4));
-    let breakpoints = input::hold(&mut breakpoints, input::list_of(input, 5));
-    let index = input::hold(&mut index, input::list_of(input, 7));
+    let data = input::hold_in(&mut data, input::list_of(input, 3));
+    let pending = input::hold_in(&mut pending, input::list_of(input, 4));
+    let breakpoints = input::hold_in(&mut breakpoints, input::list_of(input, 5));
+    let index = input::hold_in(&mut index, input::list_of(input, 7));
     let emitted = make_call(
         input,
         &mut *data,

@@ -87,7 +87,7 @@ pub fn byte_or_zero(input: &[u8], at: usize) -> u8
 }
 
 // Copies as much of the list as fits into `space`, and returns the part of `space` that holds it.
-pub fn hold<'a>(space: &'a mut [u8], list: &[u8]) -> &'a mut [u8]
+pub fn hold_in<'a>(space: &'a mut [u8], list: &[u8]) -> &'a mut [u8]
     ensures { result.now ≡ take (length space.old) list.now }
 {
     let count = list.len().min(space.len());

@@ -101,9 +101,9 @@ fn put_job<const N: usize>(job: Job, input: &[u8], out: &mut Text<N>)
     let mut data = [0u8; record::LIMIT + 1];
     let mut pending = [0u8; record::LIMIT + 1];
     let mut breakpoints = [0u8; record::LIMIT + 1];
-    let data = input::hold(&mut data, input::list_of(input, 3));
-    let pending = input::hold(&mut pending, input::list_of(input, 4));
-    let breakpoints = input::hold(&mut breakpoints, input::list_of(input, 5));
+    let data = input::hold_in(&mut data, input::list_of(input, 3));
+    let pending = input::hold_in(&mut pending, input::list_of(input, 4));
+    let breakpoints = input::hold_in(&mut breakpoints, input::list_of(input, 5));
     let emitted = make_call(job, input, &mut *data, &mut *pending, &mut *breakpoints);
     out.clear();
     put_emitted(out, emitted, data, pending, breakpoints);

@@ -201,9 +201,9 @@ fn put_job<const N: usize>(job: Job, input: &[u8], out: &mut Text<N>)
     let mut pending = [0u8; record::LIMIT + 1];
     let mut breakpoints = [0u8; record::LIMIT + 1];
     let mut kept = [0u8; KEPT];
-    let regions = input::hold(&mut regions, input::list_of(input, 3));
-    let pending = input::hold(&mut pending, input::list_of(input, 4));
-    let breakpoints = input::hold(&mut breakpoints, input::list_of(input, 5));
+    let regions = input::hold_in(&mut regions, input::list_of(input, 3));
+    let pending = input::hold_in(&mut pending, input::list_of(input, 4));
+    let breakpoints = input::hold_in(&mut breakpoints, input::list_of(input, 5));
     let numbers = input::behind_lists(input, 6);
     let setup = Setup {
         job,

@@ -51,7 +51,7 @@ fn is_build_met(call: &[u8]) -> bool
     ensures { result ≡ build_met call.now }
 {
     let mut regions = [0u8; record::LIMIT + 1];
-    is_built(call, input::hold(&mut regions, input::list_of(call, 2)))
+    is_built(call, input::hold_in(&mut regions, input::list_of(call, 2)))
 }
 
 // Makes a stored line's call on these copies of its buffers and counts. Returns whether the answer and the copies come out as stored.
@@ -97,10 +97,10 @@ fn is_line_met(call: &[u8]) -> bool
     let mut counts = [0u8; record::LIMIT + 1];
     is_emitted(
         call,
-        input::hold(&mut data, input::list_of(call, 3)),
-        input::hold(&mut pending, input::list_of(call, 4)),
-        input::hold(&mut breakpoints, input::list_of(call, 5)),
-        input::hold(&mut counts, input::list_of(call, 6)),
+        input::hold_in(&mut data, input::list_of(call, 3)),
+        input::hold_in(&mut pending, input::list_of(call, 4)),
+        input::hold_in(&mut breakpoints, input::list_of(call, 5)),
+        input::hold_in(&mut counts, input::list_of(call, 6)),
     )
 }
 

@@ -17,7 +17,7 @@ good g c = built_layout _ _ _ _ _ c.build_for.ensures c.in-Ok.address c.in-Ok.is
 -- what the outcome prints
 printed : (g : _) (c : After-build_for g) → outcome_text c.build_for.result c.build_for.new.regions ≡ finish_text_by c.args.job c.args.input.now
 printed g c =
-    let h : c.hold-regions.result.now ≡ held (list_of 2 c.args.input.now) = (held_in _ _ c.hold-regions.ensures).bytes ∙ ap held c.list_of.ensures in
+    let h : c.hold_in-regions.result.now ≡ held (list_of 2 c.args.input.now) = (held_in _ _ c.hold_in-regions.ensures).bytes ∙ ap held c.list_of.ensures in
     built_text _ _ _ _ _ c.build_for.ensures c.args.input.now c.list_of-labels.ensures c.list_of-entry.ensures h c.list_of-pending.ensures
 
 pub new-requires : goal.new-requires

@@ -16,10 +16,10 @@ text_by text out d p b i d' p' b' i' hd hp hb hi h = rw (← hd, ← hp, ← hb,
 pub put_emitted-requires : goal.put_emitted-requires
 put_emitted-requires g c =
     let m = c.make_call-emitted in
-    let d = held_in c.list_of.result.now _ c.hold-data.ensures in
-    let p = held_in c.list_of-2.result.now _ c.hold-pending.ensures in
-    let b = held_in c.list_of-3.result.now _ c.hold-breakpoints.ensures in
-    let u = held_in c.list_of-4.result.now _ c.hold-index.ensures in
+    let d = held_in c.list_of.result.now _ c.hold_in-data.ensures in
+    let p = held_in c.list_of-2.result.now _ c.hold_in-pending.ensures in
+    let b = held_in c.list_of-3.result.now _ c.hold_in-breakpoints.ensures in
+    let u = held_in c.list_of-4.result.now _ c.hold_in-index.ensures in
     let o = indexed_outcome_of m.result.answer m.result.counts (lent_of m.new.data m.new.pending m.new.breakpoints) m.new.index in
     omega (
       arith,
@@ -32,8 +32,8 @@ pub returns : goal.returns
 unfolding emit_indexed_text
 returns g c =
     text_by (call_text c.args.input.now) _ _ _ _ _ _ _ _ _
-    ((held_in c.list_of.result.now _ c.hold-data.ensures).bytes ∙ ap held c.list_of.ensures)
-    ((held_in c.list_of-2.result.now _ c.hold-pending.ensures).bytes ∙ ap held c.list_of-2.ensures)
-    ((held_in c.list_of-3.result.now _ c.hold-breakpoints.ensures).bytes ∙ ap held c.list_of-3.ensures)
-    ((held_in c.list_of-4.result.now _ c.hold-index.ensures).bytes ∙ ap held c.list_of-4.ensures)
+    ((held_in c.list_of.result.now _ c.hold_in-data.ensures).bytes ∙ ap held c.list_of.ensures)
+    ((held_in c.list_of-2.result.now _ c.hold_in-pending.ensures).bytes ∙ ap held c.list_of-2.ensures)
+    ((held_in c.list_of-3.result.now _ c.hold_in-breakpoints.ensures).bytes ∙ ap held c.list_of-3.ensures)
+    ((held_in c.list_of-4.result.now _ c.hold_in-index.ensures).bytes ∙ ap held c.list_of-4.ensures)
     (rw c.clear.ensures at c.put_emitted.ensures ∙ ap outcome_text (sym c.make_call-emitted.ensures.outcome_is))

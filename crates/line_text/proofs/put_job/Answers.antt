@@ -14,9 +14,9 @@ text_by text out d p b d' p' b' hd hp hb h = rw (← hd, ← hp, ← hb) h
 pub put_emitted-requires : goal.put_emitted-requires
 put_emitted-requires g c =
     let m = c.make_call-emitted in
-    let d = held_in c.list_of.result.now _ c.hold-data.ensures in
-    let p = held_in c.list_of-2.result.now _ c.hold-pending.ensures in
-    let b = held_in c.list_of-3.result.now _ c.hold-breakpoints.ensures in
+    let d = held_in c.list_of.result.now _ c.hold_in-data.ensures in
+    let p = held_in c.list_of-2.result.now _ c.hold_in-pending.ensures in
+    let b = held_in c.list_of-3.result.now _ c.hold_in-breakpoints.ensures in
     let o = outcome_of m.result.answer m.result.counts (lent_of m.new.data m.new.pending m.new.breakpoints) in
     omega (arith, ap length c.clear.ensures, outcome_most o (omega (arith, m.auto.data, d.most)) (omega (arith, m.auto.pending, p.most)) (omega (arith, m.auto.breakpoints, b.most)), c.requires)
 
@@ -24,7 +24,7 @@ pub returns : goal.returns
 unfolding job_text
 returns g c =
     text_by (call_text c.args.job c.args.input.now) _ _ _ _ _ _ _
-    ((held_in c.list_of.result.now _ c.hold-data.ensures).bytes ∙ ap held c.list_of.ensures)
-    ((held_in c.list_of-2.result.now _ c.hold-pending.ensures).bytes ∙ ap held c.list_of-2.ensures)
-    ((held_in c.list_of-3.result.now _ c.hold-breakpoints.ensures).bytes ∙ ap held c.list_of-3.ensures)
+    ((held_in c.list_of.result.now _ c.hold_in-data.ensures).bytes ∙ ap held c.list_of.ensures)
+    ((held_in c.list_of-2.result.now _ c.hold_in-pending.ensures).bytes ∙ ap held c.list_of-2.ensures)
+    ((held_in c.list_of-3.result.now _ c.hold_in-breakpoints.ensures).bytes ∙ ap held c.list_of-3.ensures)
     (rw c.clear.ensures at c.put_emitted.ensures ∙ ap outcome_text (sym c.make_call-emitted.ensures.outcome_is))

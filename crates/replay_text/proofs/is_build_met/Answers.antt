@@ -7,5 +7,5 @@ use Rattle.replay_text.proofs.is_build_met.Goals as goal
 pub returns : goal.returns
 returns c =
     let s = c.args.call.now in
-    let h : c.hold.result.now ≡ held (list_of 2 s) = (held_in _ _ c.hold.ensures).bytes ∙ ap held c.list_of.ensures in
+    let h : c.hold_in.result.now ≡ held (list_of 2 s) = (held_in _ _ c.hold_in.ensures).bytes ∙ ap held c.list_of.ensures in
     c.is_built.ensures ∙ ap (built_met s) h

@@ -11,8 +11,8 @@ holds n s f g = (held_in _ _ f).bytes ∙ ap held g
 pub returns : goal.returns
 returns c =
     let s = c.args.call.now in
-    let d = holds 3 s c.hold.ensures c.list_of.ensures in
-    let p = holds 4 s c.hold-2.ensures c.list_of-2.ensures in
-    let b = holds 5 s c.hold-3.ensures c.list_of-3.ensures in
-    let n = holds 6 s c.hold-4.ensures c.list_of-4.ensures in
+    let d = holds 3 s c.hold_in.ensures c.list_of.ensures in
+    let p = holds 4 s c.hold_in-2.ensures c.list_of-2.ensures in
+    let b = holds 5 s c.hold_in-3.ensures c.list_of-3.ensures in
+    let n = holds 6 s c.hold_in-4.ensures c.list_of-4.ensures in
     line_held s _ _ _ _ _ d p b n c.is_emitted.ensures
