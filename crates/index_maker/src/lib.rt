@@ -6,7 +6,6 @@ ghost use Rattle.record.specs.Records.{limit};
 ghost use Rattle.label_uses.specs.UseBytes.{index_of};
 ghost use Rattle.indexed_outcome.specs.Make.{make_layouts, room_for, make_by, make_outcome, made_of};
 
-use record::Location;
 use refusal::Refusal;
 use use_adding::{LabelIndex, Pendings};
 
@@ -23,11 +22,7 @@ fn check_layouts(pending: &[u8], fill: usize, labels: &[u8], index: &[u8]) -> Re
 fn no_space() -> Result<u32, Refusal>
     ensures { result ≡ Err (Refusal.NoIndexSpace (record { source = 0; index = 0 })) }
 {
-    let nowhere = Location {
-        source: 0,
-        index: 0,
-    };
-    Err(Refusal::NoIndexSpace(nowhere))
+    Err(Refusal::NoIndexSpace(refusal::zero_location()))
 }
 
 // Makes the index for a buffer shorter than the pending list: in scratch space first, then copied if it fits.
