@@ -22,5 +22,6 @@ pub returns : goal.returns
 returns c =
     let a = c.args in
     let o = c.order_patches-last in
-    late_by a.regions.now a.pending.now a.counts a.region c.requires (omega arith) o.result o.new.order o.ensures c.if-counts-ne-RUNNING.false _
-    (c.read_pending-patch.ensures ∙ ap (pending_at (filled_pendings a.pending.now a.counts)) c.from.ensures)
+    rw c.from-2.ensures
+    (late_by a.regions.now a.pending.now a.counts a.region c.requires (omega arith) o.result o.new.order o.ensures c.if-counts-ne-RUNNING.false _
+    (c.read_pending-patch.ensures ∙ ap (pending_at (filled_pendings a.pending.now a.counts)) c.from.ensures))
