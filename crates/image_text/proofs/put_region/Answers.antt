@@ -21,10 +21,13 @@ within g c =
 pub slice_bounds-put_data-end : goal.slice_bounds-put_data-end
 slice_bounds-put_data-end g c = let w = within g (goal.at.slice_bounds-put_data-end g c).After-bytes-list in search rules
 
-pub put_data-requires-clause-data_len_bound : goal.put_data-requires-clause-data_len_bound
-put_data-requires-clause-data_len_bound g c = let w = within g (goal.at.put_data-requires-clause-data_len_bound g c).After-bytes-list in simp length-take (omega arith)
-
-pub put_data-requires-clause-data_in_bounds : goal.put_data-requires-clause-data_in_bounds
-put_data-requires-clause-data_in_bounds g c =
-    rw c.bytes-list.ensures.value
-    (omega (arith, length-append {A = ℕ}, ap length (read c.args.regions.now c.args.number c.args.region c.requires.region_value), ap length c.put_region_line.ensures, c.requires.number_in_bounds))
+pub put_data-requires : goal.put_data-requires
+put_data-requires g c =
+    let w = within g (goal.at.put_data-requires g c).After-bytes-list in (
+      search rules,
+      (
+        simp length-take (omega arith),
+        rw c.bytes-list.ensures.value
+            (omega (arith, length-append {A = ℕ}, ap length (read c.args.regions.now c.args.number c.args.region c.requires.region_value), ap length c.put_region_line.ensures, c.requires.number_in_bounds)),
+      ),
+    )

@@ -1,4 +1,4 @@
-use Rattle.std.proofs.Common.{◌≡◌, ℕ, ◌+◌, ◌++◌, append-nil, append_assoc, refl, ap, sym, inl, ◌∙◌, length, length-append, arith}
+use Rattle.std.proofs.Common.{◌≡◌, ℕ, ◌+◌, ◌++◌, append-nil, append_assoc, refl, ap, sym, inl, ◌∙◌, length, length-append, arith, rules}
 use Rattle.record.specs.Left.{places_left}
 use Rattle.record.specs.Records.{places}
 use Rattle.record.proofs.WalkLaws.{Turn, numbered_turn}
@@ -43,16 +43,13 @@ loop-number-init g c =
 pub region_at-requires : goal.region_at-requires
 region_at-requires g c = region_taken _ _ _ _ c.places.ensures.layout (taken g (goal.at.region_at-requires g c).In-Some)
 
-pub put_region-requires-clause-number_bound : goal.put_region-requires-clause-number_bound
-put_region-requires-clause-number_bound g c = (taken g (goal.at.put_region-requires-clause-number_bound g c).In-Some).numbered
-
-pub put_region-requires-clause-region_value : goal.put_region-requires-clause-region_value
-put_region-requires-clause-region_value g c =
-    c.region_at.ensures ∙ ap (region_at c.args.regions.now) (place_taken _ _ _ _ (taken g (goal.at.put_region-requires-clause-region_value g c).In-Some))
-
-pub put_region-requires-clause-number_in_bounds : goal.put_region-requires-clause-number_in_bounds
-put_region-requires-clause-number_in_bounds g c =
-    omega (arith, length-append {A = ℕ}, ap length (turn g (goal.at.put_region-requires-clause-number_in_bounds g c).In-Some), c.requires)
+pub put_region-requires : goal.put_region-requires
+put_region-requires g c =
+    let k = (goal.at.put_region-requires g c).In-Some in
+    let t = taken g k in (
+      search rules,
+      (t.numbered, (c.region_at.ensures ∙ ap (region_at c.args.regions.now) (place_taken _ _ _ _ t), omega (arith, length-append {A = ℕ}, ap length (turn g k), c.requires))),
+    )
 
 pub loop-number-preserved : goal.loop-number-preserved
 loop-number-preserved g c =
