@@ -42,7 +42,8 @@
    form          0 constant: the name's location is zero and there is no name; 1 name
 
    LIMITS. A buffer has at most 65,536 bytes, a page's alone 1,195,959, as many as the longest page
-   has, and a region's data at most 65,528. One accepted line adds at most 20 bytes to the data
+   has, and a region's data at most 65,528. The answer, the counts, the registers and the record of
+   patching are no buffers in this sense and may be longer. One accepted line adds at most 20 bytes to the data
    (five words), 200 to the pending list (two records with names of 64 bytes) and 32 to the
    breakpoints (a record of five pcs); and with as much room left in each, and data of at most
    65,508 bytes, no line is refused with 12. Both are proved: line_grows and room_enough in
@@ -282,9 +283,10 @@ uint32_t nazgwern_write_out(
    2 another word or a field that is not zero where the manual wants it zero, 3 signed overflow of
    add, addi or sub. b is the number of steps taken. The last number of the answer is the pc, on
    refusal the one that was given. After reason 0 a next call with the registers as they were left
-   and with that pc goes on: two calls give what one with both allowances gives. But if the
-   allowance ended just behind the last word, the next call is refused with 28, where one call with
-   more steps allowed would have stopped there for reason 1. */
+   and with that pc goes on: two calls give what one with both allowances gives. But if no
+   whole word stands at that pc, behind the last word or where a branch or a jump led out of the
+   regions, the next call is refused with 28, where one call with more steps allowed would have
+   stopped there for reason 1. */
 uint32_t nazgwern_dry_run(
     const uint8_t *regions, size_t regions_length,
     uint8_t *registers, size_t registers_length,

@@ -17,7 +17,7 @@ use Rattle.emit_pairs.specs.declared.Fault.{Fault}
 use Rattle.emit_pairs.specs.declared.Fault.TheVariants.{ShiftAmount, ConditionCode}
 use Rattle.emit_pairs.specs.Pairs.{Range}
 use Rattle.emit_dispatch.specs.Wants.{encoding_wants}
-use Rattle.emit_dispatch.specs.Lines.{within_or, range_then, encoding_range}
+use Rattle.emit_dispatch.specs.Lines.{within_or, range_then, constant_range, encoding_range}
 use Rattle.emit_outcome.specs.Call.{Call}
 use Rattle.emit_outcome.specs.Emit.{start_of, refuse, emit_outcome}
 use Rattle.emit_outcome.specs.Checks.{list_stop, layout_stop}
@@ -69,6 +69,30 @@ range_as_commit (FPMove fmt flag) op x = tested ConditionCode (leb x.2 7)
 range_as_commit (FPCond fmt) op x = tested ConditionCode (leb x.0 7)
 range_as_commit (FPCrossMove flag) op x = refl
 range_as_commit (FPBranch flag) op x = tested ConditionCode (leb x.0 7)
+
+-- The commit's range tests an immediate's constant alone. So where a line has no shift amount and no condition code, nothing of 19 and 20 is due.
+pub commit_range : (e : Encoding) (op : Opcode) (x : AskedAll (encoding_wants e)) → encoding_range Commit e op x ≡ constant_range e x
+commit_range Register op x = refl
+commit_range RegisterShift op x = refl
+commit_range Source op x = refl
+commit_range Destination op x = refl
+commit_range Inputs op x = refl
+commit_range Sham op x = refl
+commit_range SpecialBranch op x = refl
+commit_range (Immediate alt) op x = refl
+commit_range LoadImmediate op x = refl
+commit_range Jump op x = refl
+commit_range Branch op x = refl
+commit_range BranchZero op x = refl
+commit_range Parameterless op x = refl
+commit_range Offset op x = refl
+commit_range FPOffset op x = refl
+commit_range (FP3Register fmt) op x = refl
+commit_range (FP2Register fmt) op x = refl
+commit_range (FPMove fmt flag) op x = refl
+commit_range (FPCond fmt) op x = refl
+commit_range (FPCrossMove flag) op x = refl
+commit_range (FPBranch flag) op x = refl
 
 over_shift : (amount : ℕ) (next : Range) → 31 < amount → shift_or (Some amount) next ≡ Err ShiftAmount
 over_shift amount next h = ap (λ (b : Bool). elim b [ true ↦ next | false ↦ Err ShiftAmount ]) (lt-leb amount 31 h)
