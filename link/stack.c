@@ -157,6 +157,23 @@ static void lay_out(void)
                               wall_length, answer, answer_length);
 }
 
+static void find_label(void)
+{
+    static const uint8_t name[] = {'x'};
+
+    frame = __builtin_frame_address(0);
+    number = nazgwern_find_label(labels.bytes, labels.length, name, sizeof name, 7, answer,
+                                 answer_length);
+}
+
+static uint8_t forms[NAZGWERN_FORM_COUNTS_BYTES];
+
+static void count_forms(void)
+{
+    frame = __builtin_frame_address(0);
+    number = nazgwern_count_forms(address, allowance, forms, sizeof forms, answer, answer_length);
+}
+
 /* The entries of patching, the same way, and what they are lent besides. The state record's fill
    counts are the lengths of the lists, or behind the first line of a job what it has left. */
 static uint32_t (*step)(const uint8_t *, size_t, const uint8_t *, size_t, uint8_t *, size_t,
@@ -1018,6 +1035,44 @@ static void all_macros(void)
     many_macros();
 }
 
+/* Lookups with no label, with one, with the most, and of one name and as many owners; refusals 1 and
+   2, and an answer that is too short. */
+static void all_finds(void)
+{
+    labels.length = 0;
+    measure(find_label);
+    label(NEAR, "x");
+    measure(find_label);
+    damaged(&labels, find_label);
+    label(NEAR, "x");
+    measure(find_label);
+    answer_length--;
+    measure(find_label);
+    answer_length++;
+    fill(&labels, 8, add_label);
+    measure(find_label);
+    fill_long(&labels, 8, add_label);
+    measure(find_label);
+    fill_owners();
+    measure(find_label);
+}
+
+/* Ranges of each form, an empty one, refusal 30, and an answer that is too short. */
+static void all_counts(void)
+{
+    static const uint32_t ends[] = {0, 1, 0x7fff, 0x8000, 0xffff, 0x10000, 0x12345678, 0xffffffff};
+    enum { ENDS = sizeof ends / sizeof ends[0] };
+
+    for (int start = 0; start < ENDS; start++)
+        for (int end = 0; end < ENDS; end++) {
+            address = ends[start], allowance = ends[end];
+            measure(count_forms);
+        }
+    answer_length--;
+    measure(count_forms);
+    answer_length++;
+}
+
 int main(void)
 {
     paint(0);
@@ -1039,6 +1094,12 @@ int main(void)
     all_steps("nazgwern_patch_step_manual");
     append = nazgwern_patch_release_6_line;
     appended_lines("nazgwern_patch_release_6_line");
+
+    all_finds();
+    report("nazgwern_find_label");
+
+    all_counts();
+    report("nazgwern_count_forms");
 
     all_texts();
     report("nazgwern_read_text");
