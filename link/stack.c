@@ -19,7 +19,7 @@
 #define PAINT UINT64_C(0xa5a5a5a5a5a5a5a5)
 
 enum { ENCODINGS = 21, PSEUDOS = 29, OFFSET = 13 };
-enum { NEAR = 0x00400000, FAR = 0x10500000, GREATEST_NUMBER = 29, LEVELS = 10 };
+enum { NEAR = 0x00400000, FAR = 0x10500000, GREATEST_NUMBER = 30, LEVELS = 10 };
 
 static const char *const pseudos[PSEUDOS + 1] = {
     "nop", "abs", "blt", "bgt", "ble", "bge", "bltu", "bgtu", "bleu", "bgeu", "sge", "sgt", "sle",
