@@ -119,20 +119,20 @@
    STACK. Measured, not proved, on x86-64 with gcc as the caller's compiler, arguments and return
    address counted: link/stack found for no call more bytes than these.
 
-     22,968  nazgwern_do_instruction, and by the manual and for Release 6
-     35,592  nazgwern_build, and by the manual
-     35,736  nazgwern_patch_step, and by the manual
-     30,232  nazgwern_patch_line, and by the manual and for Release 6
-     54,920  nazgwern_do_indexed
-     97,256  nazgwern_make_index
-     46,248  nazgwern_write_out
-     51,864  nazgwern_lay_out
+     24,120  nazgwern_do_instruction, and by the manual and for Release 6
+     34,984  nazgwern_build, and by the manual
+     35,560  nazgwern_patch_step, and by the manual
+     31,896  nazgwern_patch_line, and by the manual and for Release 6
+     56,008  nazgwern_do_indexed
+     96,696  nazgwern_make_index
+     46,344  nazgwern_write_out
+     49,320  nazgwern_lay_out
+     31,128  nazgwern_find_label
         920  nazgwern_read_text
         648  nazgwern_dry_run
+         56  nazgwern_count_forms
 
-   Of nazgwern_find_label and nazgwern_count_forms it was not measured. Where a call sorts names
-   the figure may have moved since: docs/LINKING.md says of which library they are. The code may
-   also use the 128 bytes below its stack pointer, as the x86-64 convention allows. */
+   The code may also use the 128 bytes below its stack pointer, as the x86-64 convention allows. */
 #ifndef NAZGWERN_H
 #define NAZGWERN_H
 
