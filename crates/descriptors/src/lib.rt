@@ -73,7 +73,7 @@ pub fn read_mnemonic(list: &[u8]) -> Mnemonic
     let len = record::half_at(list, 0) - 8;
     let location = record::location_at(list, 4);
     let mut bytes = [0u8; 16];
-    bytes[..len].copy_from_slice(&list[12..12 + len]);
+    record::put_all(&mut bytes, 0, &list[12..12 + len]);
     bytes.make_ascii_lowercase();
     Mnemonic {
         bytes,

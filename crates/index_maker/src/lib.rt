@@ -40,7 +40,7 @@ fn fill_shorter(
     if n > index.len() {
         return no_space();
     }
-    index[..n].copy_from_slice(&made[..n]);
+    record::put_all(index, 0, &made[..n]);
     Ok(n as u32)
 }
 

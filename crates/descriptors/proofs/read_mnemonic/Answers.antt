@@ -1,6 +1,8 @@
-use Rattle.std.proofs.Common.{ℕ, ◌+◌, ◌-◌, ◌≡◌, ◌≤◌, List, rules, take, drop, map, length, sym, ap, ◌∙◌, arith, length-drop, length-take-le, replicate, get_or-drop}
+use Rattle.std.proofs.Common.{ℕ, ◌+◌, ◌-◌, ◌≡◌, ◌≤◌, ◌++◌, List, rules, take, drop, map, length, ap, ◌∙◌, arith, length-drop, length-take-le, replicate, get_or-drop}
+use Rattle.std.specs.Char.{to_ascii_lowercase}
 use Rattle.record.specs.Bytes.{byte_at}
 use Rattle.record.specs.Records.{body_len}
+use Rattle.record.specs.Stores.{append}
 use Rattle.descriptors.specs.Mnemonics.{lower, mnemonic_bytes, mnemonic_name}
 use Rattle.descriptors.proofs.MnemonicsLaws.{mnemonic_good, zeros, name_lowered, rest_lowered}
 use Rattle.descriptors.proofs.read_mnemonic.Goals as goal
@@ -22,39 +24,35 @@ overflow_sub-len c = omega (arith, room (goal.at.overflow_sub-len c).After-half_
 pub location_at-location-requires : goal.location_at-location-requires
 location_at-location-requires c = omega (arith, room (goal.at.location_at-location-requires c).After-half_at-len)
 
-pub slice_bounds-bytes-end : goal.slice_bounds-bytes-end
-slice_bounds-bytes-end c = omega (arith, room (goal.at.slice_bounds-bytes-end c).After-half_at-len)
+pub slice_bounds-put_all-end : goal.slice_bounds-put_all-end
+slice_bounds-put_all-end c = omega (arith, room (goal.at.slice_bounds-put_all-end c).After-half_at-len)
 
-pub slice_bounds-copy_from_slice-end : goal.slice_bounds-copy_from_slice-end
-slice_bounds-copy_from_slice-end c =
-    let r = room (goal.at.slice_bounds-copy_from_slice-end c).After-half_at-len in
-    sym (length-take-le (c.half_at-len.result - 8) (replicate 16 0) (omega arith))
-
-pub slice_bounds-copy_from_slice-end-2 : goal.slice_bounds-copy_from_slice-end-2
-slice_bounds-copy_from_slice-end-2 c =
-    let r = room (goal.at.slice_bounds-copy_from_slice-end-2 c).After-half_at-len in
+pub slice_bounds-put_all-end-2 : goal.slice_bounds-put_all-end-2
+slice_bounds-put_all-end-2 c =
+    let r = room (goal.at.slice_bounds-put_all-end-2 c).After-half_at-len in
     search rules
 
-pub copy_from_slice-requires : goal.copy_from_slice-requires
-copy_from_slice-requires c =
-    let r = room (goal.at.copy_from_slice-requires c).After-half_at-len in
+pub put_all-requires : goal.put_all-requires
+put_all-requires c =
+    let r = room (goal.at.put_all-requires c).After-half_at-len in
     let n = c.half_at-len.result - 8 in
     let s = drop 12 c.args.list.now in
-    length-take-le n (replicate 16 0) (omega arith) ∙ sym (length-take-le (12 + n - 12) s (omega (arith, length-drop 12 c.args.list.now)) ∙ omega arith)
+    omega (arith, length-take-le (12 + n - 12) s (omega (arith, length-drop 12 c.args.list.now)))
 
 pub returns : goal.returns
-unfolding mnemonic_name
+unfolding mnemonic_name append
 returns c =
     let s = c.args.list.now in
     let r = room (goal.at.returns c).After-half_at-len in
     let n = c.half_at-len.result - 8 in
-    let name = c.copy_from_slice.new.self in
-    let after = c.make_ascii_lowercase.ensures.after in
+    let name = take (12 + n - 12) (drop 12 s) in
+    let put : c.put_all.new.d ≡ name ++ drop (0 + length name) (replicate 16 0) = c.put_all.ensures in
+    let after = c.make_ascii_lowercase.ensures.after ∙ ap (map to_ascii_lowercase) put in
     let same : 12 + n - 12 ≡ body_len s 0 - 8 = omega arith in
-    let is : name ≡ mnemonic_bytes s 0 = c.copy_from_slice.ensures.after ∙ ap (λ (m : ℕ). take m (drop 12 s)) same in
+    let is : name ≡ mnemonic_bytes s 0 = ap (λ (m : ℕ). take m (drop 12 s)) same in
     let size : length name ≡ n = ap length is ∙ length-take-le (body_len s 0 - 8) (drop 12 s) (omega (arith, length-drop 12 s)) ∙ omega arith in (
       ap (take n) after ∙ name_lowered name _ n size ∙ ap (map lower) is,
       omega arith,
       c.location_at-location.ensures,
-      λ i h. ap (λ (l : List ℕ). byte_at l i) after ∙ rest_lowered name _ n size (λ k. get_or-drop n (replicate 16 0) k 0 ∙ zeros 16 _) i h,
+      λ i h. ap (λ (l : List ℕ). byte_at l i) after ∙ rest_lowered name _ n size (λ k. get_or-drop (0 + length name) (replicate 16 0) k 0 ∙ zeros 16 _) i h,
     )

@@ -1,7 +1,6 @@
 use Rattle.std.specs.Prelude.{Ok}
-use Rattle.std.proofs.Common.{◌≡◌, ℕ, List, take, sym, ap, ap₂, ◌∙◌, length, arith}
+use Rattle.std.proofs.Common.{◌≡◌, ℕ, List, take, sym, ap, ap₂, ◌∙◌, arith}
 use Rattle.record.specs.Stores.{append}
-use Rattle.record.proofs.StoresLaws.{append_put}
 use Rattle.label_uses.specs.UseBytes.{index_of}
 use Rattle.label_uses.proofs.IndexLaws.{written_first}
 use Rattle.indexed_outcome.specs.Make.{made_of}
@@ -15,4 +14,4 @@ returns c =
     let f = c.fill_index-n in
     let bytes : take f.result f.new.d ≡ new = ap₂ take f.ensures.filled f.ensures.bytes ∙ written_first _ new in
     room_yes new index (omega (arith, c.if-n-index.false, f.ensures.filled))
-    ∙ ap₂ (λ (n : ℕ) (x : List ℕ). made_of (Ok n) x) (sym f.ensures.filled) (sym (append_put index 0 _ (take f.result f.new.d) c.copy_from_slice.ensures.after (omega (arith, ap length bytes, f.ensures.filled)) ∙ ap (append index 0) bytes))
+    ∙ ap₂ (λ (n : ℕ) (x : List ℕ). made_of (Ok n) x) (sym f.ensures.filled) (sym (c.put_all.ensures ∙ ap (append index 0) bytes))
