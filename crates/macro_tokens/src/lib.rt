@@ -102,12 +102,6 @@ pub enum Act {
 // ---- the token at a place
 
 impl<'a> Token<'a> {
-    fn kind(self) -> usize
-        ensures { result ≡ kind_at self.entry.bytes.now 0 }
-    {
-        record::half_at(self.bytes, 2)
-    }
-
     pub fn location(self) -> Location
         ensures { result ≡ location_at self.entry.bytes.now 4 }
     {
@@ -142,6 +136,18 @@ pub fn token_at<'a>(source: &Source<'a>, place: usize) -> Token<'a>
     };
     Token {
         bytes: &list[at..record::next(list, at)],
+    }
+}
+
+// Returns the kind of the token at a place, for which its record's end is not needed.
+fn kind_of(source: &Source<'_>, place: usize) -> usize
+    requires { TokenIn source.now.text.now source.now.macros.now place }
+    ensures { result ≡ kind_at (token_record source.now.text.now source.now.macros.now place) 0 }
+{
+    if place < source.text.len() {
+        record::half_at(source.text, place + 2)
+    } else {
+        record::half_at(source.macros, place - source.text.len() + 2)
     }
 }
 
@@ -195,7 +201,7 @@ fn colon_at(source: &Source<'_>, reading: &Reading<'_>, at: usize) -> bool
     ensures { result ≡ starts_colon (read_from source.now.text.now source.now.macros.now reading.now.list.now reading.now.body at) }
 {
     if at < reading.list.len() {
-        token_at(source, place_at(reading, at)).kind() == COLON
+        kind_of(source, place_at(reading, at)) == COLON
     } else {
         false
     }
@@ -250,7 +256,7 @@ pub fn arguments_from(source: &Source<'_>, reading: &Reading<'_>, from: usize) -
     };
     for at in tokens {
         let place = place_at(reading, at);
-        let kind = token_at(source, place).kind();
+        let kind = kind_of(source, place);
         if kind == NEW_LINE {
             return taken;
         }
@@ -297,7 +303,7 @@ pub fn act_at(
     requires readable_from { ReadableFrom callable.now.source.text.now callable.now.source.macros.now reading.now.list.now reading.now.body next }
     ensures { ActIs callable.now.source.macros.now callable.now.limit (act_of (above callable.now.source.macros.now callable.now.limit) mode (token_record callable.now.source.text.now callable.now.source.macros.now place) (read_from callable.now.source.text.now callable.now.source.macros.now reading.now.list.now reading.now.body next)) result }
 {
-    let kind = token_at(&callable.source, place).kind();
+    let kind = kind_of(&callable.source, place);
     // kept: an arm `Copied | LeftOut if kind == NEW_LINE` is no plainer, since each arm after it is then proved twice
     match mode {
         Mode::Leading => act_leading(callable, reading, place, kind, next),

@@ -6,7 +6,7 @@ use Rattle.macro_tokens.proofs.PlacesLaws.{token, place_in}
 use Rattle.macro_tokens.specs.Arguments.{with_token}
 use Rattle.macro_tokens.proofs.ArgumentsLaws.{Took, took_last, took_line, took_next}
 use Rattle.macro_tokens.proofs.arguments_from.Goals as goal
-use Rattle.macro_tokens.proofs.arguments_from.Goals.{In-Some, After-kind-kind}
+use Rattle.macro_tokens.proofs.arguments_from.Goals.{In-Some, After-kind_of-kind}
 
 -- The walk is at the turn's token, and the other tokens follow it.
 turn : (c : In-Some) → let a = c.args in
@@ -29,22 +29,22 @@ place_at-place-requires c =
     let t = turn c in
     (t.0.rest.readable, token a.source.now.text.now a.source.now.macros.now a.reading.now.list.now a.reading.now.body c.in-Some.at t.0.rest t.1)
 
-pub token_at-requires : goal.token_at-requires
-token_at-requires c =
+pub kind_of-kind-requires : goal.kind_of-kind-requires
+kind_of-kind-requires c =
     let a = c.args in
-    let t = turn (goal.at.token_at-requires c).In-Some in
+    let t = turn (goal.at.kind_of-kind-requires c).In-Some in
     subst (TokenIn a.source.now.text.now a.source.now.macros.now) (sym c.place_at-place.ensures) (place_in a.source.now.text.now a.source.now.macros.now a.reading.now.list.now a.reading.now.body c.in-Some.at t.0.rest t.1)
 
 -- The kind read is the token's kind.
-kind_is : (c : After-kind-kind) → c.kind-kind.result ≡ kind_at (token_record c.args.source.now.text.now c.args.source.now.macros.now (place_of c.args.reading.now.list.now c.args.reading.now.body c.in-Some.at)) 0
-kind_is c = c.kind-kind.ensures ∙ ap (λ (r : List ℕ). kind_at r 0) c.token_at.ensures ∙ ap (λ (p : ℕ). kind_at (token_record c.args.source.now.text.now c.args.source.now.macros.now p) 0) c.place_at-place.ensures
+kind_is : (c : After-kind_of-kind) → c.kind_of-kind.result ≡ kind_at (token_record c.args.source.now.text.now c.args.source.now.macros.now (place_of c.args.reading.now.list.now c.args.reading.now.body c.in-Some.at)) 0
+kind_is c = c.kind_of-kind.ensures ∙ ap (λ (p : ℕ). kind_at (token_record c.args.source.now.text.now c.args.source.now.macros.now p) 0) c.place_at-place.ensures
 
 pub returns-then-kind-eq-NEW_LINE : goal.returns-then-kind-eq-NEW_LINE
 returns-then-kind-eq-NEW_LINE c =
     let a = c.args in
     let w = goal.at.returns-then-kind-eq-NEW_LINE c in
     let t = turn w.In-Some in
-    took_line a.source.now.text.now a.source.now.macros.now a.reading.now.list.now a.reading.now.body a.from c.in-Some.at c.loop-at.taken t.0 t.1 c.kind-kind.result (kind_is w.After-kind-kind) c.if-kind-eq-NEW_LINE.true
+    took_line a.source.now.text.now a.source.now.macros.now a.reading.now.list.now a.reading.now.body a.from c.in-Some.at c.loop-at.taken t.0 t.1 c.kind_of-kind.result (kind_is w.After-kind_of-kind) c.if-kind-eq-NEW_LINE.true
 
 pub take-requires : goal.take-requires
 take-requires c =
@@ -60,8 +60,8 @@ loop-at-preserved c =
       here = next a.reading.now.list.now c.in-Some.at;
       left = t.2;
       took = subst (Took a.source.now.text.now a.source.now.macros.now a.reading.now.list.now a.reading.now.body a.from (next a.reading.now.list.now c.in-Some.at))
-          (sym (c.take.ensures ∙ ap (with_token c.loop-at.taken c.kind-kind.result) c.place_at-place.ensures))
-          (took_next a.source.now.text.now a.source.now.macros.now a.reading.now.list.now a.reading.now.body a.from c.in-Some.at c.loop-at.taken t.0 t.1 c.kind-kind.result (kind_is w.After-kind-kind) c.if-kind-eq-NEW_LINE.false);
+          (sym (c.take.ensures ∙ ap (with_token c.loop-at.taken c.kind_of-kind.result) c.place_at-place.ensures))
+          (took_next a.source.now.text.now a.source.now.macros.now a.reading.now.list.now a.reading.now.body a.from c.in-Some.at c.loop-at.taken t.0 t.1 c.kind_of-kind.result (kind_is w.After-kind_of-kind) c.if-kind-eq-NEW_LINE.false);
     }
 
 -- A walk with nothing left is at the end.
