@@ -2,7 +2,8 @@
 // case of, and the program's input is the bytes after that.
 #![tactic(auto)]
 
-ghost use Rattle.std.specs.Prelude.{◌≡◌};
+ghost use Rattle.std.specs.Prelude.{◌≡◌, ◌≤◌};
+ghost use Rattle.std.proofs.Common.{rules};
 ghost use Rattle.cases.specs.Cases.{text_by, case_text};
 
 use dry_run_text::DryRunText;
@@ -15,8 +16,11 @@ use macro_text::ExpandText;
 use page_text::PageText;
 use patching_text::PatchStepsText;
 use program::Program;
-use text::Printed;
+use text::Text;
 use token_text::ReadTextText;
+
+// Room for the longest text that a program prints: a page, and one byte more.
+const MOST: usize = page_text::MOST;
 
 // The byte of each program. A new program takes the next one.
 const EMIT_LINE: u8 = 0;
@@ -41,23 +45,34 @@ const PATCH_STEPS: u8 = 9;
 
 const FIND_LABEL: u8 = 10;
 
+// Writes the text that a program prints for an input, from a text of its own room.
+fn put_text<const N: usize, P: Program<N>>(program: &P, input: &[u8], out: &mut Text<MOST>)
+    requires { N ≤ 1195960 }
+    ensures { out.new ≡ P.text_of input.now }
+{
+    let mut text = Text::<N>::new();
+    program.print(input, &mut text);
+    out.clear();
+    out.push(text.as_bytes());
+}
+
 // Writes the text that the program with this byte prints for an input, and none if there is no such program.
 #[tactic(auto, unfolding(crate::specs::Cases::text_by))]
-fn print_by(number: u8, input: &[u8], out: &mut Printed)
+fn print_by(number: u8, input: &[u8], out: &mut Text<MOST>)
     ensures { out.new ≡ text_by number input.now }
 {
     match number {
-        EMIT_LINE => EmitLineText.print(input, out),
-        FINISH => FinishText.print(input, out),
-        FINISH_MANUAL => FinishManualText.print(input, out),
-        READ_TEXT => ReadTextText.print(input, out),
-        EXPAND => ExpandText.print(input, out),
-        DRY_RUN => DryRunText.print(input, out),
+        EMIT_LINE => put_text(&EmitLineText, input, out),
+        FINISH => put_text(&FinishText, input, out),
+        FINISH_MANUAL => put_text(&FinishManualText, input, out),
+        READ_TEXT => put_text(&ReadTextText, input, out),
+        EXPAND => put_text(&ExpandText, input, out),
+        DRY_RUN => put_text(&DryRunText, input, out),
         PAGE => PageText.print(input, out),
-        EMIT_INDEXED => EmitIndexedText.print(input, out),
-        MAKE_INDEX => MakeIndexText.print(input, out),
-        PATCH_STEPS => PatchStepsText.print(input, out),
-        FIND_LABEL => FindLabelText.print(input, out),
+        EMIT_INDEXED => put_text(&EmitIndexedText, input, out),
+        MAKE_INDEX => put_text(&MakeIndexText, input, out),
+        PATCH_STEPS => put_text(&PatchStepsText, input, out),
+        FIND_LABEL => put_text(&FindLabelText, input, out),
         _ => out.clear(),
     }
 }
@@ -65,15 +80,17 @@ fn print_by(number: u8, input: &[u8], out: &mut Printed)
 // All stored cases as one program.
 struct CaseText;
 
-impl Program for CaseText {
+impl Program<MOST> for CaseText {
     ghost text_of = { case_text };
 
-    fn print(&self, input: &[u8], out: &mut Printed) {
+    fn print(&self, input: &[u8], out: &mut Text<MOST>) {
         match input.split_first() {
             Some((&number, rest)) => print_by(number, rest, out),
             None => out.clear(),
         }
     }
+
+    ghost fits = { Prim.search rules };
 }
 
 fn main() {

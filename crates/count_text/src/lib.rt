@@ -2,15 +2,18 @@
 #![tactic(auto)]
 
 ghost use Rattle.std.specs.Prelude.{◌≡◌, ◌≤◌};
+ghost use Rattle.std.proofs.Common.{rules};
 ghost use Rattle.count_text.specs.CountText.{count_text};
 
 use program::Program;
-use text::{Printed, Text};
+use text::Text;
 
-// Writes what `count_forms` prints for an input: the four counts, or the refusal alone. Each is at most 128 bytes.
+// Room for four counts, or for a refusal.
+pub const MOST: usize = 128;
+
+// Writes what `count_forms` prints for an input: the four counts, or the refusal alone.
 #[tactic(auto, using(text::proofs::TextLaws::refused_most, text::proofs::TextLaws::last_most, std::proofs::lemmas::Grind::common_steps), unfolding(crate::specs::CountText::count_text))]
-pub fn count_forms<const N: usize>(input: &[u8], out: &mut Text<N>)
-    requires { 128 ≤ N }
+pub fn count_forms(input: &[u8], out: &mut Text<MOST>)
     ensures { out.new ≡ count_text input.now }
 {
     let start = input::word_or_zero(input, 0);
@@ -30,10 +33,12 @@ pub fn count_forms<const N: usize>(input: &[u8], out: &mut Text<N>)
 // `count_forms` as a program.
 pub struct CountFormsText;
 
-impl Program for CountFormsText {
+impl Program<MOST> for CountFormsText {
     ghost text_of = { count_text };
 
-    fn print(&self, input: &[u8], out: &mut Printed) {
+    fn print(&self, input: &[u8], out: &mut Text<MOST>) {
         count_forms(input, out);
     }
+
+    ghost fits = { Prim.search rules };
 }

@@ -24,14 +24,14 @@ unfolding hex_fields
 fields_length [] = refl
 fields_length (n ∷ ns) = omega (arith, length-append (hex_field n) (hex_fields ns), fields_length ns)
 
-reason_most : (reason : Reason) → length (reason_line reason) ≤ 17
+pub reason_most : (reason : Reason) → length (reason_line reason) ≤ 17
 unfolding reason_line
 reason_most Allowance = omega arith
 reason_most Pc = omega arith
 reason_most Word = omega arith
 reason_most Overflow = omega arith
 
-steps_most : (n : ℕ) → length (steps_line n) ≤ 27
+pub steps_most : (n : ℕ) → length (steps_line n) ≤ 27
 steps_most n = omega (arith, length-append (bytes_of "steps") (last_field n), last_most n)
 
 pub pc_length : (n : ℕ) → length (pc_line n) ≡ 12

@@ -2,6 +2,7 @@
 #![tactic(auto)]
 
 ghost use Rattle.std.specs.Prelude.{◌≡◌, ◌++◌, ◌+◌, ◌≤◌, length};
+ghost use Rattle.std.proofs.Common.{rules};
 ghost use Rattle.dry_run_text.specs.Lines.{run_text, machine_in, dry_run_text};
 
 use dry_run_outcome::Stopped;
@@ -35,8 +36,7 @@ fn put_run<const N: usize>(out: &mut Text<N>, reason: Reason, steps: u32, machin
 
 // Writes what `dry_run` prints for an input: the run's lines, or the refusal alone.
 #[tactic(auto, using(text::proofs::TextLaws::refused_most, crate::proofs::LinesLaws::run_most), unfolding(crate::specs::Lines::dry_run_text))]
-pub fn dry_run<const N: usize>(input: &[u8], out: &mut Text<N>)
-    requires { 400000 ≤ N }
+pub fn dry_run(input: &[u8], out: &mut Printed)
     ensures { out.new ≡ dry_run_text input.now }
 {
     let numbers = input::behind_lists(input, 1);
@@ -53,10 +53,12 @@ pub fn dry_run<const N: usize>(input: &[u8], out: &mut Text<N>)
 // `dry_run` as a program.
 pub struct DryRunText;
 
-impl Program for DryRunText {
+impl Program<{ text::MOST }> for DryRunText {
     ghost text_of = { dry_run_text };
 
     fn print(&self, input: &[u8], out: &mut Printed) {
         dry_run(input, out);
     }
+
+    ghost fits = { Prim.search rules };
 }

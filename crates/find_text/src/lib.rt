@@ -2,11 +2,15 @@
 #![tactic(auto)]
 
 ghost use Rattle.std.specs.Prelude.{◌≡◌, ◌++◌, ◌+◌, ◌≤◌, length};
+ghost use Rattle.std.proofs.Common.{rules};
 ghost use Rattle.find_text.specs.FindText.{address_line, found_lines, find_text};
 
 use labels::Found;
 use program::Program;
-use text::{Printed, Text};
+use text::Text;
+
+// Room for two lines, or for a refusal.
+pub const MOST: usize = 128;
 
 fn put_address<const N: usize>(out: &mut Text<N>, address: Option<u32>)
     requires { length out.old + length (address_line address) ≤ N }
@@ -31,10 +35,9 @@ fn put_found<const N: usize>(out: &mut Text<N>, found: Found)
     out.push_number_line(b"compared", u64::from(found.compared));
 }
 
-// Writes the text for an input: the labels and the name, each after its count, and then the source. The text is at most 128 bytes.
+// Writes the text for an input: the labels and the name, each after its count, and then the source.
 #[tactic(auto, using(text::proofs::TextLaws::refused_most, text::proofs::TextLaws::last_most, crate::proofs::FindTextLaws::address_most, std::proofs::lemmas::Grind::common_steps), unfolding(crate::specs::FindText::find_text))]
-pub fn find_label<const N: usize>(input: &[u8], out: &mut Text<N>)
-    requires { 128 ≤ N }
+pub fn find_label(input: &[u8], out: &mut Text<MOST>)
     ensures { out.new ≡ find_text input.now }
 {
     let source = input::word_or_zero(input::behind_lists(input, 2), 0);
@@ -48,10 +51,12 @@ pub fn find_label<const N: usize>(input: &[u8], out: &mut Text<N>)
 // `find_label` as a program.
 pub struct FindLabelText;
 
-impl Program for FindLabelText {
+impl Program<MOST> for FindLabelText {
     ghost text_of = { find_text };
 
-    fn print(&self, input: &[u8], out: &mut Printed) {
+    fn print(&self, input: &[u8], out: &mut Text<MOST>) {
         find_label(input, out);
     }
+
+    ghost fits = { Prim.search rules };
 }

@@ -18,7 +18,7 @@ use Rattle.input.specs.Input.{list_of, held}
 use Rattle.image_text.specs.Image.{outcome_text, build_text, finish_text_by}
 
 module _ (job : Job) (labels : Table) (entry regions pending : List ℕ) where
-  accepted_layout : (address : ℕ) → (build_outcome job labels entry regions pending).answer ≡ Ok address → region_layout (build_outcome job labels entry regions pending).regions ≡ None
+  pub accepted_layout : (address : ℕ) → (build_outcome job labels entry regions pending).answer ≡ Ok address → region_layout (build_outcome job labels entry regions pending).regions ≡ None
   accepted_layout address h = go (build_verdict job labels entry regions pending) refl
     where
       go : (v : Verdict) → build_verdict job labels entry regions pending ≡ v → region_layout (build_outcome job labels entry regions pending).regions ≡ None
@@ -38,7 +38,7 @@ module _ (job : Job) (labels entry pending : List ℕ) where
   long_text r s h k = rw (layout_long r h, layout_long s k) (stopped (layout_verdict 0 (label_layout labels)) (layout_verdict 1 (entry_layout entry)) _ _ _ _ _ _ _ _)
 
   -- One byte more than the limit prints the same as the whole list.
-  held_text : (r : List ℕ) → build_text job labels entry (take 65537 r) pending ≡ build_text job labels entry r pending
+  pub held_text : (r : List ℕ) → build_text job labels entry (take 65537 r) pending ≡ build_text job labels entry r pending
   held_text r = go (nat_le (length r) 65537) refl
     where
       go : (b : Bool) → nat_le (length r) 65537 ≡ b → build_text job labels entry (take 65537 r) pending ≡ build_text job labels entry r pending

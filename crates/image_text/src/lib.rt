@@ -2,6 +2,7 @@
 #![tactic(auto)]
 
 ghost use Rattle.std.specs.Prelude.{◌≡◌, ◌++◌, ◌+◌, ◌<◌, ◌≤◌, length};
+ghost use Rattle.std.proofs.Common.{rules};
 ghost use Rattle.jobs.specs.declared.Job.TheVariants.{Manual};
 ghost use Rattle.regions.specs.Regions.{region_count, region_place, region_at};
 ghost use Rattle.reading.specs.Reading.{image_region, image_of};
@@ -82,16 +83,14 @@ fn put_input<const N: usize>(job: Job, input: &[u8], out: &mut Text<N>)
 }
 
 // Writes the text that `finish` prints for an input.
-pub fn finish<const N: usize>(input: &[u8], out: &mut Text<N>)
-    requires { 400000 ≤ N }
+pub fn finish(input: &[u8], out: &mut Printed)
     ensures { out.new ≡ finish_text input.now }
 {
     put_input(Job::Commit, input, out);
 }
 
 // Writes the text that `finish_manual` prints for an input.
-pub fn finish_manual<const N: usize>(input: &[u8], out: &mut Text<N>)
-    requires { 400000 ≤ N }
+pub fn finish_manual(input: &[u8], out: &mut Printed)
     ensures { out.new ≡ finish_text_by Job.Manual input.now }
 {
     put_input(Job::Manual, input, out);
@@ -100,21 +99,25 @@ pub fn finish_manual<const N: usize>(input: &[u8], out: &mut Text<N>)
 // `finish` as a program.
 pub struct FinishText;
 
-impl Program for FinishText {
+impl Program<{ text::MOST }> for FinishText {
     ghost text_of = { finish_text };
 
     fn print(&self, input: &[u8], out: &mut Printed) {
         finish(input, out);
     }
+
+    ghost fits = { Prim.search rules };
 }
 
 // `finish_manual` as a program.
 pub struct FinishManualText;
 
-impl Program for FinishManualText {
+impl Program<{ text::MOST }> for FinishManualText {
     ghost text_of = { finish_text_by Manual };
 
     fn print(&self, input: &[u8], out: &mut Printed) {
         finish_manual(input, out);
     }
+
+    ghost fits = { Prim.search rules };
 }

@@ -2,6 +2,7 @@
 #![tactic(auto)]
 
 ghost use Rattle.std.specs.Prelude.{◌≡◌, ◌++◌, ◌+◌, ◌≤◌, length};
+ghost use Rattle.std.proofs.Common.{rules};
 ghost use Rattle.index_text.specs.IndexText.{made_text, make_index_text};
 
 use program::Program;
@@ -20,8 +21,7 @@ fn put_made<const N: usize>(out: &mut Text<N>, fill: u32, index: &[u8])
 // Writes the text that `make_index` prints for an input: the index, or the refusal alone. Of an index buffer over its limit, one byte
 // more than the limit is kept, so that the call still refuses it.
 #[tactic(auto, using(text::proofs::TextLaws::refused_most))]
-pub fn make_index<const N: usize>(input: &[u8], out: &mut Text<N>)
-    requires { 400000 ≤ N }
+pub fn make_index(input: &[u8], out: &mut Printed)
     ensures { out.new ≡ make_index_text input.now }
 {
     let mut space = [0u8; record::LIMIT + 1];
@@ -39,10 +39,12 @@ pub fn make_index<const N: usize>(input: &[u8], out: &mut Text<N>)
 // `make_index` as a program.
 pub struct MakeIndexText;
 
-impl Program for MakeIndexText {
+impl Program<{ text::MOST }> for MakeIndexText {
     ghost text_of = { make_index_text };
 
     fn print(&self, input: &[u8], out: &mut Printed) {
         make_index(input, out);
     }
+
+    ghost fits = { Prim.search rules };
 }

@@ -3,6 +3,7 @@
 #![tactic(auto)]
 
 ghost use Rattle.std.specs.Prelude.{◌≡◌, ◌++◌, ◌+◌, ◌≤◌, length};
+ghost use Rattle.std.proofs.Common.{rules};
 ghost use Rattle.jobs.specs.declared.Job.TheVariants.{Commit};
 ghost use Rattle.emit_outcome.specs.Call.{lent_of};
 ghost use Rattle.indexed_outcome.specs.Indexed.{indexed_outcome_of};
@@ -13,7 +14,10 @@ use emit_outcome::{EmitAnswer, LinePlace};
 use indexed_outcome::{IndexedCounts, IndexedEmitted};
 use jobs::Job;
 use program::Program;
-use text::{Printed, Text};
+use text::Text;
+
+// Room for the text of four buffers, each of one byte more than its limit.
+pub const MOST: usize = 525_000;
 
 // Reads the four fill counts, which follow the buffers.
 fn counts_in(rest: &[u8]) -> IndexedCounts
@@ -108,8 +112,7 @@ fn put_emitted<const N: usize>(
 }
 
 // Writes the text that `emit_indexed` prints for an input.
-pub fn emit_indexed<const N: usize>(input: &[u8], out: &mut Text<N>)
-    requires { 525000 ≤ N }
+pub fn emit_indexed(input: &[u8], out: &mut Text<MOST>)
     ensures { out.new ≡ emit_indexed_text input.now }
 {
     let mut data = [0u8; record::LIMIT + 1];
@@ -134,10 +137,12 @@ pub fn emit_indexed<const N: usize>(input: &[u8], out: &mut Text<N>)
 // `emit_indexed` as a program.
 pub struct EmitIndexedText;
 
-impl Program for EmitIndexedText {
+impl Program<MOST> for EmitIndexedText {
     ghost text_of = { emit_indexed_text };
 
-    fn print(&self, input: &[u8], out: &mut Printed) {
+    fn print(&self, input: &[u8], out: &mut Text<MOST>) {
         emit_indexed(input, out);
     }
+
+    ghost fits = { Prim.search rules };
 }

@@ -66,6 +66,14 @@ pub record Held (list e : List ℕ) (n : ℕ) : Type 0 where
   pub most : length (take n e) ≤ 65537
   pub bytes : take n e ≡ take 65537 list
 
+-- The part of a space that holds a list has as much of the list as fits.
+pub held_part : (space list e : List ℕ) (n : ℕ) → n ≡ min (length list) (length space) → e ≡ append space 0 (take n list) → take n e ≡ take (length space) list
+unfolding append
+held_part space list e n h g =
+    let l : length (take n list) ≡ n = simp length-take (omega arith) in
+    let t : take n e ≡ take n list = rw g (take_at (take n list) (drop (0 + length (take n list)) space) n l) in
+    t ∙ take_min list (length space) n (omega arith) (omega arith)
+
 held_at : (space list e : List ℕ) (n : ℕ) → length space ≡ 65537 → n ≡ min (length list) (length space) → e ≡ append space 0 (take n list) → Held list e n
 unfolding append
 held_at space list e n z h g =

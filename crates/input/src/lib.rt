@@ -4,6 +4,7 @@
 ghost use Rattle.std.specs.Prelude.{◌≡◌, ◌+◌, ◌≤◌, ◌<◌, min, length, take, drop};
 ghost use Rattle.std.specs.Option.{MatchOption};
 ghost use Rattle.record.specs.Bytes.{byte_at};
+ghost use Rattle.record.specs.Stores.{append};
 ghost use Rattle.input.specs.Input.{list_end, list_in, behind_list, behind_lists, list_of, word_or_zero, half_or_zero};
 ghost use Rattle.input.specs.RegisterBytes.{registers_in};
 
@@ -86,12 +87,20 @@ pub fn byte_or_zero(input: &[u8], at: usize) -> u8
     input.get(at).copied().unwrap_or(0)
 }
 
+// Copies as much of the list as fits into `space`, and returns how many bytes that is.
+pub fn hold(space: &mut [u8], list: &[u8]) -> usize
+    ensures value { result ≡ min (length list.now) (length space.old) }
+    ensures space_after { space.new ≡ append space.old 0 (take result list.now) }
+{
+    let count = list.len().min(space.len());
+    record::put_all(space, 0, &list[..count]);
+    count
+}
+
 // Copies as much of the list as fits into `space`, and returns the part of `space` that holds it.
 pub fn hold_in<'a>(space: &'a mut [u8], list: &[u8]) -> &'a mut [u8]
     ensures { result.now ≡ take (length space.old) list.now }
 {
-    let count = list.len().min(space.len());
-    let held = &mut space[..count];
-    held.copy_from_slice(&list[..count]);
-    held
+    let count = hold(&mut *space, list);
+    &mut space[..count]
 }

@@ -2,6 +2,7 @@
 #![tactic(auto)]
 
 ghost use Rattle.std.specs.Prelude.{◌≡◌, ◌++◌, ◌+◌, ◌≤◌, length};
+ghost use Rattle.std.proofs.Common.{rules};
 ghost use Rattle.record.specs.Texts.{bytes_of};
 ghost use Rattle.emit_outcome.specs.Call.{lent_of, outcome_of};
 ghost use Rattle.emit_outcome.specs.Contract.{EmittedBy};
@@ -133,8 +134,7 @@ pub fn put_no_job<const N: usize>(out: &mut Text<N>)
 
 // Writes the text that `emit_line` prints for an input.
 #[tactic(auto, unfolding(crate::specs::Line::line_text))]
-pub fn emit_line<const N: usize>(input: &[u8], out: &mut Text<N>)
-    requires { 400000 ≤ N }
+pub fn emit_line(input: &[u8], out: &mut Printed)
     ensures { out.new ≡ line_text input.now }
 {
     match job_in(input) {
@@ -146,10 +146,12 @@ pub fn emit_line<const N: usize>(input: &[u8], out: &mut Text<N>)
 // `emit_line` as a program.
 pub struct EmitLineText;
 
-impl Program for EmitLineText {
+impl Program<{ text::MOST }> for EmitLineText {
     ghost text_of = { line_text };
 
     fn print(&self, input: &[u8], out: &mut Printed) {
         emit_line(input, out);
     }
+
+    ghost fits = { Prim.search rules };
 }

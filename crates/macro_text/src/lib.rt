@@ -2,16 +2,16 @@
 #![tactic(auto)]
 
 ghost use Rattle.std.specs.Prelude.{◌≡◌, ◌≤◌};
+ghost use Rattle.std.proofs.Common.{rules};
 ghost use Rattle.macro_text.specs.MacroText.{expand_text};
 
 use program::Program;
-use text::{Printed, Text};
+use text::Printed;
 
 // Writes what `expand` prints for an input: the written-out tokens, or the refusal alone. A buffer over the limit is held as the limit
 // plus one byte: that is enough for its refusal.
 #[tactic(auto, using(text::proofs::TextLaws::refused_most, crate::proofs::MacroTextLaws::held_text, token_text::proofs::TokenTextLaws::line_length, token_text::proofs::TokenTextLaws::part_held, written_out::proofs::KeepsLayout::fill_within, std::proofs::lemmas::Grind::common_steps), unfolding(crate::specs::MacroText::expand_text))]
-pub fn expand<const N: usize>(input: &[u8], out: &mut Text<N>)
-    requires { 400000 ≤ N }
+pub fn expand(input: &[u8], out: &mut Printed)
     ensures { out.new ≡ expand_text input.now }
 {
     let asked = input::word_or_zero(input::behind_lists(input, 2), 0);
@@ -30,10 +30,12 @@ pub fn expand<const N: usize>(input: &[u8], out: &mut Text<N>)
 // `expand` as a program.
 pub struct ExpandText;
 
-impl Program for ExpandText {
+impl Program<{ text::MOST }> for ExpandText {
     ghost text_of = { expand_text };
 
     fn print(&self, input: &[u8], out: &mut Printed) {
         expand(input, out);
     }
+
+    ghost fits = { Prim.search rules };
 }

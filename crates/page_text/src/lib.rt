@@ -1,11 +1,14 @@
 // The program `page` (document 02, P3), from the bytes it reads to the text it prints.
 #![tactic(auto)]
 
-ghost use Rattle.std.specs.Prelude.{◌≡◌};
+ghost use Rattle.std.specs.Prelude.{◌≡◌, ◌≤◌, length, take};
+ghost use Rattle.std.proofs.Common.{rules};
+ghost use Rattle.page_outcome.specs.Outcome.{page_outcome};
 ghost use Rattle.page_text.specs.PageText.{length_in, page_text};
 
 use program::Program;
-use text::Printed;
+use refusal::Refusal;
+use text::Text;
 
 // Room for a page buffer that is one byte over its limit.
 pub const MOST: usize = page_core::LIMIT + 1;
@@ -20,31 +23,41 @@ fn length_in(rest: &[u8]) -> usize
     record::word_at(rest, 0) as usize
 }
 
+// Lays the page out in the first `room` bytes of a space.
+fn lay_out_in(space: &mut [u8], room: usize, labels: &[u8], regions: &[u8]) -> Result<u32, Refusal>
+    requires { room ≤ length space.old }
+    ensures { page_outcome labels.now regions.now (take room space.old) ≡ (record { answer = result; page = take room space.new }) }
+{
+    page_core::lay_out(labels, regions, &mut space[..room])
+}
+
 // Writes the text that `page` prints for an input: the page, or the refusal alone. A page buffer over its limit is made one byte over it,
 // so that the call still refuses it.
 #[tactic(auto, using(text::proofs::TextLaws::refused_most))]
-pub fn page(input: &[u8], out: &mut Printed)
+pub fn page(input: &[u8], out: &mut Text<MOST>)
     ensures { out.new ≡ page_text input.now }
 {
     let room = length_in(input::behind_lists(input, 2)).min(MOST);
-    let mut space = [0u8; MOST];
-    let page = &mut space[..room];
     let labels = input::list_of(input, 0);
     let regions = input::list_of(input, 1);
-    out.clear();
-    match page_core::lay_out(labels, regions, &mut *page) {
-        Ok(length) => out.push(&page[..length as usize]),
-        Err(refusal) => out.push_refusal(refusal),
+    match lay_out_in(out.whole(), room, labels, regions) {
+        Ok(length) => out.truncate(length as usize),
+        Err(refusal) => {
+            out.clear();
+            out.push_refusal(refusal);
+        }
     }
 }
 
 // `page` as a program.
 pub struct PageText;
 
-impl Program for PageText {
+impl Program<MOST> for PageText {
     ghost text_of = { page_text };
 
-    fn print(&self, input: &[u8], out: &mut Printed) {
+    fn print(&self, input: &[u8], out: &mut Text<MOST>) {
         page(input, out);
     }
+
+    ghost fits = { Prim.search rules };
 }

@@ -2,6 +2,7 @@
 #![tactic(auto)]
 
 ghost use Rattle.std.specs.Prelude.{◌≡◌, ◌++◌, ◌+◌, ◌*◌, ◌≤◌, length};
+ghost use Rattle.std.proofs.Common.{rules};
 ghost use Rattle.patching_outcome.specs.Patching.{patching_of};
 ghost use Rattle.patching_text.specs.Setup.{given_by};
 ghost use Rattle.patching_text.specs.Script.{line_in, turn_of, behind_turn, most_turns, script_text, end_text, counts_in, job_text, steps_text};
@@ -10,12 +11,15 @@ ghost use Rattle.patching_text.specs.Turns.{Turns, StepTurns, LineTurns};
 use jobs::Job;
 use patching_outcome::PatchCounts;
 use program::Program;
-use text::{Printed, Text};
+use text::Text;
 
 mod lines;
 
 // The most turns of a script that are made; a longer script ends here.
 const MOST_TURNS: usize = 4096;
+
+// Room for the lines of as many turns and for the end.
+pub const MOST: usize = 1_000_000;
 
 // The bytes that begin a turn; any other byte ends the script.
 const STEP: u8 = 0;
@@ -226,8 +230,7 @@ fn put_job<const N: usize>(job: Job, input: &[u8], out: &mut Text<N>)
 
 // Writes the text that `patch_steps` prints for an input.
 #[tactic(auto, unfolding(crate::specs::Script::steps_text))]
-pub fn patch_steps<const N: usize>(input: &[u8], out: &mut Text<N>)
-    requires { 1000000 ≤ N }
+pub fn patch_steps(input: &[u8], out: &mut Text<MOST>)
     ensures { out.new ≡ steps_text input.now }
 {
     let numbers = input::behind_lists(input, 6);
@@ -240,10 +243,12 @@ pub fn patch_steps<const N: usize>(input: &[u8], out: &mut Text<N>)
 // `patch_steps` as a program.
 pub struct PatchStepsText;
 
-impl Program for PatchStepsText {
+impl Program<MOST> for PatchStepsText {
     ghost text_of = { steps_text };
 
-    fn print(&self, input: &[u8], out: &mut Printed) {
+    fn print(&self, input: &[u8], out: &mut Text<MOST>) {
         patch_steps(input, out);
     }
+
+    ghost fits = { Prim.search rules };
 }

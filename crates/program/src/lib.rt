@@ -1,31 +1,34 @@
 // What every program does: it reads standard input, makes a text from it and prints that text, or does so for each stored case.
 #![tactic(auto)]
 
-ghost use Rattle.std.specs.Prelude.{◌≡◌, List, ℕ};
+ghost use Rattle.std.specs.Prelude.{◌≡◌, ◌<◌, List, ℕ};
 
-use text::{Printed, Text};
+use text::Text;
 
-// A program: the text that it prints for its input.
-pub trait Program {
+// A program: the text that it prints for its input. `N` is the room that its longest text takes.
+pub trait Program<const N: usize> {
     ghost text_of: { List ℕ → List ℕ };
 
     // Replaces what is in `out` by that text.
-    fn print(&self, input: &[u8], out: &mut Printed)
+    fn print(&self, input: &[u8], out: &mut Text<N>)
         ensures { out.new ≡ text_of input.now };
+
+    // A text with this room is under 4 GiB.
+    ghost fits: { N < 4294967296 };
 }
 
 // Reads standard input and prints the program's text for it.
-pub fn run<P: Program>(program: &P) {
+pub fn run<const N: usize, P: Program<N>>(program: &P) {
     let mut input = [0u8; input::MOST];
     let count = io::read_full(input::STDIN, &mut input);
-    put(program, &input[..count], &mut Printed::new());
+    put(program, &input[..count], &mut Text::<N>::new());
 }
 
 // Reads one case of standard input after the other, and prints for each its number and then the program's text. A case is an input after
 // its 4-byte count, so only one case has to fit into `input::MOST` bytes, and not all of them.
-pub fn run_cases<P: Program>(program: &P) {
+pub fn run_cases<const N: usize, P: Program<N>>(program: &P) {
     let mut space = [0u8; input::MOST];
-    let mut out = Printed::new();
+    let mut out = Text::<N>::new();
     for number in 0..u64::MAX {
         let Some(case) = next_case(&mut space) else {
             break;
@@ -48,7 +51,7 @@ fn next_case(space: &mut [u8]) -> Option<&[u8]> {
     Some(&space[..count])
 }
 
-fn put<P: Program>(program: &P, input: &[u8], out: &mut Printed) {
+fn put<const N: usize, P: Program<N>>(program: &P, input: &[u8], out: &mut Text<N>) {
     program.print(input, &mut *out);
     io::write_all(text::STDOUT, out.as_bytes());
 }

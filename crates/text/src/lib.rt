@@ -1,7 +1,9 @@
 // A text built piece by piece, and the same pieces written into a lent buffer. specs/Text.antt says what the pieces are.
 #![tactic(auto)]
 
-ghost use Rattle.std.specs.Prelude.{◌≡◌, [], ◌∷◌, ◌++◌, ◌+◌, ◌^◌, ◌≤◌, ◌<◌, length};
+ghost use Rattle.std.specs.Prelude.{◌≡◌, [], ◌∷◌, ◌++◌, ◌+◌, ◌^◌, ◌≤◌, ◌<◌, length, take};
+ghost use Rattle.std.specs.Borrow.{sem, Lends, Array, u8 as byte_row};
+ghost use Rattle.text.specs.contracts.Text.{the_row};
 ghost use Rattle.io.specs.Digits.{last_digits};
 ghost use Rattle.refusal.specs.Numbers.{numbered};
 ghost use Rattle.text.specs.Text.{decimal, field, last_field, signed_field, hex_bytes, word_text, location_fields, refused_line};
@@ -14,10 +16,10 @@ mod lent;
 
 pub use lent::{put_byte, put_hex, put_hex_bytes, put_text};
 
-// Room for the longest text that a program prints: a page, and one byte more.
-pub const MOST: usize = 1_195_960;
+// Room for the text of three buffers, each of one byte more than its limit.
+pub const MOST: usize = 400_000;
 
-// The text that a program prints.
+// A text with this room, which most programs print.
 pub type Printed = Text<MOST>;
 
 // The file descriptor of standard output.
@@ -37,7 +39,7 @@ impl<const N: usize> Model for Text<N> {
 
     ghost view = { λ t. take t.len t.bytes };
 
-    ghost invariant = { λ t. t.len ≤ length t.bytes };
+    ghost invariant = { λ t. t.len ≤ N };
 }
 
 impl<const N: usize> Text<N> {
@@ -57,9 +59,27 @@ impl<const N: usize> Text<N> {
     }
 
     pub fn as_bytes(&self) -> &[u8]
-        ensures { result.now ≡ self.now }
+        ensures value { result.now ≡ self.now }
+        ensures fits { length result.now ≤ N }
     {
         &self.bytes[..self.len]
+    }
+
+    // Lends the whole room. What is left in it is the text.
+    pub fn whole(&mut self) -> &mut [u8; N]
+        ensures* writes_back { sem 𝓛 (Lends (the_row N.row) (Array byte_row N) self.entry result (take N)) }
+        ensures value { length result.now ≡ N }
+    {
+        self.len = N;
+        &mut self.bytes
+    }
+
+    // Cuts the text after its first `len` bytes.
+    pub fn truncate(&mut self, len: usize)
+        requires { len ≤ length self.old }
+        ensures { self.new ≡ take len self.old }
+    {
+        self.len = len;
     }
 
     pub fn push(&mut self, text: &[u8])

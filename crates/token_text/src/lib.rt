@@ -2,6 +2,7 @@
 #![tactic(auto)]
 
 ghost use Rattle.std.specs.Prelude.{◌≡◌, ◌++◌, ◌+◌, ◌≤◌, length};
+ghost use Rattle.std.proofs.Common.{rules};
 ghost use Rattle.token_text.specs.TokenText.{tokens_line, read_text_text};
 
 use program::Program;
@@ -20,8 +21,7 @@ pub fn put_tokens<const N: usize>(out: &mut Text<N>, list: &[u8])
 // Writes what `read_text` prints for an input: the tokens, or the refusal alone. A token buffer over the limit is held as the limit
 // plus one byte: that is enough for its refusal.
 #[tactic(auto, using(text::proofs::TextLaws::refused_most, crate::proofs::TokenTextLaws::held_text, crate::proofs::TokenTextLaws::line_length, crate::proofs::TokenTextLaws::part_held, text_reader::proofs::ReadsBack::fill_within, std::proofs::lemmas::Grind::common_steps), unfolding(crate::specs::TokenText::read_text_text))]
-pub fn read_text<const N: usize>(input: &[u8], out: &mut Text<N>)
-    requires { 400000 ≤ N }
+pub fn read_text(input: &[u8], out: &mut Printed)
     ensures { out.new ≡ read_text_text input.now }
 {
     let source = input::word_or_zero(input, 0);
@@ -39,10 +39,12 @@ pub fn read_text<const N: usize>(input: &[u8], out: &mut Text<N>)
 // `read_text` as a program.
 pub struct ReadTextText;
 
-impl Program for ReadTextText {
+impl Program<{ text::MOST }> for ReadTextText {
     ghost text_of = { read_text_text };
 
     fn print(&self, input: &[u8], out: &mut Printed) {
         read_text(input, out);
     }
+
+    ghost fits = { Prim.search rules };
 }

@@ -14,7 +14,7 @@ text_by : (text : Lent → List ℕ → List ℕ) (out d p b i d' p' b' i' : Lis
 text_by text out d p b i d' p' b' i' hd hp hb hi h = rw (← hd, ← hp, ← hb, ← hi) h
 
 pub put_emitted-requires : goal.put_emitted-requires
-put_emitted-requires g c =
+put_emitted-requires c =
     let m = c.make_call-emitted in
     let d = held_in c.list_of.result.now _ c.hold_in-data.ensures in
     let p = held_in c.list_of-2.result.now _ c.hold_in-pending.ensures in
@@ -25,12 +25,11 @@ put_emitted-requires g c =
       arith,
       ap length c.clear.ensures,
       outcome_most o (omega (arith, m.auto.data, d.most)) (omega (arith, m.auto.pending, p.most)) (omega (arith, m.auto.breakpoints, b.most)) (omega (arith, m.auto.index, u.most)),
-      c.requires,
     )
 
 pub returns : goal.returns
 unfolding emit_indexed_text
-returns g c =
+returns c =
     text_by (call_text c.args.input.now) _ _ _ _ _ _ _ _ _
     ((held_in c.list_of.result.now _ c.hold_in-data.ensures).bytes ∙ ap held c.list_of.ensures)
     ((held_in c.list_of-2.result.now _ c.hold_in-pending.ensures).bytes ∙ ap held c.list_of-2.ensures)

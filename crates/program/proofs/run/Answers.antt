@@ -1,5 +1,5 @@
 -- What is read is a part of its buffer. The search would otherwise count the buffer's bytes one by one.
-use Rattle.std.proofs.Common.{ℕ, sym}
+use Rattle.std.proofs.Common.{ℕ, sym, arith}
 use Rattle.std.proofs.lemmas.List.{length-replicate}
 use Rattle.program.proofs.run.Goals as goal
 
@@ -11,3 +11,9 @@ slice_bounds-input-end g c = c.read_full-count.ensures.0
 
 pub slice_bounds-put-end : goal.slice_bounds-put-end
 slice_bounds-put-end g c = c.read_full-count.ensures.1
+
+pub new-requires : goal.new-requires
+new-requires g c = omega (arith, g.met.P.Program.fits)
+
+pub put-requires : goal.put-requires
+put-requires g c = omega (arith, g.met.P.Program.fits)
