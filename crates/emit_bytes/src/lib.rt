@@ -22,10 +22,10 @@ pub fn words_of(instructions: [InstructionPair; 5]) -> [[u8; 4]; 5]
 }
 
 // "the count is a second function's answer"
-pub fn count_of(e: EmitInstruction) -> usize
-    ensures { result ≡ e.count }
+pub fn count_of(count: usize) -> usize
+    ensures { result ≡ count }
 {
-    e.count
+    count
 }
 
 // Writes the line's words from `at` on.

@@ -154,7 +154,7 @@ fn check_room(
         (lent_of «data».now pending.now breakpoints.now) (pairs_of e) }
 {
     let counts = numbers.counts;
-    let n = emit_bytes::count_of(e);
+    let n = emit_bytes::count_of(e.count);
     let size = LinePendings::new(tokens, e).size();
     if numbers.place.region == emit_outcome::NO_REGION {
         return Err(Refusal::MissingRegion(line));

@@ -50,7 +50,7 @@ pub fn append_line(
         ≡ outcome_of (Ok result.done) result.counts (lent_of «data».new pending.new breakpoints.new) }
 {
     let counts = numbers.counts;
-    let n = emit_bytes::count_of(words);
+    let n = emit_bytes::count_of(words.count);
     let waits = LinePendings::new(tokens, words);
     let size = waits.size() as u32;
     let pc = numbers.place.address.wrapping_add(counts.data_len);
