@@ -28,8 +28,8 @@ use Rattle.emit_dispatch.proofs.LinesLaws.{then_within}
 use Rattle.emit_dispatch.specs.Lines.{kept_range, encoding_range, encoding_pairs}
 use Rattle.formats.proofs.Formats.{Has, InFormats, first, register}
 use Rattle.formats.proofs.FormatsLaws.{base_register, base_jump, source_register, source_branch, destination_register, inputs_register, inputs_branch, register_register, immediate_immediate, load_immediate, sham_register, three_float, two_float, cross_float, move_float, cond_float, branch_float}
-use Rattle.formats.specs.Operations.{words_of}
-use Rattle.emit_dispatch.specs.LineLoads.{into_at, maybe_loads, immediate_loads, offset_loads, encoding_loads}
+use Rattle.formats.specs.Operations.{encoded, loads_of, words_of}
+use Rattle.emit_dispatch.specs.LineLoads.{into_at, maybe_loads, immediate_loads, offset_loads}
 use Rattle.formats.proofs.EncodingFormats.{in_register, in_immediate, in_branch, $at, inputs_formats, immediate_formats, added_formats, offset_formats, encoding_formats}
 use Rattle.formats.proofs.LineFormats.{LoadThen}
 use Rattle.formats.proofs.LineFormatsLaws.{one, alone, same_pairs, loaded_then, value_then, named}
@@ -95,7 +95,7 @@ module _ (op : Opcode) where
 -- ---- all encodings
 
 pub encoding_words : (job : Job) (e : Encoding) (op : Opcode) (x : AskedAll (encoding_wants e)) → encoding_range job e op x ≡ Ok tt
-    → LoadThen (encoding_loads e x) (encoding_formats job e op x) (words_of (encoding_pairs job e op x))
+    → LoadThen (loads_of (encoded e op) x) (encoding_formats job e op x) (words_of (encoding_pairs job e op x))
 encoding_words job Register op x h =
     value_then x.2 (λ n. in_register op (number x.1) n (number x.0) 0 ∷ []) (λ n. plain (register_word op (number x.0) (number x.1) n) ∷ [])
     (λ n k. one (register_register op (number x.1) n (register_lt x.1) k (number x.0) (register_lt x.0)))

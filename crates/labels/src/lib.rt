@@ -49,7 +49,8 @@ impl record::Layout for Labels {
             return false;
         }
         let name = label.name();
-        match name.len() {
+        let len = name.len();
+        match len {
             1..=64 => record::all_text(name),
             _ => false,
         }

@@ -23,6 +23,8 @@ const RS: u32 = 21;
 
 const RT: u32 = 16;
 
+const FT: u32 = 16;
+
 const RD: u32 = 11;
 
 const SA: u32 = 6;
@@ -135,14 +137,14 @@ impl InstructionBuilder {
     pub fn with_fp_temp(self, slot: FPRegisterSlot) -> InstructionBuilder
         ensures { result.0 ≡ set_field self.0 16 5 (fp_register_number slot) }
     {
-        self.with_slot_offset(RT, slot)
+        self.with_slot_offset(FT, slot)
     }
 
     // A condition code over 7 spills into the field above.
     pub fn with_fp_temp_value(self, value: u8) -> InstructionBuilder
         ensures { result.0 ≡ or_field self.0 16 5 value }
     {
-        self.with_field(Field::five_bits(RT), u32::from(value))
+        self.with_field(Field::five_bits(FT), u32::from(value))
     }
 
     pub fn with_fp_fmt(self, fmt: Format) -> InstructionBuilder
