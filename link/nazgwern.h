@@ -117,7 +117,8 @@
    docs/REFUSALS.md says what to do about each.
 
    STACK. Measured, not proved, on x86-64 with gcc as the caller's compiler, arguments and return
-   address counted: link/stack found for no call more bytes than these.
+   address counted: link/stack found for no call more bytes than these, before the mends of
+   docs/LOOK-BACK.md.
 
      24,120  nazgwern_do_instruction, and by the manual and for Release 6
      34,984  nazgwern_build, and by the manual
