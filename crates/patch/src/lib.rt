@@ -67,7 +67,11 @@ pub fn address_at(label: AddressLabel, labels: &[u8], place: u16) -> Option<u32>
     requires { Placed labels.now place }
     ensures { result ≡ placed_destination labels.now label place }
 {
-    given_destination(label, placed_address(labels, place))
+    let address = match label {
+        AddressLabel::Constant(_) => None,
+        AddressLabel::Label(_) => placed_address(labels, place),
+    };
+    given_destination(label, address)
 }
 
 // Returns the address of the label at `place`; None if that is `NO_PLACE`.

@@ -1,27 +1,34 @@
-use Rattle.std.specs.Prelude.{ℕ, Option}
-use Rattle.std.specs.Option.{unwrap_or}
-use Rattle.std.proofs.Common.{◌≡◌, ap, sym, ◌∙◌}
-use Rattle.std.proofs.lemmas.Iterator.Adapters.{option_map_id}
-use Rattle.std.proofs.lemmas.Iterator.Consumers.{nth_from_yields_List, YieldsList-from_first}
-use Rattle.std.proofs.lemmas.Option.{unwrap_or-slice_get}
-use Rattle.record.specs.Records.{places}
-use Rattle.record.specs.Left.{places_left}
-use Rattle.regions.specs.Regions.{region_place, region_at}
-use Rattle.regions.proofs.RegionsLaws.{region_place_ok}
+use Rattle.std.proofs.Common.{ℕ, ◌≤◌, ◌<◌, ◌≡◌, List, None, ap, sym, ◌∙◌, arith}
+use Rattle.record.specs.Records.{next}
+use Rattle.regions.specs.Regions.{region_layout, region_count, region_place, region_at}
+use Rattle.regions.proofs.RegionsLaws.{RegionIs, region_is, region_place_ok, place_first, place_after}
 use Rattle.regions.proofs.Regions.region.Goals as goal
-use Rattle.regions.proofs.Regions.region.Goals.{After-unwrap_or-at}
 
--- The place read is the place of the region with that number.
-place : (c : After-unwrap_or-at) → c.unwrap_or-at.result ≡ region_place c.args.self.now c.args.number
-place c =
-    let r = c.nth.ensures.ran in
-    let n = nth_from_yields_List c.nth.result c.nth.new.self c.args.number (r.0, r.1, r.2) (YieldsList-from_first (λ x. x) places_left _ c.places.ensures.value) in
-    c.unwrap_or-at.ensures
-    ∙ ap (λ (o : Option ℕ). unwrap_or o 0) (sym (option_map_id c.nth.result) ∙ n)
-    ∙ unwrap_or-slice_get (places c.args.self.now) c.args.number 0
+-- the record that the walk has come to is a region
+region : (s : List ℕ) (n number at : ℕ) → region_layout s ≡ None → number < region_count s → n ≤ number → at ≡ region_place s n → RegionIs s at
+region s n number at g h i e = rw e (region_is s (region_place s n) (region_place_ok s n g (omega arith)))
+
+pub loop-init : goal.loop-init
+loop-init c = sym (place_first _)
+
+pub next-at-requires : goal.next-at-requires
+next-at-requires c = omega (arith, region _ c.loop.counter c.args.number _ c.self.invariant (rw c.self.view_is c.requires) (omega arith) c.loop.invariant)
+
+pub loop-preserved : goal.loop-preserved
+loop-preserved c =
+    let s = c.self.inside.bytes.now in
+    let h : c.args.number < region_count s = rw c.self.view_is c.requires in
+    c.next-at.ensures.0 ∙ ap (next s) c.loop.invariant ∙ sym (place_after s c.loop.counter (omega (arith, h)))
 
 pub region_at-requires : goal.region_at-requires
-region_at-requires c = rw (place (goal.at.region_at-requires c).After-unwrap_or-at) (region_place_ok _ _ c.places.ensures.layout c.requires)
+region_at-requires c =
+    let s = c.self.inside.bytes.now in
+    let h : c.args.number < region_count s = rw c.self.view_is c.requires in
+    rw (← c.self.view_is, c.loop.invariant) (region_place_ok s c.loop.counter c.self.invariant (omega (arith, h)))
 
 pub returns : goal.returns
-returns c = c.region_at.ensures ∙ ap (region_at c.args.self.now) (place (goal.at.returns c).After-unwrap_or-at)
+returns c =
+    let s = c.self.inside.bytes.now in
+    let e : c.loop.counter ≡ c.args.number = omega arith in
+    let p : c.loop.at ≡ region_place s c.args.number = c.loop.invariant ∙ ap (region_place s) e in
+    c.region_at.ensures ∙ ap (region_at c.args.self.now) (rw (← c.self.view_is) p)
