@@ -8,7 +8,7 @@ ghost use Rattle.record.specs.Bytes.{location_at};
 ghost use Rattle.record.specs.Records.{kind_at, next, places_from, first_bad, limit};
 ghost use Rattle.record.specs.Stores.{append};
 ghost use Rattle.lexer.specs.Tokens.{TokenIs, token_ok, text_of};
-ghost use Rattle.line_heads.specs.Lines.{starts_colon};
+ghost use Rattle.line_heads.specs.Lines.{starts_colon, record_at};
 ghost use Rattle.macros.specs.Macros.{macro_layout};
 ghost use Rattle.written_out.specs.Above.{above};
 ghost use Rattle.written_out.specs.Acts.{leading_of, act_of};
@@ -125,17 +125,24 @@ impl<'a> Token<'a> {
     }
 }
 
+// Returns the token whose record stands at `at` in a list.
+fn token_of(list: &[u8], at: usize) -> Token<'_>
+    requires { TokenIs list.now at }
+    ensures { result.bytes.now ≡ record_at list.now at }
+{
+    Token {
+        bytes: &list[at..record::next(list, at)],
+    }
+}
+
 pub fn token_at<'a>(source: &Source<'a>, place: usize) -> Token<'a>
     requires { TokenIn source.now.text.now source.now.macros.now place }
     ensures { result.bytes.now ≡ token_record source.now.text.now source.now.macros.now place }
 {
-    let (list, at) = if place < source.text.len() {
-        (source.text, place)
+    if place < source.text.len() {
+        token_of(source.text, place)
     } else {
-        (source.macros, place - source.text.len())
-    };
-    Token {
-        bytes: &list[at..record::next(list, at)],
+        token_of(source.macros, place - source.text.len())
     }
 }
 

@@ -60,8 +60,8 @@ module _ {text macros : List ℕ} {most : ℕ} {list : List ℕ} {b : Body} {mod
     split Pass = refl
     split (Call k) = refl
 
-    pub turn_act : steps mode at ≡ act_steps text macros levels list b place n act ++ steps (mode_after act) n
-    turn_act = by act refl ∙ split act
+    pub turn_act : (a : Act) → act ≡ a → steps mode at ≡ act_steps text macros levels list b place n a ++ steps (mode_after a) n
+    turn_act a e = by a e ∙ split a
 
 -- nothing is left of the list
 pub turn_end : (text macros : List ℕ) (most levels : ℕ) (list : List ℕ) (b : Body) (mode : Mode) (at : ℕ) → length list ≤ at

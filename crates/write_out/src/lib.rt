@@ -14,7 +14,8 @@ ghost use Rattle.written_out.specs.Above.{macro_at, above};
 ghost use Rattle.macro_tokens.specs.Places.{token_record, TokenIn, only, ReadableFrom};
 ghost use Rattle.macro_tokens.specs.Arguments.{arguments_from};
 ghost use Rattle.write_out.specs.Body.{steps_from, Ready, written_from};
-ghost use Rattle.write_out.specs.Calls.{call_verdict, CallIs, act_steps, mode_after, Acting};
+ghost use Rattle.macro_tokens.specs.declared.Act.TheVariants.{Call};
+ghost use Rattle.write_out.specs.Calls.{call_verdict, CallIs, act_steps, Acting};
 ghost use Rattle.write_out.specs.Entry.{stop_by};
 
 use macro_tokens::{Act, Body, Callable, Reading, Source, Token};
@@ -50,12 +51,11 @@ struct Frame<'a> {
     levels: usize,
 }
 
-// A token met in a body: its place, where the body goes on after it, and what to do with it.
+// A token met in a body: its place, and where the body goes on after it.
 #[derive(Clone, Copy)]
 struct Met {
     place: usize,
     next: usize,
-    act: Act,
 }
 
 // Returns the body that replaces this call of the macro at k, or the call's refusal.
@@ -98,53 +98,36 @@ fn write_token(
     Ok(fill + size)
 }
 
-// Carries out `met.act`. Returns the new fill, or the first refusal.
+// Writes this call of the macro at k out. Returns the new fill, or the first refusal.
 // kept: `out` and `fill` are two parameters, since a struct that holds a `&mut` needs a clause on its `ghost_name` in each contract.
-#[cycle(write_act_write_body)]
-fn write_act(
+#[cycle(write_call_write_body)]
+fn write_call(
     frame: &Frame<'_>,
     met: &Met,
+    k: usize,
     really: bool,
     out: &mut [u8],
     fill: usize,
 ) -> Result<usize, Refusal>
-    requires { Acting frame.now.source.text.now frame.now.source.macros.now frame.now.most frame.now.reading.list.now frame.now.reading.body met.now.place met.now.next met.now.act × (fill ≤ length out.old) }
-    ensures value { result ≡ answer_from (length out.old) fill (act_steps frame.now.source.text.now frame.now.source.macros.now frame.now.levels frame.now.reading.list.now frame.now.reading.body met.now.place met.now.next met.now.act) }
-    ensures out_after { out.new ≡ append out.old fill (only really (written_from (length out.old) fill (act_steps frame.now.source.text.now frame.now.source.macros.now frame.now.levels frame.now.reading.list.now frame.now.reading.body met.now.place met.now.next met.now.act))) }
+    requires { Acting frame.now.source.text.now frame.now.source.macros.now frame.now.most frame.now.reading.list.now frame.now.reading.body met.now.place met.now.next (Call k) × (fill ≤ length out.old) }
+    ensures value { result ≡ answer_from (length out.old) fill (act_steps frame.now.source.text.now frame.now.source.macros.now frame.now.levels frame.now.reading.list.now frame.now.reading.body met.now.place met.now.next (Call k)) }
+    ensures out_after { out.new ≡ append out.old fill (only really (written_from (length out.old) fill (act_steps frame.now.source.text.now frame.now.source.macros.now frame.now.levels frame.now.reading.list.now frame.now.reading.body met.now.place met.now.next (Call k)))) }
 {
-    match met.act {
-        Act::Write(_) => {
-            let token = macro_tokens::token_at(&frame.source, met.place);
-            write_token(token, really, out, fill)
-        }
-        Act::Pass => Ok(fill),
-        Act::Call(k) => {
-            let body = call_at(frame, met, k)?;
-            let list = macros::body_at(frame.source.macros, k);
-            let called = Frame {
-                source: frame.source,
-                reading: Reading { list, body },
-                most: k,
-                levels: frame.levels - 1,
-            };
-            write_body(&called, really, out, fill)
-        }
-    }
-}
-
-fn mode_after(act: Act) -> Mode
-    ensures { result ≡ mode_after act }
-{
-    match act {
-        Act::Write(mode) => mode,
-        _ => Mode::LeftOut,
-    }
+    let body = call_at(frame, met, k)?;
+    let list = macros::body_at(frame.source.macros, k);
+    let called = Frame {
+        source: frame.source,
+        reading: Reading { list, body },
+        most: k,
+        levels: frame.levels - 1,
+    };
+    write_body(&called, really, out, fill)
 }
 
 // Writes a body out from `from` on, or only measures it if `really` is false. Returns the new fill, or the first refusal. `most` falls at
 // each call: in a called body it is the place of the called macro.
 // kept: `really` is a flag because of the rule on speed: measuring and writing are one function that is run twice.
-#[cycle(write_act_write_body)]
+#[cycle(write_call_write_body)]
 fn write_body(
     frame: &Frame<'_>,
     really: bool,
@@ -169,10 +152,19 @@ fn write_body(
     while at < reading.list.len() {
         let next = record::next(reading.list, at);
         let place = macro_tokens::place_at(&reading, at);
-        let act = macro_tokens::act_at(&callable, &reading, mode, place, next);
-        let met = Met { place, next, act };
-        fill = write_act(&frame, &met, really, &mut *out, fill)?;
-        mode = mode_after(act);
+        match macro_tokens::act_at(&callable, &reading, mode, place, next) {
+            Act::Write(after) => {
+                let token = macro_tokens::token_at(&frame.source, place);
+                fill = write_token(token, really, &mut *out, fill)?;
+                mode = after;
+            }
+            Act::Pass => mode = Mode::LeftOut,
+            Act::Call(k) => {
+                let met = Met { place, next };
+                fill = write_call(&frame, &met, k, really, &mut *out, fill)?;
+                mode = Mode::LeftOut;
+            }
+        }
         at = next;
     }
     Ok(fill)

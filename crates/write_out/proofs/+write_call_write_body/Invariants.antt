@@ -3,11 +3,11 @@ use Rattle.written_out.specs.declared.Mode.TheVariants.{Leading}
 use Rattle.macro_tokens.specs.Places.{ReadableFrom}
 use Rattle.write_out.specs.Body.{steps_from}
 use Rattle.write_out.proofs.Same.{Same}
-use Rattle.write_out.proofs.+write_act_write_body.Given as goal
+use Rattle.write_out.proofs.+write_call_write_body.Given as goal
 
 -- A body calls the work on its tokens, and that calls the body of a macro above.
-abbrev pub decreases-write_act : goal.decreases-write_act
-decreases-write_act l = 2 * l.frame.now.most
+abbrev pub decreases-write_call : goal.decreases-write_call
+decreases-write_call l = 2 * l.frame.now.most
 
 abbrev pub decreases-write_body : goal.decreases-write_body
 decreases-write_body l = 2 * l.frame.now.most + 1
