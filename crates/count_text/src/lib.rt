@@ -1,7 +1,7 @@
 // What `count_forms` does (document 02, P14), from its input bytes to the bytes that it prints.
 #![tactic(auto)]
 
-ghost use Rattle.std.specs.Prelude.{◌≡◌, ◌≤◌};
+ghost use Rattle.std.specs.Prelude.{◌≡◌};
 ghost use Rattle.std.proofs.Common.{rules};
 ghost use Rattle.count_text.specs.CountText.{count_text};
 

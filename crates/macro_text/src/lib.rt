@@ -1,7 +1,7 @@
 // What `expand` does (document 02, P8), from its input bytes to the bytes that it prints.
 #![tactic(auto)]
 
-ghost use Rattle.std.specs.Prelude.{◌≡◌, ◌≤◌};
+ghost use Rattle.std.specs.Prelude.{◌≡◌};
 ghost use Rattle.std.proofs.Common.{rules};
 ghost use Rattle.macro_text.specs.MacroText.{expand_text};
 

@@ -5,7 +5,7 @@ ghost use Rattle.std.specs.Prelude.{◌≡◌, ◌<◌, List, ℕ};
 
 use text::Text;
 
-// A program: the text that it prints for its input. `N` is the room that its longest text takes.
+// A program: the text that it prints for its input. `N` is the room of that text.
 pub trait Program<const N: usize> {
     ghost text_of: { List ℕ → List ℕ };
 
