@@ -117,19 +117,18 @@
    docs/REFUSALS.md says what to do about each.
 
    STACK. Measured, not proved, on x86-64 with gcc as the caller's compiler, arguments and return
-   address counted: link/stack found for no call more bytes than these, before the mends of
-   docs/LOOK-BACK.md.
+   address counted: link/stack found for no call more bytes than these.
 
      24,120  nazgwern_do_instruction, and by the manual and for Release 6
-     34,984  nazgwern_build, and by the manual
-     35,560  nazgwern_patch_step, and by the manual
-     31,896  nazgwern_patch_line, and by the manual and for Release 6
+     34,936  nazgwern_build, and by the manual
+     35,496  nazgwern_patch_step, and by the manual
+     31,912  nazgwern_patch_line, and by the manual and for Release 6
      56,008  nazgwern_do_indexed
-     96,696  nazgwern_make_index
-     46,344  nazgwern_write_out
-     49,320  nazgwern_lay_out
-     31,128  nazgwern_find_label
-        920  nazgwern_read_text
+     96,632  nazgwern_make_index
+     46,056  nazgwern_write_out
+     49,272  nazgwern_lay_out
+     31,080  nazgwern_find_label
+        952  nazgwern_read_text
         648  nazgwern_dry_run
          56  nazgwern_count_forms
 

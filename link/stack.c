@@ -6,7 +6,8 @@
    descriptors are sorted. So most lists are short and the calls are many: each encoding and each
    pseudo-instruction with every line of up to four operands, each patch, every text of up to three
    pieces, each instruction of a dry run at both ends of its registers, pages of every count of
-   regions, and each refusal. A few calls have as many labels, pendings or descriptors as a list can have, in falling order. */
+   regions, and each refusal. A few calls have as many labels, pendings or descriptors as a list can
+   have, in falling order, also with names that begin alike. */
 #define _XOPEN_SOURCE 700
 #include "nazgwern.h"
 
@@ -441,6 +442,40 @@ static void fill_long(struct list *list, size_t size, void (*add)(const char *na
     }
 }
 
+/* How many bytes a name has in common with others: each second one two more, each second of these two
+   more again, and so on. */
+static size_t halved(unsigned number)
+{
+    size_t alike = 0;
+
+    for (; number % 2 == 0; number /= 2)
+        alike += 2;
+
+    return alike;
+}
+
+/* The same where the names of 32 numbers begin with a byte more than all before them. */
+static size_t deeper(unsigned number)
+{
+    return number / 32;
+}
+
+/* The same as `fill` with names that begin alike. */
+static void fill_alike(struct list *list, size_t size, void (*add)(const char *name),
+                       size_t (*alike)(unsigned number))
+{
+    char name[65];
+
+    list->length = 0;
+    for (unsigned number = 1; list->length + size + 64 <= sizeof list->bytes; number++) {
+        size_t start = alike(number);
+
+        memset(name, 'a', start);
+        snprintf(name + start, sizeof name - start, "b%05u", number);
+        add(name);
+    }
+}
+
 static void add_descriptor(const char *name)
 {
     descriptor(OFFSET, false, name);
@@ -457,13 +492,17 @@ static void described_lines(const char *name)
     }
 }
 
-/* Lines with the most descriptors, of short names and of long ones. */
+/* Lines with the most descriptors: with short names, with long ones and with some that begin alike. */
 static void long_lines(void)
 {
     fill(&descriptors, 12, add_descriptor);
     described_lines("t");
     fill_long(&descriptors, 12, add_descriptor);
     described_lines("000010000100001");
+    fill_alike(&descriptors, 12, add_descriptor, halved);
+    described_lines("b00001");
+    fill_alike(&descriptors, 12, add_descriptor, deeper);
+    described_lines("b00001");
 }
 
 /* Refusals 1, 2 and 10 to 12, and an answer and counts that are too short. */
@@ -593,13 +632,17 @@ static void long_builds(void)
         }
 }
 
-/* Builds with the most labels: for all, with short names and with long ones, of owners, and of one
-   name but for the first. */
+/* Builds with the most labels: for all, with short names, with long ones and with some that begin
+   alike, of owners, and of one name but for the first. */
 static void all_long_builds(void)
 {
     fill(&labels, 8, add_label);
     long_builds();
     fill_long(&labels, 8, add_label);
+    long_builds();
+    fill_alike(&labels, 8, add_label, halved);
+    long_builds();
+    fill_alike(&labels, 8, add_label, deeper);
     long_builds();
     fill_owners();
     long_builds();
@@ -745,6 +788,10 @@ static void all_pages(void)
     pages();
     fill_long(&labels, 8, add_label);
     pages();
+    fill_alike(&labels, 8, add_label, halved);
+    pages();
+    fill_alike(&labels, 8, add_label, deeper);
+    pages();
     fill_owners();
     pages();
 
@@ -797,12 +844,17 @@ static void add_macro(const char *name)
     put(&macros, 0, 1);
 }
 
-/* Calls with the most macros: with short names and with long ones, and of one name but for the first. */
+/* Calls with the most macros: with short names, with long ones and with some that begin alike, and of
+   one name but for the first. */
 static void many_macros(void)
 {
     fill(&macros, 6, add_macro);
     measure(write_out);
     fill_long(&macros, 6, add_macro);
+    measure(write_out);
+    fill_alike(&macros, 6, add_macro, halved);
+    measure(write_out);
+    fill_alike(&macros, 6, add_macro, deeper);
     measure(write_out);
     macros.length = 0;
     add_macro("y");
@@ -875,6 +927,10 @@ static void indexed_lines(void)
         long_indexed_lines();
         fill_long(&labels, 8, add_label);
         long_indexed_lines();
+        fill_alike(&labels, 8, add_label, halved);
+        long_indexed_lines();
+        fill_alike(&labels, 8, add_label, deeper);
+        long_indexed_lines();
         fill_owners();
         long_indexed_lines();
     }
@@ -889,12 +945,14 @@ static void all_indexes(void)
 {
     uses_filled.length = 0;
     for (int form = 0; form < 3; form++)
-        for (int labelled = 0; labelled < 4; labelled++) {
+        for (int labelled = 0; labelled < 6; labelled++) {
             labels.length = 0;
             switch (labelled) {
             case 1: fill(&labels, 8, add_label); break;
             case 2: fill_long(&labels, 8, add_label); break;
             case 3: fill_owners(); break;
+            case 4: fill_alike(&labels, 8, add_label, halved); break;
+            case 5: fill_alike(&labels, 8, add_label, deeper); break;
             }
             pending.length = 0;
             while (pending.length + (form == 0 ? 36 : 37) <= sizeof pending.bytes)
@@ -1052,6 +1110,10 @@ static void all_finds(void)
     fill(&labels, 8, add_label);
     measure(find_label);
     fill_long(&labels, 8, add_label);
+    measure(find_label);
+    fill_alike(&labels, 8, add_label, halved);
+    measure(find_label);
+    fill_alike(&labels, 8, add_label, deeper);
     measure(find_label);
     fill_owners();
     measure(find_label);
