@@ -279,7 +279,7 @@ impl<'a> Uses<'a> {
         ensures { FindsIn self.now key.now result }
     {
         let bytes = self.bytes;
-        // kept: a `while`, since `places` asks of each record whether it is whole, and an index of one name then took 1.4 times as long to make
+        // kept: a `while`, since `places` asks of each record whether it is whole, and making an index walks it once for each use
         let mut at = 0;
         while at < bytes.len() {
             match order_at(bytes, at, key) {
