@@ -88,7 +88,7 @@ impl<'a> Regions<'a> {
         requires { number < region_count self.now }
         ensures { result ≡ region_at self.now (region_place self.now number) }
     {
-        // kept: `nth` over `places` asks of each record on the way whether it is whole, and a build with 16 regions took 1.4 times as long
+        // kept: `nth` over `places` asks of each record on the way whether it is whole, and a build looks a region up twice for each patch
         let mut at: usize = 0;
         for _ in 0..number {
             at = record::next(self.bytes, at);
