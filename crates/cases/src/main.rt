@@ -3,7 +3,6 @@
 #![tactic(auto)]
 
 ghost use Rattle.std.specs.Prelude.{◌≡◌, ◌≤◌};
-ghost use Rattle.std.proofs.Common.{rules};
 ghost use Rattle.cases.specs.Cases.{text_by, case_text};
 
 use dry_run_text::DryRunText;
@@ -15,12 +14,9 @@ use line_text::EmitLineText;
 use macro_text::ExpandText;
 use page_text::PageText;
 use patching_text::PatchStepsText;
-use program::Program;
-use text::Text;
+use program::{Program, TextProgram};
+use text::{Printed, Text};
 use token_text::ReadTextText;
-
-// Room for the longest text that a program prints: a page, and one byte more.
-const MOST: usize = page_text::MOST;
 
 // The byte of each program. A new program takes the next one.
 const EMIT_LINE: u8 = 0;
@@ -46,19 +42,19 @@ const PATCH_STEPS: u8 = 9;
 const FIND_LABEL: u8 = 10;
 
 // Writes the text that a program prints for an input, from a text of its own room.
-fn put_text<const N: usize, P: Program<N>>(program: &P, input: &[u8], out: &mut Text<MOST>)
+fn put_text<const N: usize, P: TextProgram<N>>(program: &P, input: &[u8], out: &mut Printed)
     requires { N ≤ 1195960 }
     ensures { out.new ≡ P.text_of input.now }
 {
     let mut text = Text::<N>::new();
-    program.print(input, &mut text);
+    program.print_text(input, &mut text);
     out.clear();
     out.push(text.as_bytes());
 }
 
 // Writes the text that the program with this byte prints for an input, and none if there is no such program.
 #[tactic(auto, unfolding(crate::specs::Cases::text_by))]
-fn print_by(number: u8, input: &[u8], out: &mut Text<MOST>)
+fn print_by(number: u8, input: &[u8], out: &mut Printed)
     ensures { out.new ≡ text_by number input.now }
 {
     match number {
@@ -80,17 +76,15 @@ fn print_by(number: u8, input: &[u8], out: &mut Text<MOST>)
 // All stored cases as one program.
 struct CaseText;
 
-impl Program<MOST> for CaseText {
+impl Program for CaseText {
     ghost text_of = { case_text };
 
-    fn print(&self, input: &[u8], out: &mut Text<MOST>) {
+    fn print(&self, input: &[u8], out: &mut Printed) {
         match input.split_first() {
             Some((&number, rest)) => print_by(number, rest, out),
             None => out.clear(),
         }
     }
-
-    ghost fits = { Prim.search rules };
 }
 
 fn main() {

@@ -5,7 +5,7 @@ ghost use Rattle.std.specs.Prelude.{◌≡◌};
 ghost use Rattle.std.proofs.Common.{rules};
 ghost use Rattle.count_text.specs.CountText.{count_text};
 
-use program::Program;
+use program::TextProgram;
 use text::Text;
 
 // Room for four counts, or for a refusal.
@@ -33,10 +33,10 @@ pub fn count_forms(input: &[u8], out: &mut Text<MOST>)
 // `count_forms` as a program.
 pub struct CountFormsText;
 
-impl Program<MOST> for CountFormsText {
+impl TextProgram<MOST> for CountFormsText {
     ghost text_of = { count_text };
 
-    fn print(&self, input: &[u8], out: &mut Text<MOST>) {
+    fn print_text(&self, input: &[u8], out: &mut Text<MOST>) {
         count_forms(input, out);
     }
 

@@ -7,8 +7,8 @@ ghost use Rattle.dry_run_text.specs.Lines.{run_text, machine_in, dry_run_text};
 
 use dry_run_outcome::Stopped;
 use machine::{Machine, Reason};
-use program::Program;
-use text::{Printed, Text};
+use program::TextProgram;
+use text::{MOST, Text};
 
 mod lines;
 
@@ -36,7 +36,7 @@ fn put_run<const N: usize>(out: &mut Text<N>, reason: Reason, steps: u32, machin
 
 // Writes what `dry_run` prints for an input: the run's lines, or the refusal alone.
 #[tactic(auto, using(text::proofs::TextLaws::refused_most, crate::proofs::LinesLaws::run_most), unfolding(crate::specs::Lines::dry_run_text))]
-pub fn dry_run(input: &[u8], out: &mut Printed)
+pub fn dry_run(input: &[u8], out: &mut Text<MOST>)
     ensures { out.new ≡ dry_run_text input.now }
 {
     let numbers = input::behind_lists(input, 1);
@@ -53,10 +53,10 @@ pub fn dry_run(input: &[u8], out: &mut Printed)
 // `dry_run` as a program.
 pub struct DryRunText;
 
-impl Program<{ text::MOST }> for DryRunText {
+impl TextProgram<MOST> for DryRunText {
     ghost text_of = { dry_run_text };
 
-    fn print(&self, input: &[u8], out: &mut Printed) {
+    fn print_text(&self, input: &[u8], out: &mut Text<MOST>) {
         dry_run(input, out);
     }
 

@@ -6,7 +6,7 @@ ghost use Rattle.std.proofs.Common.{rules};
 ghost use Rattle.find_text.specs.FindText.{address_line, found_lines, find_text};
 
 use labels::Found;
-use program::Program;
+use program::TextProgram;
 use text::Text;
 
 // Room for two lines, or for a refusal.
@@ -51,10 +51,10 @@ pub fn find_label(input: &[u8], out: &mut Text<MOST>)
 // `find_label` as a program.
 pub struct FindLabelText;
 
-impl Program<MOST> for FindLabelText {
+impl TextProgram<MOST> for FindLabelText {
     ghost text_of = { find_text };
 
-    fn print(&self, input: &[u8], out: &mut Text<MOST>) {
+    fn print_text(&self, input: &[u8], out: &mut Text<MOST>) {
         find_label(input, out);
     }
 

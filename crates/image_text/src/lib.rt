@@ -9,9 +9,9 @@ ghost use Rattle.reading.specs.Reading.{image_region, image_of};
 ghost use Rattle.image_text.specs.Image.{data_lines, region_text, regions_text, image_text, finish_text_by, finish_text};
 
 use jobs::Job;
-use program::Program;
+use program::TextProgram;
 use regions::{Region, Regions};
-use text::{Printed, Text};
+use text::{MOST, Text};
 
 mod lines;
 
@@ -83,14 +83,14 @@ fn put_input<const N: usize>(job: Job, input: &[u8], out: &mut Text<N>)
 }
 
 // Writes the text that `finish` prints for an input.
-pub fn finish(input: &[u8], out: &mut Printed)
+pub fn finish(input: &[u8], out: &mut Text<MOST>)
     ensures { out.new ≡ finish_text input.now }
 {
     put_input(Job::Commit, input, out);
 }
 
 // Writes the text that `finish_manual` prints for an input.
-pub fn finish_manual(input: &[u8], out: &mut Printed)
+pub fn finish_manual(input: &[u8], out: &mut Text<MOST>)
     ensures { out.new ≡ finish_text_by Job.Manual input.now }
 {
     put_input(Job::Manual, input, out);
@@ -99,10 +99,10 @@ pub fn finish_manual(input: &[u8], out: &mut Printed)
 // `finish` as a program.
 pub struct FinishText;
 
-impl Program<{ text::MOST }> for FinishText {
+impl TextProgram<MOST> for FinishText {
     ghost text_of = { finish_text };
 
-    fn print(&self, input: &[u8], out: &mut Printed) {
+    fn print_text(&self, input: &[u8], out: &mut Text<MOST>) {
         finish(input, out);
     }
 
@@ -112,10 +112,10 @@ impl Program<{ text::MOST }> for FinishText {
 // `finish_manual` as a program.
 pub struct FinishManualText;
 
-impl Program<{ text::MOST }> for FinishManualText {
+impl TextProgram<MOST> for FinishManualText {
     ghost text_of = { finish_text_by Manual };
 
-    fn print(&self, input: &[u8], out: &mut Printed) {
+    fn print_text(&self, input: &[u8], out: &mut Text<MOST>) {
         finish_manual(input, out);
     }
 

@@ -5,8 +5,8 @@ ghost use Rattle.std.specs.Prelude.{◌≡◌, ◌++◌, ◌+◌, ◌≤◌, len
 ghost use Rattle.std.proofs.Common.{rules};
 ghost use Rattle.index_text.specs.IndexText.{made_text, make_index_text};
 
-use program::Program;
-use text::{Printed, Text};
+use program::TextProgram;
+use text::{MOST, Text};
 
 // Prints the fill count and the whole buffer.
 #[tactic(auto, using(std::proofs::lemmas::Grind::common_steps))]
@@ -21,7 +21,7 @@ fn put_made<const N: usize>(out: &mut Text<N>, fill: u32, index: &[u8])
 // Writes the text that `make_index` prints for an input: the index, or the refusal alone. Of an index buffer over its limit, one byte
 // more than the limit is kept, so that the call still refuses it.
 #[tactic(auto, using(text::proofs::TextLaws::refused_most))]
-pub fn make_index(input: &[u8], out: &mut Printed)
+pub fn make_index(input: &[u8], out: &mut Text<MOST>)
     ensures { out.new ≡ make_index_text input.now }
 {
     let mut space = [0u8; record::LIMIT + 1];
@@ -39,10 +39,10 @@ pub fn make_index(input: &[u8], out: &mut Printed)
 // `make_index` as a program.
 pub struct MakeIndexText;
 
-impl Program<{ text::MOST }> for MakeIndexText {
+impl TextProgram<MOST> for MakeIndexText {
     ghost text_of = { make_index_text };
 
-    fn print(&self, input: &[u8], out: &mut Printed) {
+    fn print_text(&self, input: &[u8], out: &mut Text<MOST>) {
         make_index(input, out);
     }
 

@@ -13,7 +13,7 @@ ghost use Rattle.indexed_text.specs.IndexedText.{fills_line, head_text, outcome_
 use emit_outcome::{EmitAnswer, LinePlace};
 use indexed_outcome::{IndexedCounts, IndexedEmitted};
 use jobs::Job;
-use program::Program;
+use program::TextProgram;
 use text::Text;
 
 // Room for the text of four buffers, each of one byte more than its limit.
@@ -137,10 +137,10 @@ pub fn emit_indexed(input: &[u8], out: &mut Text<MOST>)
 // `emit_indexed` as a program.
 pub struct EmitIndexedText;
 
-impl Program<MOST> for EmitIndexedText {
+impl TextProgram<MOST> for EmitIndexedText {
     ghost text_of = { emit_indexed_text };
 
-    fn print(&self, input: &[u8], out: &mut Text<MOST>) {
+    fn print_text(&self, input: &[u8], out: &mut Text<MOST>) {
         emit_indexed(input, out);
     }
 

@@ -10,8 +10,8 @@ ghost use Rattle.line_text.specs.Line.{counts_in, place_of, numbers_in, outcome_
 
 use emit_outcome::{Emitted, FillCounts, LineNumbers, LinePlace};
 use jobs::Job;
-use program::Program;
-use text::{Printed, Text};
+use program::TextProgram;
+use text::{MOST, Text};
 
 pub mod lines;
 
@@ -134,7 +134,7 @@ pub fn put_no_job<const N: usize>(out: &mut Text<N>)
 
 // Writes the text that `emit_line` prints for an input.
 #[tactic(auto, unfolding(crate::specs::Line::line_text))]
-pub fn emit_line(input: &[u8], out: &mut Printed)
+pub fn emit_line(input: &[u8], out: &mut Text<MOST>)
     ensures { out.new ≡ line_text input.now }
 {
     match job_in(input) {
@@ -146,10 +146,10 @@ pub fn emit_line(input: &[u8], out: &mut Printed)
 // `emit_line` as a program.
 pub struct EmitLineText;
 
-impl Program<{ text::MOST }> for EmitLineText {
+impl TextProgram<MOST> for EmitLineText {
     ghost text_of = { line_text };
 
-    fn print(&self, input: &[u8], out: &mut Printed) {
+    fn print_text(&self, input: &[u8], out: &mut Text<MOST>) {
         emit_line(input, out);
     }
 

@@ -5,13 +5,13 @@ ghost use Rattle.std.specs.Prelude.{◌≡◌};
 ghost use Rattle.std.proofs.Common.{rules};
 ghost use Rattle.macro_text.specs.MacroText.{expand_text};
 
-use program::Program;
-use text::Printed;
+use program::TextProgram;
+use text::{MOST, Text};
 
 // Writes what `expand` prints for an input: the written-out tokens, or the refusal alone. A buffer over the limit is held as the limit
 // plus one byte: that is enough for its refusal.
 #[tactic(auto, using(text::proofs::TextLaws::refused_most, crate::proofs::MacroTextLaws::held_text, token_text::proofs::TokenTextLaws::line_length, token_text::proofs::TokenTextLaws::part_held, written_out::proofs::KeepsLayout::fill_within, std::proofs::lemmas::Grind::common_steps), unfolding(crate::specs::MacroText::expand_text))]
-pub fn expand(input: &[u8], out: &mut Printed)
+pub fn expand(input: &[u8], out: &mut Text<MOST>)
     ensures { out.new ≡ expand_text input.now }
 {
     let asked = input::word_or_zero(input::behind_lists(input, 2), 0);
@@ -30,10 +30,10 @@ pub fn expand(input: &[u8], out: &mut Printed)
 // `expand` as a program.
 pub struct ExpandText;
 
-impl Program<{ text::MOST }> for ExpandText {
+impl TextProgram<MOST> for ExpandText {
     ghost text_of = { expand_text };
 
-    fn print(&self, input: &[u8], out: &mut Printed) {
+    fn print_text(&self, input: &[u8], out: &mut Text<MOST>) {
         expand(input, out);
     }
 

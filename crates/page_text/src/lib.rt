@@ -2,15 +2,14 @@
 #![tactic(auto)]
 
 ghost use Rattle.std.specs.Prelude.{◌≡◌, ◌≤◌, length, take};
-ghost use Rattle.std.proofs.Common.{rules};
 ghost use Rattle.page_outcome.specs.Outcome.{page_outcome};
 ghost use Rattle.page_text.specs.PageText.{length_in, page_text};
 
 use program::Program;
 use refusal::Refusal;
-use text::Text;
+use text::Printed;
 
-// Room for a page buffer that is one byte over its limit.
+// Room for a page buffer that is one byte over its limit: that of `Printed`.
 pub const MOST: usize = page_core::LIMIT + 1;
 
 // Reads the page buffer's length from the bytes after the two lists; if there are fewer than four, it is the limit.
@@ -34,7 +33,7 @@ fn lay_out_in(space: &mut [u8], room: usize, labels: &[u8], regions: &[u8]) -> R
 // Writes the text that `page` prints for an input: the page, or the refusal alone. A page buffer over its limit is made one byte over it,
 // so that the call still refuses it.
 #[tactic(auto, using(text::proofs::TextLaws::refused_most))]
-pub fn page(input: &[u8], out: &mut Text<MOST>)
+pub fn page(input: &[u8], out: &mut Printed)
     ensures { out.new ≡ page_text input.now }
 {
     let room = length_in(input::behind_lists(input, 2)).min(MOST);
@@ -52,12 +51,10 @@ pub fn page(input: &[u8], out: &mut Text<MOST>)
 // `page` as a program.
 pub struct PageText;
 
-impl Program<MOST> for PageText {
+impl Program for PageText {
     ghost text_of = { page_text };
 
-    fn print(&self, input: &[u8], out: &mut Text<MOST>) {
+    fn print(&self, input: &[u8], out: &mut Printed) {
         page(input, out);
     }
-
-    ghost fits = { Prim.search rules };
 }

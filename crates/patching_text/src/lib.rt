@@ -10,7 +10,7 @@ ghost use Rattle.patching_text.specs.Turns.{Turns, StepTurns, LineTurns};
 
 use jobs::Job;
 use patching_outcome::PatchCounts;
-use program::Program;
+use program::TextProgram;
 use text::Text;
 
 mod lines;
@@ -243,10 +243,10 @@ pub fn patch_steps(input: &[u8], out: &mut Text<MOST>)
 // `patch_steps` as a program.
 pub struct PatchStepsText;
 
-impl Program<MOST> for PatchStepsText {
+impl TextProgram<MOST> for PatchStepsText {
     ghost text_of = { steps_text };
 
-    fn print(&self, input: &[u8], out: &mut Text<MOST>) {
+    fn print_text(&self, input: &[u8], out: &mut Text<MOST>) {
         patch_steps(input, out);
     }
 

@@ -19,8 +19,11 @@ pub use lent::{put_byte, put_hex, put_hex_bytes, put_text};
 // Room for the text of three buffers, each of one byte more than its limit.
 pub const MOST: usize = 400_000;
 
-// A text with this room, which most programs print.
-pub type Printed = Text<MOST>;
+// Room for the longest text that a program prints: a page, and one byte more.
+pub const LONGEST: usize = 1_195_960;
+
+// A text with room for what any program prints.
+pub type Printed = Text<LONGEST>;
 
 // The file descriptor of standard output.
 pub const STDOUT: i32 = 1;

@@ -5,8 +5,8 @@ ghost use Rattle.std.specs.Prelude.{◌≡◌, ◌++◌, ◌+◌, ◌≤◌, len
 ghost use Rattle.std.proofs.Common.{rules};
 ghost use Rattle.token_text.specs.TokenText.{tokens_line, read_text_text};
 
-use program::Program;
-use text::{Printed, Text};
+use program::TextProgram;
+use text::{MOST, Text};
 
 // Writes a token list as one line.
 pub fn put_tokens<const N: usize>(out: &mut Text<N>, list: &[u8])
@@ -21,7 +21,7 @@ pub fn put_tokens<const N: usize>(out: &mut Text<N>, list: &[u8])
 // Writes what `read_text` prints for an input: the tokens, or the refusal alone. A token buffer over the limit is held as the limit
 // plus one byte: that is enough for its refusal.
 #[tactic(auto, using(text::proofs::TextLaws::refused_most, crate::proofs::TokenTextLaws::held_text, crate::proofs::TokenTextLaws::line_length, crate::proofs::TokenTextLaws::part_held, text_reader::proofs::ReadsBack::fill_within, std::proofs::lemmas::Grind::common_steps), unfolding(crate::specs::TokenText::read_text_text))]
-pub fn read_text(input: &[u8], out: &mut Printed)
+pub fn read_text(input: &[u8], out: &mut Text<MOST>)
     ensures { out.new ≡ read_text_text input.now }
 {
     let source = input::word_or_zero(input, 0);
@@ -39,10 +39,10 @@ pub fn read_text(input: &[u8], out: &mut Printed)
 // `read_text` as a program.
 pub struct ReadTextText;
 
-impl Program<{ text::MOST }> for ReadTextText {
+impl TextProgram<MOST> for ReadTextText {
     ghost text_of = { read_text_text };
 
-    fn print(&self, input: &[u8], out: &mut Printed) {
+    fn print_text(&self, input: &[u8], out: &mut Text<MOST>) {
         read_text(input, out);
     }
 

@@ -13,7 +13,7 @@ pub slice_bounds-put-end : goal.slice_bounds-put-end
 slice_bounds-put-end g c = c.read_full-count.ensures.1
 
 pub new-requires : goal.new-requires
-new-requires g c = omega (arith, g.met.P.Program.fits)
+new-requires g c = omega (arith, g.met.P.TextProgram.fits)
 
 pub put-requires : goal.put-requires
-put-requires g c = omega (arith, g.met.P.Program.fits)
+put-requires g c = omega (arith, g.met.P.TextProgram.fits)
